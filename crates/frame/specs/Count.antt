@@ -1,0 +1,21 @@
+-- Numbers that both ends count with.
+use Prim.Native.Nat.{ℕ, _+_, _*_, _/_, _%_, min}
+
+-- Frames: "N = L / 7 rounded up"
+unfoldable pub frameCountOf : ℕ → ℕ
+frameCountOf length = (length + 6) / 7
+
+-- "grows by 1": the count after it. It is held at 65535, so that it has a meaning for every count that a state can
+-- hold; no count of an end that was made and called comes near that.
+unfoldable pub incrementOf : ℕ → ℕ
+incrementOf count = min (count + 1) 65535
+
+-- "Words of two bytes go low byte first": the two bytes of a word, and the word of two bytes
+abbrev pub lowByte : ℕ → ℕ
+lowByte word = word % 256
+
+abbrev pub highByte : ℕ → ℕ
+highByte word = word / 256 % 256
+
+abbrev pub wordOf : ℕ → ℕ → ℕ
+wordOf low high = low + 256 * high

@@ -1,0 +1,43 @@
+-- Document 01, Refusals, hearing: "6 kind not 1 to 7, or filler not 0xFF (never judged in kind 1 from number 1, nor
+-- kinds 5, 7)".
+use Prim.Native.Nat.{ℕ}
+use mathlib.Core.Bool.{Bool, true, false, _&&_}
+use mathlib.Core.List.{List, [], _∷_}
+use lib.Dec.{eqb, leb}
+use lib.ListN.{drop}
+use Rattle.frame.specs.Choice.{pick}
+use Rattle.frame.specs.Frames.{byteOf}
+use Rattle.frame.specs.declared.Frame.{Frame}
+use Rattle.frame.specs.declared.Reading.{Reading}
+use Rattle.frame.specs.declared.Reading.the-variants.{Kind, Refused}
+
+-- a frame was read, of this kind; or it was refused, with this number
+pub data Judgement : Type 0 where
+  accepted : ℕ → Judgement
+  refused : ℕ → Judgement
+
+-- document 01's values for each case of `Reading`
+abbrev pub toldReading : Reading → Judgement
+toldReading (Kind kind) = accepted kind
+toldReading (Refused number) = refused number
+
+-- How many bytes of a frame are named, from d0 on, by its kind and its d0; the bytes after them are filler. Frames, each
+-- kind's line: an announcement names d0 to d3, an information frame from number 1 all eight (its d1 to d7 are message
+-- bytes or the last frame's filling, which is not judged), LM_ACK d0 d1, LM_NACK and SM_ACK d0, LM_EndofACK d0 to d2,
+-- SM_RM and SM_URM all eight.
+unfoldable pub namedOf : ℕ → ℕ → ℕ
+namedOf kind number =
+    pick (eqb kind 1) (pick (eqb number 0) 4 8)
+    (pick (eqb kind 2) 2 (pick (eqb kind 3) 1 (pick (eqb kind 4) 3 (pick (eqb kind 6) 1 8))))
+
+-- every byte is 0xFF
+unfoldable pub allFiller : List ℕ → Bool
+allFiller [] = true
+allFiller (b ∷ bytes) = eqb b 255 && allFiller bytes
+
+-- "kind not 1 to 7, or filler not 0xFF" is refused 6; else the frame's kind
+unfoldable pub readOf : Frame → Judgement
+readOf f =
+    pick (leb 1 (f .kind) && leb (f .kind) 7)
+    (pick (allFiller (drop (namedOf (f .kind) (byteOf f 0)) (f .bytes))) (accepted (f .kind)) (refused 6))
+    (refused 6)

@@ -1,0 +1,13 @@
+// The frames that both ends hand about: what they are, how they are read and how they are built.
+
+// A kind (one byte) and the data bytes d0 to d7, handed about by value.
+pub struct Frame {
+    pub kind: u8,
+    pub bytes: [u8; 8],
+}
+
+// What reading a frame answers: its kind, or the number of the refusal.
+pub enum Reading {
+    Kind(u8),
+    Refused(u8),
+}
