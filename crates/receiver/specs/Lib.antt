@@ -1,0 +1,3 @@
+pub mod Told
+pub mod Tick
+pub mod Hear

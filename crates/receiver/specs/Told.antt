@@ -1,0 +1,102 @@
+-- What the receiver's calls answer, in document 01's words and numbers.
+use Prim.Native.Nat.{ℕ}
+use mathlib.Core.Bool.{Bool, true, false}
+use mathlib.Core.List.{List, [], _∷_}
+use Rattle.frame.specs.Frames.{blankOf, lmNackOf}
+use Rattle.frame.specs.declared.Frame.{Frame}
+use Rattle.receiver.specs.declared.Answer as answer
+use Rattle.receiver.specs.declared.Made as made-enum
+use Rattle.receiver.specs.declared.Made.the-variants as made-variants
+use Rattle.receiver.specs.declared.Outcome as outcome-enum
+use Rattle.receiver.specs.declared.Outcome.the-variants as outcome-variants
+use Rattle.receiver.specs.declared.Phase.{Phase}
+use Rattle.receiver.specs.declared.Phase.the-variants.{Idle}
+use Rattle.receiver.specs.declared.Receiver.{Receiver}
+
+-- what making says: the end, or a refusal's number
+pub data Made : Type 0 where
+  made : Receiver → Made
+  unmade : ℕ → Made
+
+-- document 01's value for each case of making's answer
+abbrev pub toldMade : made-enum.Made → Made
+toldMade (made-variants.End r) = made r
+toldMade (made-variants.Refused number) = unmade number
+
+-- what a call reports: nothing; "A refusal returns its number, no frame and no report"; "delivered L"; "failed" with its
+-- cause; "a short delivery", whose eight bytes stand beside it
+pub data Outcome : Type 0 where
+  quiet : Outcome
+  refused : ℕ → Outcome
+  delivered : (length : ℕ) → Outcome
+  failed : (cause : ℕ) → Outcome
+  short : Outcome
+
+-- document 01's number and values for each case of the outcome
+abbrev pub toldOutcome : outcome-enum.Outcome → Outcome
+toldOutcome outcome-variants.Quiet = quiet
+toldOutcome (outcome-variants.Refused number) = refused number
+toldOutcome (outcome-variants.Delivered length) = delivered length
+toldOutcome (outcome-variants.Failed cause) = failed cause
+toldOutcome outcome-variants.Short = short
+
+-- a call's whole answer: the next state, whether a frame goes out, which one (blank where none does), what is reported,
+-- and the bytes of a short delivery (eight zeros where there is none)
+pub record Told : Type 0 where
+  pub next : Receiver
+  pub emits : Bool
+  pub frame : Frame
+  pub outcome : Outcome
+  pub bytes : List ℕ
+
+abbrev pub told : answer.Answer → Told
+told a =
+    record { next = a .next; emits = a .emits; frame = a .frame; outcome = toldOutcome (a .outcome); bytes = a .bytes }
+
+-- a hearing's whole answer: what is told, and the lent buffer as the hearing leaves it
+pub record Heard : Type 0 where
+  pub told : Told
+  pub buffer : List ℕ
+
+abbrev pub heard : Told → List ℕ → Heard
+heard t buffer = record { told = t; buffer = buffer }
+
+-- the receiver with its settings, in another phase
+abbrev pub inPhase : Receiver → Phase → Receiver
+inPhase r p = record { settings = r .settings; phase = p }
+
+abbrev pub noBytes : List ℕ
+noBytes = 0 ∷ 0 ∷ 0 ∷ 0 ∷ 0 ∷ 0 ∷ 0 ∷ 0 ∷ []
+
+-- "A refusal returns its number, no frame and no report"; the state holds what it held
+abbrev pub refusing : Receiver → ℕ → Told
+refusing r number = record { next = r; emits = false; frame = blankOf; outcome = refused number; bytes = noBytes }
+
+-- the next state, and nothing else
+abbrev pub silently : Receiver → Told
+silently r = record { next = r; emits = false; frame = blankOf; outcome = quiet; bytes = noBytes }
+
+-- the next state and a frame
+abbrev pub emitting : Receiver → Frame → Told
+emitting r f = record { next = r; emits = true; frame = f; outcome = quiet; bytes = noBytes }
+
+-- the next state, a frame and "delivered L"
+abbrev pub delivering : Receiver → Frame → ℕ → Told
+delivering r f length = record { next = r; emits = true; frame = f; outcome = delivered length; bytes = noBytes }
+
+-- "A failure that emits a NACK reports that NACK's cause"; "A failure forgets the last delivery": Idle with none
+abbrev pub failingWith : Receiver → ℕ → Told
+failingWith r cause =
+    record { next = inPhase r Idle; emits = true; frame = lmNackOf cause; outcome = failed cause; bytes = noBytes }
+
+-- a failure that emits nothing
+abbrev pub failing : Receiver → ℕ → Told
+failing r cause =
+    record { next = inPhase r Idle; emits = false; frame = blankOf; outcome = failed cause; bytes = noBytes }
+
+-- "a short delivery of its eight bytes", with a frame and without; "State and buffer stay."
+abbrev pub shortWith : Receiver → Frame → List ℕ → Told
+shortWith r f bytes = record { next = r; emits = true; frame = f; outcome = short; bytes = bytes }
+
+abbrev pub shortOnly : Receiver → List ℕ → Told
+shortOnly r bytes = record { next = r; emits = false; frame = blankOf; outcome = short; bytes = bytes }

@@ -1,0 +1,63 @@
+// The receiving end: its settings, its state and its answers. State goes in and out by value.
+use frame::Frame;
+
+// Timeout T in ticks, window C in frames, capacity K in bytes.
+pub struct Settings {
+    pub timeout: u16,
+    pub window: u16,
+    pub capacity: u16,
+}
+
+// The N and L last delivered.
+pub struct Delivery {
+    pub frames: u8,
+    pub length: u16,
+}
+
+// An open connection: N and L as announced, the frame number expected (e) and the last of the window (w).
+pub struct Connection {
+    pub frames: u8,
+    pub length: u16,
+    pub expected: u8,
+    pub last: u8,
+    pub wait: u16,
+    pub misses: u16,
+}
+
+// Idle with nothing delivered that is remembered, Idle with the last delivery (Done), or Open.
+pub enum Phase {
+    Idle,
+    Done(Delivery),
+    Open(Connection),
+}
+
+pub struct Receiver {
+    pub settings: Settings,
+    pub phase: Phase,
+}
+
+// What making answers: the receiver, or the number of the refusal.
+pub enum Made {
+    End(Receiver),
+    Refused(u8),
+}
+
+// What a call reports: nothing, a refusal by its number, a delivery of L bytes, a failure by its cause, or a short
+// delivery.
+pub enum Outcome {
+    Quiet,
+    Refused(u8),
+    Delivered(u16),
+    Failed(u8),
+    Short,
+}
+
+// What a call answers. Where emits is false, frame is the blank frame. bytes are those of a short delivery, else eight
+// zeros.
+pub struct Answer {
+    pub next: Receiver,
+    pub emits: bool,
+    pub frame: Frame,
+    pub outcome: Outcome,
+    pub bytes: [u8; 8],
+}

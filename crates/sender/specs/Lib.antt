@@ -1,0 +1,5 @@
+pub mod State
+pub mod Told
+pub mod Begin
+pub mod Tick
+pub mod Hear

@@ -1,0 +1,75 @@
+-- What the sender's calls answer, in document 01's words and numbers.
+use Prim.Native.Nat.{ℕ}
+use mathlib.Core.Bool.{Bool, true, false}
+use Rattle.frame.specs.Frames.{blankOf, lmNackOf}
+use Rattle.frame.specs.declared.Frame.{Frame}
+use Rattle.sender.specs.State.{counted, inPhase}
+use Rattle.sender.specs.declared.Answer as answer
+use Rattle.sender.specs.declared.Made as made-enum
+use Rattle.sender.specs.declared.Made.the-variants as made-variants
+use Rattle.sender.specs.declared.Outcome as outcome-enum
+use Rattle.sender.specs.declared.Outcome.the-variants as outcome-variants
+use Rattle.sender.specs.declared.Phase.the-variants.{Idle}
+use Rattle.sender.specs.declared.Sender.{Sender}
+use Rattle.sender.specs.declared.Transfer.{Transfer}
+
+-- what making says: the end, or a refusal's number
+pub data Made : Type 0 where
+  made : Sender → Made
+  unmade : ℕ → Made
+
+-- document 01's value for each case of making's answer
+abbrev pub toldMade : made-enum.Made → Made
+toldMade (made-variants.End s) = made s
+toldMade (made-variants.Refused number) = unmade number
+
+-- what a call reports: nothing; "A refusal returns its number, no frame and no report"; "sent", "failed" with its cause,
+-- each with "the ticks and the frames emitted since begin"
+pub data Outcome : Type 0 where
+  quiet : Outcome
+  refused : ℕ → Outcome
+  sent : (ticks frames : ℕ) → Outcome
+  failed : (cause ticks frames : ℕ) → Outcome
+
+-- document 01's number and values for each case of the outcome
+abbrev pub toldOutcome : outcome-enum.Outcome → Outcome
+toldOutcome outcome-variants.Quiet = quiet
+toldOutcome (outcome-variants.Refused number) = refused number
+toldOutcome (outcome-variants.Sent ticks frames) = sent ticks frames
+toldOutcome (outcome-variants.Failed cause ticks frames) = failed cause ticks frames
+
+-- a call's whole answer: the next state, whether a frame goes out, which one (blank where none does), what is reported
+pub record Told : Type 0 where
+  pub next : Sender
+  pub emits : Bool
+  pub frame : Frame
+  pub outcome : Outcome
+
+abbrev pub told : answer.Answer → Told
+told a = record { next = a .next; emits = a .emits; frame = a .frame; outcome = toldOutcome (a .outcome) }
+
+-- "A refusal returns its number, no frame and no report"; the state holds what it held
+abbrev pub refusing : Sender → ℕ → Told
+refusing s number = record { next = s; emits = false; frame = blankOf; outcome = refused number }
+
+-- the next state, and nothing else
+abbrev pub silently : Sender → Told
+silently s = record { next = s; emits = false; frame = blankOf; outcome = quiet }
+
+-- the next state and a frame
+abbrev pub emitting : Sender → Frame → Told
+emitting s f = record { next = s; emits = true; frame = f; outcome = quiet }
+
+-- "A failure that emits a NACK reports that NACK's cause"; the frames count the closing one; "The sender is then Idle"
+abbrev pub failingWith : Sender → Transfer → ℕ → Told
+failingWith s t cause =
+    record { next = inPhase s Idle; emits = true; frame = lmNackOf cause; outcome = failed cause (t .age) (counted t .emitted) }
+
+-- a failure that emits nothing
+abbrev pub failing : Sender → Transfer → ℕ → Told
+failing s t cause =
+    record { next = inPhase s Idle; emits = false; frame = blankOf; outcome = failed cause (t .age) (t .emitted) }
+
+-- "sent": the sender is then Idle
+abbrev pub sending : Sender → Transfer → Told
+sending s t = record { next = inPhase s Idle; emits = false; frame = blankOf; outcome = sent (t .age) (t .emitted) }
