@@ -1,0 +1,153 @@
+-- What each call does to the ends, the line and the buffer, and what is seen of it. The ends' own definitions say what
+-- an end does; here stands only what document 01, The line, adds.
+use Prim.Native.Nat.{ℕ}
+use mathlib.Core.Bool.{Bool, true, false}
+use mathlib.Core.List.{List, [], _∷_, _++_}
+use Rattle.frame.specs.declared.Frame.{Frame}
+use Rattle.receiver.specs.Hear as hearing
+use Rattle.receiver.specs.Tick as ticking
+use Rattle.receiver.specs.Told as receiver
+use Rattle.sender.specs.Begin.{beginOf}
+use Rattle.sender.specs.Hear.{hearOf}
+use Rattle.sender.specs.Tick.{tickOf}
+use Rattle.sender.specs.Told as sender
+use Rattle.transport.specs.World.{World, Call, begin, senderTick, receiverTick, hearForward, repeatForward, loseForward, hearBack, repeatBack, loseBack, Given, nobody, toSender, toReceiver, Event}
+
+-- the world after a call and what is seen of the call
+pub record Stepped : Type 0 where
+  pub world : World
+  pub event : Event
+
+-- the frame that a call emits, as a list of none or one
+abbrev pub emission : Bool → Frame → List Frame
+emission true f = f ∷ []
+emission false f = []
+
+-- nothing happens: "On an empty list nothing happens", and a loss is no call of an end
+abbrev pub unheard : Call → World → Stepped
+unheard c w =
+    record {
+      world = w;
+      event =
+          record { call = c; given = nobody; emitted = []; sender = sender.quiet; receiver = receiver.quiet; bytes = []; lent = [] } }
+
+-- a call of the sender, its frame given or none: "Emitted frames join the end" of forward
+abbrev pub bySender : Call → World → Given → List Frame → sender.Told → Stepped
+bySender c w given back t =
+    record {
+      world =
+          record {
+            sender = t .next;
+            receiver = w .receiver;
+            forward = w .forward ++ emission (t .emits) (t .frame);
+            back = back;
+            buffer = w .buffer };
+      event =
+          record {
+            call = c;
+            given = given;
+            emitted = emission (t .emits) (t .frame);
+            sender = t .outcome;
+            receiver = receiver.quiet;
+            bytes = [];
+            lent = [] } }
+
+-- was the receiver's call refused
+abbrev pub wasRefused : receiver.Outcome → Bool
+wasRefused receiver.quiet = false
+wasRefused (receiver.refused number) = true
+wasRefused (receiver.delivered length) = false
+wasRefused (receiver.failed cause) = false
+wasRefused receiver.short = false
+
+-- the receiving buffer after a call: what the call left of the lent one, or, where it was refused, what it was: "ends and
+-- buffer stay"
+abbrev pub bufferAfter : Bool → List ℕ → List ℕ → List ℕ
+bufferAfter true buffer left = buffer
+bufferAfter false buffer left = left
+
+-- a call of the receiver, its frame given or none: "Emitted frames join the end" of back
+abbrev pub byReceiver : Call → World → Given → List Frame → receiver.Heard → Stepped
+byReceiver c w given forward h =
+    record {
+      world =
+          record {
+            sender = w .sender;
+            receiver = h .told .next;
+            forward = forward;
+            back = w .back ++ emission (h .told .emits) (h .told .frame);
+            buffer = bufferAfter (wasRefused (h .told .outcome)) (w .buffer) (h .buffer) };
+      event =
+          record {
+            call = c;
+            given = given;
+            emitted = emission (h .told .emits) (h .told .frame);
+            sender = sender.quiet;
+            receiver = h .told .outcome;
+            bytes = h .told .bytes;
+            lent = h .buffer } }
+
+-- what is left of a list whose first frame was given: "Hear takes the first away ..; repeat gives it and keeps it"
+pub data Rest : Type 0 where
+  gone : Rest
+  still : Rest
+
+abbrev pub leaving : Rest → Frame → List Frame → List Frame
+leaving gone f rest = rest
+leaving still f rest = f ∷ rest
+
+-- the first frame of forward is given to the receiver
+unfoldable pub givenForward : Rest → Call → World → List ℕ → List Frame → Stepped
+givenForward k c w buffer [] = unheard c w
+givenForward k c w buffer (f ∷ rest) =
+    byReceiver c w (toReceiver f) (leaving k f rest) (hearing.hearOf (w .receiver) f buffer)
+
+-- the first frame of back is given to the sender
+unfoldable pub givenBack : Rest → Call → World → List Frame → Stepped
+givenBack k c w [] = unheard c w
+givenBack k c w (f ∷ rest) = bySender c w (toSender f) (leaving k f rest) (hearOf (w .sender) f)
+
+-- "lose drops it"
+abbrev pub dropped : List Frame → List Frame
+dropped [] = []
+dropped (f ∷ rest) = rest
+
+unfoldable pub stepOf : World → Call → Stepped
+stepOf w (begin message) = bySender (begin message) w nobody (w .back) (beginOf (w .sender) message)
+stepOf w (senderTick message) = bySender (senderTick message) w nobody (w .back) (tickOf (w .sender) message)
+stepOf w receiverTick =
+    byReceiver receiverTick w nobody (w .forward) (receiver.heard (ticking.tickOf (w .receiver)) (w .buffer))
+stepOf w (hearForward buffer) = givenForward gone (hearForward buffer) w buffer (w .forward)
+stepOf w (repeatForward buffer) = givenForward still (repeatForward buffer) w buffer (w .forward)
+stepOf w loseForward =
+    unheard loseForward
+    (record {
+      sender = w .sender;
+      receiver = w .receiver;
+      forward = dropped (w .forward);
+      back = w .back;
+      buffer = w .buffer })
+stepOf w hearBack = givenBack gone hearBack w (w .back)
+stepOf w repeatBack = givenBack still repeatBack w (w .back)
+stepOf w loseBack =
+    unheard loseBack
+    (record {
+      sender = w .sender;
+      receiver = w .receiver;
+      forward = w .forward;
+      back = dropped (w .back);
+      buffer = w .buffer })
+
+-- a world, and the events that led to it, the newest first
+pub record Past : Type 0 where
+  pub world : World
+  pub events : List Event
+
+abbrev pub next : Past → Call → Past
+next p c =
+    record { world = stepOf (p .world) c .world; events = stepOf (p .world) c .event ∷ p .events }
+
+-- "Each call finds the ends, the line and the buffer as the call before left them": a list of calls, the first first
+unfoldable pub runOf : Past → List Call → Past
+runOf p [] = p
+runOf p (c ∷ calls) = runOf (next p c) calls

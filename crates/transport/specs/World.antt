@@ -1,0 +1,52 @@
+-- Document 01, The line: the two ends, the two lists of frames, the receiving buffer, the calls and what is seen of each.
+use Prim.Native.Nat.{ℕ}
+use mathlib.Core.List.{List, []}
+use Rattle.frame.specs.declared.Frame.{Frame}
+use Rattle.receiver.specs.Told as receiver
+use Rattle.receiver.specs.declared.Receiver.{Receiver}
+use Rattle.sender.specs.Told as sender
+use Rattle.sender.specs.declared.Sender.{Sender}
+
+-- "Two lists of frames, forward and back": forward goes from the sender to the receiver. The ends, the line and the
+-- receiving buffer, as a call finds them and leaves them.
+pub record World : Type 0 where
+  pub sender : Sender
+  pub receiver : Receiver
+  pub forward : List Frame
+  pub back : List Frame
+  pub buffer : List ℕ
+
+-- "The calls are begin, sender tick, receiver tick, and hear, lose and repeat on forward or back": each with what it is
+-- lent, a message to begin and to the sender's tick, a buffer to the receiver's hearing.
+pub data Call : Type 0 where
+  begin : (message : List ℕ) → Call
+  senderTick : (message : List ℕ) → Call
+  receiverTick : Call
+  hearForward : (buffer : List ℕ) → Call
+  repeatForward : (buffer : List ℕ) → Call
+  loseForward : Call
+  hearBack : Call
+  repeatBack : Call
+  loseBack : Call
+
+-- which end a frame was given to, and the frame
+pub data Given : Type 0 where
+  nobody : Given
+  toSender : Frame → Given
+  toReceiver : Frame → Given
+
+-- What is seen of a call from outside: the call, the frame that an end heard, the frame that an end emitted (none or one),
+-- what each end reported (quiet at the end that was not called), the bytes of a short delivery, and the lent buffer as a
+-- hearing of the receiver leaves it.
+pub record Event : Type 0 where
+  pub call : Call
+  pub given : Given
+  pub emitted : List Frame
+  pub sender : sender.Outcome
+  pub receiver : receiver.Outcome
+  pub bytes : List ℕ
+  pub lent : List ℕ
+
+-- "The start is two ends just made .., forward and back empty, and a buffer of 1785 bytes of any content."
+abbrev pub startOf : Sender → Receiver → List ℕ → World
+startOf s r buffer = record { sender = s; receiver = r; forward = []; back = []; buffer = buffer }
