@@ -1,4 +1,10 @@
 // The frames that both ends hand about: what they are, how they are read and how they are built.
+pub mod build;
+pub mod count;
+pub mod read;
+
+// What stands in a byte that a kind does not name.
+const FILLER: u8 = 0xFF;
 
 // A kind (one byte) and the data bytes d0 to d7, handed about by value.
 pub struct Frame {

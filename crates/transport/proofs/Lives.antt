@@ -67,7 +67,6 @@ stage-adds (going h l b) (information a) = going h (joins-late l a) b
 stage-adds (there l b) (information a) = there (joins l a) b
 
 module _ {st : Settings} {r : Receiver} {forward back : List Frame} {buffer : List ℕ} {m : List ℕ} {n : ℕ} {ds : List (List ℕ)} where
-
   long-ticked : {isOpening : Bool} {a : Told} → Fits m → n < st .limit → Stage m isOpening (r .phase) forward back buffer ds
       → Ticks st (λ k. Moving m k isOpening) (Adds m isOpening) n a
       → Acted st r forward back buffer (since m n 0 ds) one a
@@ -113,7 +112,6 @@ abbrev none-counted : Bool → ℕ
 none-counted t = 0
 
 module _ {st : Settings} {r : Receiver} {forward back : List Frame} {buffer : List ℕ} {m : List ℕ} {n : ℕ} {ds : List (List ℕ)} where
-
   -- the transfer fails, goes on in a phase that fits, or is finished
   heard-on : {S : Phase → Type 0} {Z : Type 0} {a : Told}
       → ((p : Phase) → S p → Live st (senderIn st p) r forward back buffer (since m n 0 ds))
@@ -125,7 +123,6 @@ module _ {st : Settings} {r : Receiver} {forward back : List Frame} {buffer : Li
   heard-on k z (finishes e) = record { live = resting refl; sent = z e }
 
 module _ {st : Settings} (rs : receiver-settings.Settings) {m : List ℕ} {n : ℕ} (w : Fits m) (young : n < st .limit) where
-
   -- the transfer goes on in the same stage, or in one that a window's taking leads to
   goes-on : {isOpening : Bool} {q : receiver-phase.Phase} {forward back : List Frame} {buffer : List ℕ} {ds : List (List ℕ)}
       → Stage m isOpening q forward back buffer ds
@@ -197,7 +194,6 @@ pub record Found (r : Receiver) (forward back : List Frame) : Type 0 where
   pub clear-back : back ≡ []
 
 module _ (st : Settings) (r : Receiver) (forward back : List Frame) (buffer : List ℕ) where
-
   -- a sender that is not Idle refuses, and nothing changes
   begin-long : {m : List ℕ} {n : ℕ} {isOpening : Bool} {p : Phase} {ds : List (List ℕ)} (l : List ℕ) → Moving m n isOpening p
       → Live st (senderIn st p) r forward back buffer (since m n 0 ds)
@@ -220,7 +216,8 @@ module _ (st : Settings) (r : Receiver) (forward back : List Frame) (buffer : Li
       record {
         live = rw (found .clear, found .clear-back) (short narrow some (lone refl refl) (found .shut) (more repeats none) none tt);
         sent = λ c. tt;
-        again = h }
+        again = h;
+      }
 
   begins-long : (b : Begun) (l : List ℕ) → HadReport b → 1 ≤ st .limit → 8 < length l → length l ≤ 1785 → Found r forward back
       → Began st r forward back buffer b l (beginLong (senderIn st Idle) l)
@@ -231,7 +228,8 @@ module _ (st : Settings) (r : Receiver) (forward back : List Frame) (buffer : Li
             rw (found .clear, found .clear-back)
             (long wide fits some (stages.opening (record { long = refl; many = refl; old = refl })) (fresh (found .shut) (more (announces refl) none) none));
         sent = λ c. tt;
-        again = h }
+        again = h;
+      }
 
   -- an Idle sender begins, or refuses the length
   begin-idle : (b : Begun) (l : List ℕ) → HadReport b → 1 ≤ st .limit
@@ -275,7 +273,6 @@ long-took {n = n} w young v t = record { live = rw (add-zero n) (long (w .long) 
 
 module _ {st : Settings} {m : List ℕ} {n : ℕ} {p : Phase} {forward back : List Frame} {buffer : List ℕ} {ds : List (List ℕ)}
     (narrow : length m ≤ 8) (young : n < st .limit) (v : Lone m n p) (e : Line (Echoes ds) back) (c : Copies (fillTo 8 m) ds) where
-
   -- a shut receiver's tick does nothing
   short-rests : (rs : receiver-settings.Settings) (q : receiver-phase.Phase) → Shut q → Line (Repeats m) forward
       → Received st (senderIn st p) forward back buffer (since m n 0 ds) (heard (receiver-tick.tickOf (receiverIn rs q)) buffer)

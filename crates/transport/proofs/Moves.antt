@@ -51,7 +51,6 @@ refused-is : (f : Frame) → Refuses f → Replies f
 refused-is f (stages.Refuses.refuses cause) = stages.Replies.refuses cause
 
 module _ {m : List ℕ} {rs : Settings} {forward back : List Frame} {buffer : List ℕ} where
-
   asked-goes : {h : Heard} → Line (Announces m) forward → Line Replies back → Goes m rs h → Took m true forward back buffer [] h
   asked-goes l b (silent h) = record { stage = asked h l (same b) }
   asked-goes l b (replies h r) = record { stage = asked h l (joins b r) }
@@ -68,10 +67,10 @@ module _ {m : List ℕ} {rs : Settings} {forward back : List Frame} {buffer : Li
   going-ends l b (ends {left = left} many long e whole) =
       record {
         stage =
-            rw (many, long, whole) (there l (joins (widens (λ f r. stages.replies r) b) (stages.ends (e ∙ ap₂ endOfAckOf many long)))) }
+            rw (many, long, whole) (there l (joins (widens (λ f r. stages.replies r) b) (stages.ends (e ∙ ap₂ endOfAckOf many long))));
+      }
 
 module _ {m : List ℕ} (rs : Settings) {forward back : List Frame} {buffer : List ℕ} where
-
   -- ---- before the receiver has opened
 
   -- the announcement of m, heard while the receiver is shut: refused, or it opens
@@ -188,7 +187,6 @@ unfolding frameCountOf
 some-frames m w = omega arith
 
 module _ {m : List ℕ} (w : Fits m) (rs : Settings) (lent : List ℕ) (held : length lent ≡ 1785) where
-
   -- the hearing of the first frame f, given what is heard of it and that its buffer is the world's
   read-announcement : {isOpening : Bool} (q : Phase) {forward back : List Frame} {buffer : List ℕ} {ds : List (List ℕ)} (f : Frame)
       → Announces m f
@@ -198,7 +196,7 @@ module _ {m : List ℕ} (w : Fits m) (rs : Settings) (lent : List ℕ) (held : l
   read-announcement {isOpening} q {forward} {back} {buffer} {ds} f (announces e) c k =
       let small = w .fits in
       let z : hearRead (receiverIn rs q) f lent (readOf f) ≡ heard (hearAnnouncement (receiverIn rs q) q (framesOf m) (length m)) lent =
-          ap (λ (g : Frame). hearRead (receiverIn rs q) g lent (readOf g)) e ∙ reads-announcement (receiverIn rs q) (framesOf m) (length m) lent (omega arith) in
+      ap (λ (g : Frame). hearRead (receiverIn rs q) g lent (readOf g)) e ∙ reads-announcement (receiverIn rs q) (framesOf m) (length m) lent (omega arith) in
       subst⁻¹ (Took m isOpening forward back buffer ds) z (k (c (subst⁻¹ Unrefused z (announcement-unrefused (receiverIn rs q) q (framesOf m) (length m) lent))))
 
   read-information : (q : Phase) {forward back : List Frame} {buffer : List ℕ} {ds : List (List ℕ)} (number : ℕ)

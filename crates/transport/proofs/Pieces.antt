@@ -29,7 +29,6 @@ take-fill (suc k) (suc n) (b ∷ given) h g =
 module _ (m buffer : List ℕ) (number : ℕ) (held : length buffer ≡ 1785) (long : length m ≤ 1785) (low : 1 ≤ number)
     (high : number ≤ frameCountOf (length m))
     (before : take (7 * (number - 1)) buffer ≡ take (7 * (number - 1)) m) where
-
   -- the buffer after frame number was stored: the first bytes are the message's, as far as that frame goes
   pub piece-stored :
       take (7 * (number - 1) + carried number (length m)) (storing buffer number (length m) (fillTo 7 (partFrom number m)))

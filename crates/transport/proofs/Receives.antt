@@ -87,7 +87,6 @@ pub data Ends (m : List ℕ) (rs : Settings) : Heard → Type 0 where
       → Ends m rs (heard (record { next = receiverIn rs (Done (record { frames = frames; length = l })); emits = true; frame = f; outcome = delivered l; bytes = bytes }) left)
 
 module _ (m : List ℕ) (rs : Settings) where
-
   pub half-tick : {q : Phase} (left : List ℕ) → Halfway m q left → Goes m rs (heard (tickOf (receiverIn rs q)) left)
   unfolding tickOf tickPhase tickOpen
   half-tick left closed = silent closed
@@ -119,7 +118,6 @@ module _ (m : List ℕ) (rs : Settings) where
   module _ (x : Connection) (left : List ℕ) (held : length left ≡ 1785) (fits : length m ≤ 1785) (many : x .frames ≡ framesOf m)
       (long : x .length ≡ length m) (low : 1 ≤ x .expected) (high : x .expected ≤ framesOf m)
       (before : take (7 * (x .expected - 1)) left ≡ take (7 * (x .expected - 1)) m) where
-
     abbrev stores : List ℕ
     stores = storing left (x .expected) (length m) (fillTo 7 (partFrom (x .expected) m))
 

@@ -84,7 +84,6 @@ lent {st} {S} {A} {n} p true answer l v u k c = subst⁻¹ (λ (j : List ℕ). T
 lent p false answer l v u k c = kept v
 
 module _ (st : Settings) (small : st .limit ≤ 60000) (m : List ℕ) (n : ℕ) (young : n < st .limit) where
-
   -- the age grows by 1
   grows : (t : Transfer) → Keeps m t n → incrementOf (t .age) ≡ n + 1
   grows t k = ap incrementOf (k .old) ∙ increment-is n (omega arith)
@@ -212,7 +211,6 @@ pub data Acked (m : List ℕ) (n : ℕ) (isOpening : Bool) (p : Phase) : Type 0 
   windowed : Moving m n false p → Acked m n isOpening p
 
 module _ (st : Settings) (m : List ℕ) (n : ℕ) where
-
   -- the window that an LM_ACK grants lies within 1 to N
   takes-window : {isOpening : Bool} (p : Phase) (t : Transfer) (start count misses : ℕ)
       → Keeps m t n

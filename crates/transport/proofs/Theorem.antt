@@ -44,7 +44,6 @@ record Holds (st : Settings) (rs : receiver-settings.Settings) (w : World) (even
   again : Again events
 
 module _ (st : Settings) (rs : receiver-settings.Settings) (events : List Event) where
-
   abbrev After : Stepped → Type 0
   After x = Holds st rs (x .world) (x .event ∷ events)
 
@@ -112,7 +111,6 @@ record Limits (st : Settings) (rs : receiver-settings.Settings) : Type 0 where
   small : rs .timeout ≤ 10000
 
 module _ (st : Settings) (rs : receiver-settings.Settings) (limits : Limits st rs) where
-
   -- every call keeps what holds
   step : (w : World) (events : List Event) → Holds st rs w events → (c : Call)
       → Condition (record { world = w; events = events }) c (stepOf w c .event)
@@ -120,8 +118,8 @@ module _ (st : Settings) (rs : receiver-settings.Settings) (limits : Limits st r
   unfolding stepOf begunIn begunAfter openedIn openedAfter pick
   step w events h (begin m) d =
       let k =
-          begin-live (limits .some) (h .live) m
-          (λ t. let found = d t in record { shut = idle-shut (h .timed) (found .0); clear = found .1; clear-back = found .2 }) in
+      begin-live (limits .some) (h .live) m
+      (λ t. let found = d t in record { shut = idle-shut (h .timed) (found .0); clear = found .1; clear-back = found .2 }) in
       record { live = k .live; timed = timed-later (h .timed); sent = k .sent _; again = k .again }
   step w events h (senderTick m) d =
       let k = tick-live (limits .few) (h .live) m d in
@@ -173,6 +171,7 @@ sender-made gap timeout limit s = go (sender-making.settingsFit gap timeout limi
   where
     fresh-sender : Sender
     fresh-sender = senderIn (record { gap = gap; timeout = timeout; limit = limit }) Idle
+
     go : (b : Bool) → sender-making.settingsFit gap timeout limit ≡ b → pick b (sender.made fresh-sender) (sender.unmade 1) ≡ sender.made s
         → SenderMade gap timeout limit s
     go true e q = let z : fresh-sender ≡ s = cc in subst (SenderMade gap timeout limit) z (fits e)
@@ -190,6 +189,7 @@ receiver-made timeout window capacity r = go (receiver-tick.settingsFit timeout 
   where
     fresh-receiver : Receiver
     fresh-receiver = receiverIn (record { timeout = timeout; window = window; capacity = capacity }) at.Idle
+
     go : (b : Bool) → receiver-tick.settingsFit timeout window capacity ≡ b
         → pick b (receiver.made fresh-receiver) (receiver.unmade 1) ≡ receiver.made r
         → ReceiverMade timeout window capacity r
@@ -207,7 +207,8 @@ limits-of gap timeout limit timeout′ window capacity e d =
       some = leb-true 1 limit (both-left (leb 1 limit) (leb limit 60000) time);
       few = leb-true limit 60000 (both-right (leb 1 limit) (leb limit 60000) time);
       pos = leb-true 1 timeout′ (both-left (leb 1 timeout′) (leb timeout′ 10000) wait);
-      small = leb-true timeout′ 10000 (both-right (leb 1 timeout′) (leb timeout′ 10000) wait) }
+      small = leb-true timeout′ 10000 (both-right (leb 1 timeout′) (leb timeout′ 10000) wait);
+    }
 
 promise-kept : (gap timeout limit timeout′ window capacity : ℕ) {s : Sender} {r : Receiver}
     → SenderMade gap timeout limit s

@@ -94,7 +94,6 @@ pub record Listened (st : Settings) (o : Opened) (f : Frame) (a : Told) : Type 0
       (later o 0 (receiverReports (a .outcome))))
 
 module _ (st : Settings) (pos : 1 ≤ st .timeout) (small : st .timeout ≤ 10000) where
-
   waited : (x : Connection) {t : ℕ}
       → Within st x t
       → leb (st .timeout) (incrementOf (x .wait)) ≡ false
@@ -151,7 +150,6 @@ module _ (st : Settings) (pos : 1 ≤ st .timeout) (small : st .timeout ≤ 1000
       record { low = omega arith; high = omega (arith, h); waits = pos; tries = omega arith; bound = omega (arith, k) }
 
   module _ (x : Connection) {t : ℕ} (w : Within st x t) (f : Frame) where
-
     abbrev here : Receiver
     here = record { settings = st; phase = Open x }
 
@@ -194,7 +192,6 @@ module _ (st : Settings) (pos : 1 ≤ st .timeout) (small : st .timeout ≤ 1000
 
   module _ (p : Phase) (shut : Shut p) (o : Opened) (free : idle o ≡ true)
       (rests : (q : Phase) → Shut q → Timed st (record { settings = st; phase = q }) (later o 0 0)) (f : Frame) where
-
     abbrev there : Receiver
     there = record { settings = st; phase = p }
 
@@ -210,7 +207,7 @@ module _ (st : Settings) (pos : 1 ≤ st .timeout) (small : st .timeout ≤ 1000
     unfolding opening pick lmAckOf windowOf
     open-up length e some =
         let w : Within st (record { frames = byteOf f 1; length = length; expected = 1; last = windowOf there 1 (byteOf f 1); wait = 0; misses = 0 }) 0 =
-            record { low = omega arith; high = some; waits = pos; tries = omega arith; bound = omega arith } in
+        record { low = omega arith; high = some; waits = pos; tries = omega arith; bound = omega arith } in
         record { timed = rw (e, free) (during w) }
 
     announce-idle : (length : ℕ) → announces (toReceiver f) ≡ true → Of (announceIdle there (byteOf f 1) length)
@@ -222,7 +219,6 @@ module _ (st : Settings) (pos : 1 ≤ st .timeout) (small : st .timeout ≤ 1000
 
   module _ (o : Opened) (free : idle o ≡ true)
       (rests : (q : Phase) → Shut q → Timed st (record { settings = st; phase = q }) (later o 0 0)) (f : Frame) where
-
     announce-shut : (p : Phase) → Shut p → (length : ℕ) → announces (toReceiver f) ≡ true
         → Listened st o f (hearAnnouncement (record { settings = st; phase = p }) p (byteOf f 1) length)
     unfolding hearAnnouncement

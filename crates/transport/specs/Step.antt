@@ -29,7 +29,8 @@ unheard c w =
     record {
       world = w;
       event =
-          record { call = c; given = nobody; emitted = []; sender = sender.quiet; receiver = receiver.quiet; bytes = []; lent = [] } }
+          record { call = c; given = nobody; emitted = []; sender = sender.quiet; receiver = receiver.quiet; bytes = []; lent = [] };
+    }
 
 -- a call of the sender, its frame given or none: "Emitted frames join the end" of forward
 abbrev pub bySender : Call → World → Given → List Frame → sender.Told → Stepped
@@ -41,7 +42,8 @@ bySender c w given back t =
             receiver = w .receiver;
             forward = w .forward ++ emission (t .emits) (t .frame);
             back = back;
-            buffer = w .buffer };
+            buffer = w .buffer;
+          };
       event =
           record {
             call = c;
@@ -50,7 +52,9 @@ bySender c w given back t =
             sender = t .outcome;
             receiver = receiver.quiet;
             bytes = [];
-            lent = [] } }
+            lent = [];
+          };
+    }
 
 -- was the receiver's call refused
 abbrev pub wasRefused : receiver.Outcome → Bool
@@ -76,7 +80,8 @@ byReceiver c w given forward h =
             receiver = h .told .next;
             forward = forward;
             back = w .back ++ emission (h .told .emits) (h .told .frame);
-            buffer = bufferAfter (wasRefused (h .told .outcome)) (w .buffer) (h .buffer) };
+            buffer = bufferAfter (wasRefused (h .told .outcome)) (w .buffer) (h .buffer);
+          };
       event =
           record {
             call = c;
@@ -85,7 +90,9 @@ byReceiver c w given forward h =
             sender = sender.quiet;
             receiver = h .told .outcome;
             bytes = h .told .bytes;
-            lent = h .buffer } }
+            lent = h .buffer;
+          };
+    }
 
 -- what is left of a list whose first frame was given: "Hear takes the first away ..; repeat gives it and keeps it"
 pub data Rest : Type 0 where
@@ -126,7 +133,8 @@ stepOf w loseForward =
       receiver = w .receiver;
       forward = dropped (w .forward);
       back = w .back;
-      buffer = w .buffer })
+      buffer = w .buffer;
+    })
 stepOf w hearBack = givenBack gone hearBack w (w .back)
 stepOf w repeatBack = givenBack still repeatBack w (w .back)
 stepOf w loseBack =
@@ -136,7 +144,8 @@ stepOf w loseBack =
       receiver = w .receiver;
       forward = w .forward;
       back = dropped (w .back);
-      buffer = w .buffer })
+      buffer = w .buffer;
+    })
 
 -- a world, and the events that led to it, the newest first
 pub record Past : Type 0 where

@@ -1,0 +1,61 @@
+-- The table of cases holds: one test of the whole table, computed, and the rule at each row.
+-- Assumes nothing.
+use mathlib.Core.Path.{_≡_, subst}
+use mathlib.Core.Bool.{Bool}
+use mathlib.Core.List.{List}
+use Prim.Native.Nat.{ℕ, _<_}
+use lib.Dec.{T, lit<}
+use lib.ListN.{length}
+use Rattle.frame.specs.Choice.{pick}
+use Rattle.frame.specs.Count.{frameCountOf, incrementOf}
+use Rattle.frame.specs.Frames.{announcementOf, smRmOf, lmAckOf, lmNackOf}
+use Rattle.frame.specs.Reading.{namedOf, allFiller, readOf}
+use Rattle.sender.specs.Begin as sender-begin
+use Rattle.sender.specs.Hear as sender-hear
+use Rattle.sender.specs.Tick as sender-tick
+use Rattle.sender.specs.declared.Phase.the-variants.{Idle}
+use Rattle.sender.specs.declared.Sender.{Sender}
+use Rattle.receiver.specs.Hear as receiver-hear
+use Rattle.receiver.specs.Tick as receiver-tick
+use Rattle.cases.specs.Answer.{shownBegin, beginFrame, unlessRefused, senderTicks, senderInSilence, receiverTicks, receiverInSilence, ofSender, ofReceiver, answerOf}
+use Rattle.cases.specs.Claim.{Claim}
+use Rattle.cases.specs.Row.{Row, begun, short, announces}
+use Rattle.cases.specs.Table.{table, row, rowAt}
+use Rattle.cases.proofs.General.{every-answer}
+use Rattle.cases.proofs.Numbers.{same, same→eq}
+use Rattle.cases.proofs.Table.{every, passes-at}
+
+-- a row's test: the definitions answer its question with its numbers
+abbrev right : Row → Bool
+right r = same (answerOf (r .question)) (r .answer)
+
+-- the whole table passes: antt computes it
+all-right : T (every right table)
+unfolding
+    table answerOf ofSender ofReceiver beginFrame unlessRefused senderTicks senderInSilence receiverTicks receiverInSilence
+    pick frameCountOf incrementOf
+    announcementOf smRmOf lmAckOf lmNackOf
+    namedOf allFiller readOf
+    sender-begin.makeOf sender-begin.beginOf sender-begin.beginPhase sender-begin.beginIdle sender-begin.beginShort sender-begin.beginLong
+    sender-hear.hearOf sender-hear.hearRead sender-hear.hearKind sender-hear.hearAck sender-hear.ackOpening
+    sender-tick.tickOf sender-tick.tickPhase sender-tick.tickOpening
+    receiver-hear.hearOf receiver-hear.hearRead receiver-hear.hearKind receiver-hear.hearNumbered
+    receiver-hear.hearAnnouncement receiver-hear.announceIdle receiver-hear.opening
+    receiver-tick.makeOf receiver-tick.tickOf receiver-tick.tickPhase receiver-tick.tickOpen
+all-right = tt
+
+-- so the definitions answer each row's question with the row's numbers
+pub cases-hold : (k : ℕ) → k < length table → answerOf (rowAt k .question) ≡ rowAt k .answer
+cases-hold k h = same→eq _ _ (passes-at right (row (begun 8) short) table all-right k h)
+
+-- and so does every end with every message that the question leaves open
+pub cases-hold-of-all : (k : ℕ) → k < length table → Claim (rowAt k .question) (rowAt k .answer)
+cases-hold-of-all k h = subst (Claim (rowAt k .question)) (cases-hold k h) (every-answer (rowAt k .question))
+
+-- as read at a row: "1785 announces 00 FF F9 06", whatever the sender and the message
+begin-1785 : (s : Sender) (message : List ℕ)
+    → s .phase ≡ Idle
+    → length message ≡ 1785
+    → shownBegin (sender-begin.beginOf s message) ≡ announces 0x00 0xFF 0xF9 0x06
+unfolding table
+begin-1785 = cases-hold-of-all 4 (lit< tt)

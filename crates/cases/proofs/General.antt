@@ -1,0 +1,66 @@
+-- What is computed with one end and one message is the answer of every end and every message that a question leaves open.
+-- Assumes nothing.
+use mathlib.Core.Path.{_≡_, refl, sym, ap, _∙_}
+use Prim.Native.Nat.{ℕ, _*_, _≤_}
+use native.Mathlib.Omega.{arith}
+use native.Mathlib.Nat.{le-trans}
+use lib.Dec.{lit≤}
+use lib.ListN.{length, length-replicate}
+use Rattle.frame.specs.Choice.{pick}
+use Rattle.frame.specs.Count.{frameCountOf}
+use Rattle.frame.specs.Frames.{lmAckOf}
+use Rattle.sender.specs.Begin.{makeOf, beginLong}
+use Rattle.sender.specs.Hear.{hearOf}
+use Rattle.sender.specs.Told.{Told}
+use Rattle.cases.specs.Answer.{answerOf, ofSender, shownHearing, zeros}
+use Rattle.cases.specs.Claim.{Claim, opening}
+use Rattle.cases.specs.Row.{Question, begun, acknowledged, senderSilence, receiverSilence}
+use Rattle.cases.proofs.Acknowledge.{ackNumbers, ack-shows}
+use Rattle.cases.proofs.Begin.{beginNumbers, begin-shows, begins-long}
+use Rattle.cases.proofs.ReceiverSilence.{receiver-shows}
+use Rattle.cases.proofs.SenderSilence.{sender-shows}
+
+-- N frames of seven bytes are a long message, and its N is that N
+count-back : (frames : ℕ) → frameCountOf (7 * frames) ≡ frames
+unfolding frameCountOf
+count-back frames = omega arith
+
+-- the N of a long message is 2 to 255
+count-bounds : (frames l : ℕ) → 9 ≤ l → l ≤ 1785 → frames ≡ frameCountOf l → (2 ≤ frames) × (frames ≤ 255)
+unfolding frameCountOf
+count-bounds frames l low high fits = (omega arith, omega arith)
+
+begun-computed : (l : ℕ) → answerOf (begun l) ≡ beginNumbers l
+unfolding answerOf ofSender makeOf pick
+begun-computed l = begin-shows _ (zeros l) refl ∙ ap beginNumbers (length-replicate l 0)
+
+acknowledged-computed : (frames start count : ℕ)
+    → 2 ≤ frames
+    → frames ≤ 255
+    → answerOf (acknowledged frames start count) ≡ ackNumbers frames start count
+unfolding answerOf ofSender makeOf pick beginLong
+acknowledged-computed frames start count low high =
+    let long : length (zeros (7 * frames)) ≡ 7 * frames = length-replicate (7 * frames) 0 in
+    ap (λ (t : Told). shownHearing (hearOf (t .next) (lmAckOf start count)))
+    (begins-long _ (zeros (7 * frames)) refl (omega arith) (omega arith))
+    ∙ ack-shows _ _ (opening _) start count
+    ∙ ap (λ (n : ℕ). ackNumbers n start count) (ap frameCountOf long ∙ count-back frames)
+
+pub every-answer : (q : Question) → Claim q (answerOf q)
+unfolding answerOf
+every-answer (begun l) =
+    λ s message idle long. begin-shows s message idle ∙ ap beginNumbers long ∙ sym (begun-computed l)
+every-answer (acknowledged frames start count) =
+    λ s t long counts low high. ack-shows s t long start count
+    ∙ ap (λ (n : ℕ). ackNumbers n start count) counts
+    ∙ sym (acknowledged-computed frames start count low high)
+every-answer (senderSilence timeout limit ticks) =
+    λ gap message g1 g10 low high. sender-shows gap timeout limit message ticks g1 g10 low high
+    ∙ sym (sender-shows 1 timeout limit (zeros 9) ticks (lit≤ tt) (lit≤ tt) (lit≤ tt) (lit≤ tt))
+every-answer (receiverSilence timeout frames ticks) =
+    λ window capacity l buffer w1 w255 low room high fits lent.
+    let (two, most) = count-bounds frames l low (le-trans room high) fits in
+    receiver-shows timeout window capacity frames l buffer ticks w1 w255 low room high fits lent
+    ∙ sym
+    (receiver-shows timeout 255 1785 frames (7 * frames) (zeros 1785) ticks
+    (lit≤ tt) (lit≤ tt) (omega arith) (omega arith) (lit≤ tt) (sym (count-back frames)) refl)

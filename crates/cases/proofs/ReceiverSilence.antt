@@ -1,0 +1,141 @@
+-- What a receiver shows in silence, once it has opened, depends on T alone.
+-- Assumes nothing.
+use mathlib.Core.Path.{_≡_, refl, ap, _∙_}
+use mathlib.Core.Bool.{Bool, true, false, _&&_}
+use mathlib.Core.List.{List, [], _∷_, _++_}
+use Prim.Native.Nat.{ℕ, zero, suc, _≤_}
+use native.Mathlib.Omega.{arith}
+use borrow.Author.Tests.{le-leb, eq-eqb}
+use lib.Dec.{leb}
+use lib.ListN.{length}
+use Rattle.frame.specs.Choice.{pick}
+use Rattle.frame.specs.Count.{frameCountOf, incrementOf, lowByte, highByte, wordOf}
+use Rattle.frame.specs.Frames.{announcementOf, lmAckOf, lmNackOf}
+use Rattle.frame.specs.Reading.{namedOf, allFiller, readOf}
+use Rattle.receiver.specs.Hear.{hearOf, hearRead, hearKind, hearNumbered, hearAnnouncement, announceIdle, opening}
+use Rattle.receiver.specs.Tick.{makeOf, tickOf, tickPhase, tickOpen}
+use Rattle.receiver.specs.Told.{Told, failingWith, inPhase, made, unmade}
+use Rattle.receiver.specs.declared.Connection.{Connection}
+use Rattle.receiver.specs.declared.Phase.the-variants.{Idle, Open}
+use Rattle.receiver.specs.declared.Receiver.{Receiver}
+use Rattle.cases.specs.Answer.{brief, ifEmitted, receiverTicks, receiverInSilence, ofReceiver}
+use Rattle.cases.specs.Row.{nack, at, refusal}
+
+-- the numbers that it shows: T, then e, wait and misses, the next tick, and how many ticks
+pub openNumbers : ℕ → ℕ → ℕ → ℕ → ℕ → ℕ → List ℕ
+openNumbers timeout expected wait misses tick zero = []
+openNumbers timeout expected wait misses tick (suc ticks) =
+    pick (leb timeout (incrementOf wait))
+    (pick (leb 3 (incrementOf misses)) (at tick (nack 2))
+    (at tick (2 ∷ expected ∷ []) ++ openNumbers timeout expected 0 (incrementOf misses) (suc tick) ticks))
+    (openNumbers timeout expected (incrementOf wait) misses (suc tick) ticks)
+
+-- an Idle receiver shows nothing
+idle-shows : (r : Receiver) (tick ticks : ℕ) → receiverTicks (inPhase r Idle) tick ticks ≡ []
+unfolding receiverTicks tickOf tickPhase pick
+idle-shows r tick zero = refl
+idle-shows r tick (suc ticks) = idle-shows r (suc tick) ticks
+
+-- what a tick's answer shows, with all that comes after it
+after : Told → ℕ → ℕ → List ℕ
+after t tick ticks = ifEmitted (t .emits) (at tick (brief (t .frame))) ++ receiverTicks (t .next) (suc tick) ticks
+
+-- by the two tests of a tick in Open: wait = T, the third miss
+by-tests : (r : Receiver) (tick ticks : ℕ) (again waits : Told) (frames silence : List ℕ) (due third : Bool)
+    → after again tick ticks ≡ frames
+    → after waits tick ticks ≡ silence
+    → after (pick due (pick third (failingWith r 2) again) waits) tick ticks ≡ pick due (pick third (at tick (nack 2)) frames) silence
+unfolding pick after lmNackOf
+by-tests r tick ticks again waits frames silence true true ha hw =
+    ap {B = List ℕ} (λ rest. at tick (nack 2) ++ rest) (idle-shows r (suc tick) ticks)
+by-tests r tick ticks again waits frames silence true false ha hw = ha
+by-tests r tick ticks again waits frames silence false third ha hw = hw
+
+open-shows : (r : Receiver) (x : Connection) (tick ticks : ℕ)
+    → receiverTicks (inPhase r (Open x)) tick ticks ≡ openNumbers (r .settings .timeout) (x .expected) (x .wait) (x .misses) tick ticks
+unfolding receiverTicks openNumbers after tickOf tickPhase tickOpen lmAckOf pick
+open-shows r x tick zero = refl
+open-shows r x tick (suc ticks) =
+    by-tests (inPhase r (Open x)) tick ticks _ _ _ _
+    (leb (r .settings .timeout) (incrementOf (x .wait)))
+    (leb 3 (incrementOf (x .misses)))
+    (ap {B = List ℕ} (λ rest. at tick (2 ∷ x .expected ∷ []) ++ rest) (open-shows r _ (suc tick) ticks))
+    (open-shows r _ (suc tick) ticks)
+
+-- a word's bytes give the word
+word-back : (l : ℕ) → l ≤ 1785 → wordOf (lowByte l) (highByte l) ≡ l
+word-back l high = omega arith
+
+-- an announcement that fits opens a connection
+opens-idle : (r : Receiver) (frames l : ℕ)
+    → 9 ≤ l
+    → l ≤ r .settings .capacity
+    → l ≤ 1785
+    → frames ≡ frameCountOf l
+    → announceIdle r frames l ≡ opening r frames l
+unfolding announceIdle pick
+opens-idle r frames l low room high fits =
+    rw (le-leb 9 l low, le-leb l 1785 high, eq-eqb frames (frameCountOf l) fits, le-leb l (r .settings .capacity) room)
+
+opens : (r : Receiver) (frames l : ℕ) (buffer : List ℕ)
+    → r .phase ≡ Idle
+    → 9 ≤ l
+    → l ≤ r .settings .capacity
+    → l ≤ 1785
+    → frames ≡ frameCountOf l
+    → length buffer ≡ 1785
+    → hearOf r (announcementOf frames l) buffer .told ≡ opening r frames l
+unfolding hearOf hearRead hearKind hearNumbered hearAnnouncement readOf namedOf allFiller announcementOf pick
+opens r frames l buffer idle low room high fits lent =
+    rw (eq-eqb (length buffer) 1785 lent, word-back l high)
+    (ap (λ p. hearAnnouncement r p frames l) idle ∙ opens-idle r frames l low room high fits)
+
+-- the numbers of a run from making on
+pub receiverNumbers : ℕ → ℕ → List ℕ
+receiverNumbers timeout ticks = pick (leb 1 timeout && leb timeout 10000) (openNumbers timeout 1 0 0 1 ticks) (refusal 1)
+
+alone-shows : (r : Receiver) (frames l : ℕ) (buffer : List ℕ) (ticks : ℕ)
+    → r .phase ≡ Idle
+    → 9 ≤ l
+    → l ≤ r .settings .capacity
+    → l ≤ 1785
+    → frames ≡ frameCountOf l
+    → length buffer ≡ 1785
+    → receiverInSilence r frames l buffer ticks ≡ openNumbers (r .settings .timeout) 1 0 0 1 ticks
+unfolding receiverInSilence opening
+alone-shows r frames l buffer ticks idle low room high fits lent =
+    ap (λ (t : Told). receiverTicks (t .next) 1 ticks) (opens r frames l buffer idle low room high fits lent)
+    ∙ open-shows r _ 1 ticks
+
+by-fit : (timeout window capacity frames l : ℕ) (buffer : List ℕ) (ticks : ℕ) (fit : Bool)
+    → 9 ≤ l
+    → l ≤ capacity
+    → l ≤ 1785
+    → frames ≡ frameCountOf l
+    → length buffer ≡ 1785
+    → ofReceiver
+    (pick (fit && true)
+    (made (record { settings = record { timeout = timeout; window = window; capacity = capacity }; phase = Idle }))
+    (unmade 1))
+    (λ r. receiverInSilence r frames l buffer ticks)
+    ≡ pick fit (openNumbers timeout 1 0 0 1 ticks) (refusal 1)
+unfolding ofReceiver pick
+by-fit timeout window capacity frames l buffer ticks true low room high fits lent =
+    alone-shows _ frames l buffer ticks refl low room high fits lent
+by-fit timeout window capacity frames l buffer ticks false low room high fits lent = refl
+
+pub receiver-shows : (timeout window capacity frames l : ℕ) (buffer : List ℕ) (ticks : ℕ)
+    → 1 ≤ window
+    → window ≤ 255
+    → 9 ≤ l
+    → l ≤ capacity
+    → capacity ≤ 1785
+    → frames ≡ frameCountOf l
+    → length buffer ≡ 1785
+    → ofReceiver (makeOf timeout window capacity) (λ r. receiverInSilence r frames l buffer ticks) ≡ receiverNumbers timeout ticks
+unfolding makeOf receiverNumbers
+receiver-shows timeout window capacity frames l buffer ticks w1 w255 low room high fits lent =
+    rw (le-leb 1 window w1, le-leb window 255 w255, le-leb 9 capacity (omega arith), le-leb capacity 1785 high)
+    (by-fit timeout window capacity frames l buffer ticks
+    (leb 1 timeout && leb timeout 10000)
+    low room (omega arith) fits lent)

@@ -1,0 +1,101 @@
+-- What the ends answer to a question, in numbers, by their definitions.
+use Prim.Native.Nat.{ℕ, zero, suc, _*_}
+use mathlib.Core.Bool.{Bool}
+use mathlib.Core.List.{List, [], _∷_, _++_}
+use lib.Dec.{eqb}
+use lib.ListN.{replicate}
+use Rattle.frame.specs.Choice.{pick}
+use Rattle.frame.specs.Frames.{byteOf, announcementOf, lmAckOf}
+use Rattle.frame.specs.declared.Frame.{Frame}
+use Rattle.sender.specs.Begin as sender-begin
+use Rattle.sender.specs.Hear as sender-hear
+use Rattle.sender.specs.Tick as sender-tick
+use Rattle.sender.specs.Told as sender
+use Rattle.sender.specs.declared.Sender.{Sender}
+use Rattle.receiver.specs.Hear as receiver-hear
+use Rattle.receiver.specs.Tick as receiver-tick
+use Rattle.receiver.specs.Told as receiver
+use Rattle.receiver.specs.declared.Receiver.{Receiver}
+use Rattle.cases.specs.Row.{Question, begun, acknowledged, senderSilence, receiverSilence, refusal, short, announces, at}
+
+-- a frame by its kind and its d0: an information frame's number, LM_ACK's start, LM_NACK's cause
+abbrev pub brief : Frame → List ℕ
+brief f = f .kind ∷ byteOf f 0 ∷ []
+
+-- a begin's frame: SM_RM is "short", an information frame shows d0 to d3
+unfoldable pub beginFrame : Frame → List ℕ
+beginFrame f =
+    pick (eqb (f .kind) 5) short
+    (pick (eqb (f .kind) 1) (announces (byteOf f 0) (byteOf f 1) (byteOf f 2) (byteOf f 3)) (brief f))
+
+-- the frame of a call's answer, if one goes out
+abbrev pub ifEmitted : Bool → List ℕ → List ℕ
+ifEmitted emits shown = pick emits shown []
+
+-- the number of a refusal, else what the call shows
+unfoldable pub unlessRefused : sender.Outcome → List ℕ → List ℕ
+unlessRefused sender.quiet shown = shown
+unlessRefused (sender.refused number) shown = refusal number
+unlessRefused (sender.sent ticks frames) shown = shown
+unlessRefused (sender.failed cause ticks frames) shown = shown
+
+-- what a begin shows: "refused 2", "short", "announces"
+abbrev pub shownBegin : sender.Told → List ℕ
+shownBegin t = unlessRefused (t .outcome) (ifEmitted (t .emits) (beginFrame (t .frame)))
+
+-- what a hearing of the sender shows: "NACK 4"
+abbrev pub shownHearing : sender.Told → List ℕ
+shownHearing t = unlessRefused (t .outcome) (ifEmitted (t .emits) (brief (t .frame)))
+
+-- what a sender shows at ticks in silence, counted from this tick on, so many of them: each frame with the tick at which
+-- it goes out. Every tick is lent the message.
+unfoldable pub senderTicks : Sender → List ℕ → ℕ → ℕ → List ℕ
+senderTicks s message tick zero = []
+senderTicks s message tick (suc ticks) =
+    ifEmitted (sender-tick.tickOf s message .emits) (at tick (brief (sender-tick.tickOf s message .frame)))
+    ++ senderTicks (sender-tick.tickOf s message .next) message (suc tick) ticks
+
+-- a sender begins a message, at tick 0, and then hears nothing
+unfoldable pub senderInSilence : Sender → List ℕ → ℕ → List ℕ
+senderInSilence s message ticks =
+    ifEmitted (sender-begin.beginOf s message .emits) (at 0 (brief (sender-begin.beginOf s message .frame)))
+    ++ senderTicks (sender-begin.beginOf s message .next) message 1 ticks
+
+-- what a receiver shows at ticks in silence, counted from this tick on, so many of them
+unfoldable pub receiverTicks : Receiver → ℕ → ℕ → List ℕ
+receiverTicks r tick zero = []
+receiverTicks r tick (suc ticks) =
+    ifEmitted (receiver-tick.tickOf r .emits) (at tick (brief (receiver-tick.tickOf r .frame)))
+    ++ receiverTicks (receiver-tick.tickOf r .next) (suc tick) ticks
+
+-- a receiver hears the announcement of N and L, lent a buffer, and then nothing
+unfoldable pub receiverInSilence : Receiver → ℕ → ℕ → List ℕ → ℕ → List ℕ
+receiverInSilence r frames length buffer ticks =
+    receiverTicks (receiver-hear.hearOf r (announcementOf frames length) buffer .told .next) 1 ticks
+
+-- what the end that making answers shows; the number of the refusal, where the settings are refused
+unfoldable pub ofSender : sender.Made → (Sender → List ℕ) → List ℕ
+ofSender (sender.made s) shows = shows s
+ofSender (sender.unmade number) shows = refusal number
+
+unfoldable pub ofReceiver : receiver.Made → (Receiver → List ℕ) → List ℕ
+ofReceiver (receiver.made r) shows = shows r
+ofReceiver (receiver.unmade number) shows = refusal number
+
+-- a message or a buffer of this length: zeros
+abbrev pub zeros : ℕ → List ℕ
+zeros length = replicate length 0
+
+-- The answer to a question, computed with one end and one message. What the question leaves open is here: G 1, T 10 and
+-- M 100 at the sender, C 255 and K 1785 at the receiver, L 9 or, where N is asked for, 7 N, and every byte 0.
+-- `Claim` says the same of all that a question leaves open; proofs/General.antt shows that it makes no difference.
+unfoldable pub answerOf : Question → List ℕ
+answerOf (begun length) =
+    ofSender (sender-begin.makeOf 1 10 100) (λ s. shownBegin (sender-begin.beginOf s (zeros length)))
+answerOf (acknowledged frames start count) =
+    ofSender (sender-begin.makeOf 1 10 100)
+    (λ s. shownHearing (sender-hear.hearOf (sender-begin.beginOf s (zeros (7 * frames)) .next) (lmAckOf start count)))
+answerOf (senderSilence timeout limit ticks) =
+    ofSender (sender-begin.makeOf 1 timeout limit) (λ s. senderInSilence s (zeros 9) ticks)
+answerOf (receiverSilence timeout frames ticks) =
+    ofReceiver (receiver-tick.makeOf timeout 255 1785) (λ r. receiverInSilence r frames (7 * frames) (zeros 1785) ticks)

@@ -1,0 +1,61 @@
+-- What a row claims, of every end and every message that its question leaves open.
+use Prim.Native.Nat.{ℕ, _≤_}
+use mathlib.Core.Path.{_≡_}
+use mathlib.Core.List.{List}
+use lib.ListN.{length}
+use Rattle.frame.specs.Count.{frameCountOf}
+use Rattle.frame.specs.Frames.{lmAckOf}
+use Rattle.sender.specs.Begin as sender-begin
+use Rattle.sender.specs.Hear as sender-hear
+use Rattle.sender.specs.declared.Announced.{Announced}
+use Rattle.sender.specs.declared.Awaited.{Awaited}
+use Rattle.sender.specs.declared.Phase.{Phase}
+use Rattle.sender.specs.declared.Phase.the-variants.{Idle, Opening, Sending, Waiting}
+use Rattle.sender.specs.declared.Sender.{Sender}
+use Rattle.sender.specs.declared.Streamed.{Streamed}
+use Rattle.sender.specs.declared.Transfer.{Transfer}
+use Rattle.receiver.specs.Tick as receiver-tick
+use Rattle.cases.specs.Answer.{shownBegin, shownHearing, senderInSilence, receiverInSilence, ofSender, ofReceiver}
+use Rattle.cases.specs.Row.{Question, begun, acknowledged, senderSilence, receiverSilence}
+
+-- "LM_ACK in Opening, Sending or Waiting": the phases of a long transfer
+pub data Long : Phase → Transfer → Type 0 where
+  opening : (x : Announced) → Long (Opening x) (x .transfer)
+  sending : (x : Streamed) → Long (Sending x) (x .transfer)
+  waiting : (x : Awaited) → Long (Waiting x) (x .transfer)
+
+-- A begin: any Idle sender and any message of the length.
+-- LM_ACK: any sender in a long transfer of N frames; "Lengths .. 9 to 1785 long", so N is 2 to 255.
+-- A sender in silence: any "gap G 1 to 10", any long message.
+-- A receiver in silence: any "window C 1 to 255", any L from 9 that N fits, any capacity K from L to 1785, any buffer of
+-- 1785 bytes.
+abbrev pub Claim : Question → List ℕ → Type 0
+Claim (begun l) answer =
+    (s : Sender) (message : List ℕ)
+    → s .phase ≡ Idle
+    → length message ≡ l
+    → shownBegin (sender-begin.beginOf s message) ≡ answer
+Claim (acknowledged frames start count) answer =
+    (s : Sender) (t : Transfer)
+    → Long (s .phase) t
+    → t .frames ≡ frames
+    → 2 ≤ frames
+    → frames ≤ 255
+    → shownHearing (sender-hear.hearOf s (lmAckOf start count)) ≡ answer
+Claim (senderSilence timeout limit ticks) answer =
+    (gap : ℕ) (message : List ℕ)
+    → 1 ≤ gap
+    → gap ≤ 10
+    → 9 ≤ length message
+    → length message ≤ 1785
+    → ofSender (sender-begin.makeOf gap timeout limit) (λ s. senderInSilence s message ticks) ≡ answer
+Claim (receiverSilence timeout frames ticks) answer =
+    (window capacity l : ℕ) (buffer : List ℕ)
+    → 1 ≤ window
+    → window ≤ 255
+    → 9 ≤ l
+    → l ≤ capacity
+    → capacity ≤ 1785
+    → frames ≡ frameCountOf l
+    → length buffer ≡ 1785
+    → ofReceiver (receiver-tick.makeOf timeout window capacity) (λ r. receiverInSilence r frames l buffer ticks) ≡ answer

@@ -1,0 +1,4 @@
+pub mod Row
+pub mod Answer
+pub mod Claim
+pub mod Table

@@ -1,0 +1,110 @@
+-- Writing and reading undo each other, for every kind: what is written is read as what it was, and a frame that is not
+-- refused is what its fields write. Eight bytes are a list of eight, so that each kind computes; filler that was judged
+-- is 0xFF, and a word is its two bytes.
+-- Assumes nothing.
+use Prim.Native.Nat.{ℕ, zero, suc, _<_, _≤_}
+use mathlib.Core.Path.{_≡_, refl, sym, ap, _∙_, subst}
+use mathlib.Core.Bool.{Bool, true, false, _&&_, and-eq-true-iff}
+use mathlib.Core.List.{List, [], _∷_}
+use native.Mathlib.Omega.{arith}
+use borrow.Author.Tests.{ne-eqb, leb-true, eqb-true}
+use lib.Dec.{eqb, leb, eqb·suc-zero}
+use lib.ListN.{length, getD, drop, replicate}
+use Rattle.frame.specs.Choice.{pick}
+use Rattle.frame.specs.Content.{Content, announcement, information, lmAck, lmNack, endOfAck, smRm, smAck, smUrm, Fits, kindOf, written, contentOf}
+use Rattle.frame.specs.Frames.{byteOf, fillTo, announcementOf, informationOf, lmAckOf, lmNackOf, endOfAckOf, smRmOf, smUrmOf, smAckOf}
+use Rattle.frame.specs.Reading.{Judgement, accepted, refused, toldReading, namedOf, allFiller, readOf}
+use Rattle.frame.specs.declared.Frame.{Frame}
+use Rattle.frame.specs.declared.Reading.{Reading}
+use Rattle.frame.specs.declared.Reading.the-variants.{Kind, Refused}
+use Rattle.frame.proofs.Laws.{fill, fill-whole, word-whole, word-low, word-high}
+
+-- What is told of a reading leaves nothing of it open.
+abbrev pub untoldReading : Judgement → Reading
+untoldReading (accepted kind) = Kind kind
+untoldReading (refused number) = Refused number
+
+pub told-injective : (r : Reading) → untoldReading (toldReading r) ≡ r
+told-injective (Kind kind) = refl
+told-injective (Refused number) = refl
+
+-- What is written is read as its kind, with its fields.
+pub read-written : (c : Content) → Fits c → (readOf (written c) ≡ accepted (kindOf c)) × (contentOf (written c) ≡ c)
+unfolding readOf contentOf namedOf allFiller pick announcementOf informationOf lmAckOf lmNackOf endOfAckOf smRmOf smUrmOf smAckOf
+read-written (announcement frames l) fits = (refl, ap (λ (w : ℕ). announcement frames w) (word-whole l fits))
+read-written (information number bytes) fits = (
+  rw (ne-eqb number 0 (omega arith), fill 7),
+  rw (ne-eqb number 0 (omega arith)) (ap (λ (s : List ℕ). information number s) (fill-whole 7 bytes (fits .1))),
+)
+read-written (lmAck start count) fits = (refl, refl)
+read-written (lmNack cause) fits = (refl, refl)
+read-written (endOfAck frames l) fits = (refl, ap (λ (w : ℕ). endOfAck frames w) (word-whole l fits))
+read-written (smRm bytes) fits = (rw (fill 8), ap (λ (s : List ℕ). smRm s) (fill-whole 8 bytes fits))
+read-written (smAck first) fits = (refl, refl)
+read-written (smUrm bytes) fits = (rw (fill 8), ap (λ (s : List ℕ). smUrm s) (fill-whole 8 bytes fits))
+
+-- Bytes that passed as filler are 0xFF.
+pub filled : (s : List ℕ) → allFiller s ≡ true → s ≡ replicate (length s) 255
+unfolding allFiller
+filled [] h = refl
+filled (b ∷ s) h =
+    let both = and-eq-true-iff (eqb b 255) (allFiller s) .0 h in
+    let head : b ≡ 255 = eqb-true b 255 (both .0) in
+    let tail : s ≡ replicate (length s) 255 = filled s (both .1) in
+    cc
+
+passed : (inside filler : Bool) (kind k : ℕ) → pick inside (pick filler (accepted kind) (refused 6)) (refused 6) ≡ accepted k
+    → (inside ≡ true) × (filler ≡ true)
+unfolding pick
+passed true true kind k h = (refl, refl)
+passed true false kind k h = (refl, cc)
+passed false filler kind k h = (cc, cc)
+
+-- A frame that is not refused has a kind from 1 to 7, and its filler passed.
+pub read-passed : (f : Frame) (k : ℕ) → readOf f ≡ accepted k
+    → (1 ≤ f .kind) × (f .kind ≤ 7) × (allFiller (drop (namedOf (f .kind) (byteOf f 0)) (f .bytes)) ≡ true)
+unfolding readOf
+read-passed f k h =
+    let both = passed (leb 1 (f .kind) && leb (f .kind) 7) _ _ k h in
+    let range = and-eq-true-iff (leb 1 (f .kind)) (leb (f .kind) 7) .0 (both .0) in
+    (leb-true _ _ (range .0), leb-true _ _ (range .1), both .1)
+
+-- `written (contentOf f) ≡ f` of the frame of a kind and bytes
+Restored : ℕ → List ℕ → Type 0
+Restored kind bytes =
+    let f : Frame = record { kind = kind; bytes = bytes } in
+    ((n : ℕ) → getD bytes n 0 < 256) → (k : ℕ) → readOf f ≡ accepted k → written (contentOf f) ≡ f
+
+module _ (b1 b2 b3 b4 b5 b6 b7 : ℕ) where
+  -- an information frame, by its number
+  restored-information : (number : ℕ) → Restored 1 (number ∷ b1 ∷ b2 ∷ b3 ∷ b4 ∷ b5 ∷ b6 ∷ b7 ∷ [])
+  unfolding Restored contentOf namedOf pick fillTo announcementOf informationOf
+  restored-information zero bound k h =
+      let rest = filled (b4 ∷ b5 ∷ b6 ∷ b7 ∷ []) (read-passed _ k h .2) in
+      cc (word-low b2 b3 (bound 2), word-high b2 b3 (bound 2) (bound 3))
+  restored-information (suc n) bound k h = rw eqb·suc-zero
+
+  restored : (kind b0 : ℕ) → Restored kind (b0 ∷ b1 ∷ b2 ∷ b3 ∷ b4 ∷ b5 ∷ b6 ∷ b7 ∷ [])
+  unfolding Restored contentOf namedOf pick fillTo lmAckOf lmNackOf endOfAckOf smRmOf smUrmOf smAckOf
+  restored zero b0 bound k h = absurd (omega (arith, read-passed _ k h .0))
+  restored (suc zero) b0 bound k h = restored-information b0 bound k h
+  restored (suc (suc zero)) b0 bound k h =
+      let rest = filled (b2 ∷ b3 ∷ b4 ∷ b5 ∷ b6 ∷ b7 ∷ []) (read-passed _ k h .2) in cc
+  restored (suc (suc (suc zero))) b0 bound k h =
+      let rest = filled (b1 ∷ b2 ∷ b3 ∷ b4 ∷ b5 ∷ b6 ∷ b7 ∷ []) (read-passed _ k h .2) in cc
+  restored (suc (suc (suc (suc zero)))) b0 bound k h =
+      let rest = filled (b3 ∷ b4 ∷ b5 ∷ b6 ∷ b7 ∷ []) (read-passed _ k h .2) in
+      cc (word-low b1 b2 (bound 1), word-high b1 b2 (bound 1) (bound 2))
+  restored (suc (suc (suc (suc (suc zero))))) b0 bound k h = refl
+  restored (suc (suc (suc (suc (suc (suc zero)))))) b0 bound k h =
+      let rest = filled (b1 ∷ b2 ∷ b3 ∷ b4 ∷ b5 ∷ b6 ∷ b7 ∷ []) (read-passed _ k h .2) in cc
+  restored (suc (suc (suc (suc (suc (suc (suc zero))))))) b0 bound k h = refl
+  restored (suc (suc (suc (suc (suc (suc (suc (suc n)))))))) b0 bound k h = absurd (omega (arith, read-passed _ k h .1))
+
+-- A frame of eight bytes that is read is what its fields write.
+pub written-read : (f : Frame) → length (f .bytes) ≡ 8 → ((n : ℕ) → getD (f .bytes) n 0 < 256) → (k : ℕ) → readOf f ≡ accepted k
+    → written (contentOf f) ≡ f
+unfolding Restored
+written-read f eight =
+    subst (λ (s : List ℕ). Restored (f .kind) s) (sym (fill 8 (f .bytes)) ∙ fill-whole 8 (f .bytes) eight)
+    (restored _ _ _ _ _ _ _ (f .kind) _)

@@ -1,0 +1,98 @@
+-- Laws on the definitions of specs/ that several proofs cite.
+-- Assumes nothing.
+use Prim.Native.Nat.{ℕ, zero, suc, _+_, _*_, _<_, _≤_}
+use mathlib.Core.Path.{_≡_, refl, sym, ap, _∙_}
+use mathlib.Core.Bool.{Bool, true, false}
+use mathlib.Core.List.{List, [], _∷_}
+use native.Mathlib.Omega.{arith}
+use native.Mathlib.Numerals.{add-one}
+use borrow.Author.Tests.{le-leb, lt-leb, ne-eqb}
+use lib.ListN.{length, getD, drop, drop-of-length-le, List·getD-eq-default}
+use lib.Seq.{drop-cons}
+use Rattle.frame.specs.Count.{frameCountOf, lowByte, highByte, wordOf}
+use Rattle.frame.specs.Choice.{pick}
+use Rattle.frame.specs.Frames.{byteOf, fillTo}
+use Rattle.frame.specs.Reading.{accepted, refused, namedOf, allFiller, readOf}
+use Rattle.frame.specs.declared.Frame.{Frame}
+
+-- What N is: the least number of sevens that hold l.
+pub frame-count-bounds : (l : ℕ) → (l ≤ 7 * frameCountOf l) × (7 * frameCountOf l < l + 7)
+unfolding frameCountOf
+frame-count-bounds l = omega arith
+
+-- A word below 65536 is the word of its two bytes, and the two bytes of a word are those that it was made of.
+pub word-whole : (w : ℕ) → w < 65536 → wordOf (lowByte w) (highByte w) ≡ w
+word-whole w h = omega arith
+
+pub word-low : (low high : ℕ) → low < 256 → lowByte (wordOf low high) ≡ low
+word-low low high l = omega arith
+
+pub word-high : (low high : ℕ) → low < 256 → high < 256 → highByte (wordOf low high) ≡ high
+word-high low high l h = omega arith
+
+-- The byte at a place inside a list does not hang on what stands for a missing one; past the end it is that.
+pub getD-inside : (s : List ℕ) (i d e : ℕ) → i < length s → getD s i d ≡ getD s i e
+getD-inside [] i d e h = absurd (omega arith)
+getD-inside (b ∷ s) zero d e h = refl
+getD-inside (b ∷ s) (suc i) d e h = getD-inside s i d e (omega arith)
+
+pub getD-outside : (s : List ℕ) (i d : ℕ) → length s ≤ i → d ≡ getD s i d
+getD-outside s i d h = sym (List·getD-eq-default s d h)
+
+-- n bytes of s from place k on, 0xFF past its end
+abbrev pub bytesFrom : ℕ → ℕ → List ℕ → List ℕ
+bytesFrom zero k s = []
+bytesFrom (suc n) k s = getD s k 255 ∷ bytesFrom n (suc k) s
+
+-- past the first byte, places count one less
+bytesFrom-tail : (n k b : ℕ) (s : List ℕ) → bytesFrom n (suc k) (b ∷ s) ≡ bytesFrom n k s
+bytesFrom-tail zero k b s = refl
+bytesFrom-tail (suc n) k b s = ap (λ (l : List ℕ). getD s k 255 ∷ l) (bytesFrom-tail n (suc k) b s)
+
+fill-empty : (n k : ℕ) → fillTo n [] ≡ bytesFrom n k []
+unfolding fillTo
+fill-empty zero k = refl
+fill-empty (suc n) k = ap (λ (l : List ℕ). 255 ∷ l) (fill-empty n (suc k))
+
+-- Filling reads the byte at each place: `fill 8 s` is a list of eight of them.
+pub fill : (n : ℕ) (s : List ℕ) → fillTo n s ≡ bytesFrom n 0 s
+unfolding fillTo
+fill zero s = refl
+fill (suc n) [] = ap (λ (l : List ℕ). 255 ∷ l) (fill-empty n 1)
+fill (suc n) (b ∷ s) = ap (λ (l : List ℕ). b ∷ l) (fill n s ∙ sym (bytesFrom-tail n 0 b s))
+
+-- As many bytes as are asked for stay as they are.
+pub fill-whole : (n : ℕ) (s : List ℕ) → length s ≡ n → fillTo n s ≡ s
+unfolding fillTo
+fill-whole zero [] h = refl
+fill-whole zero (b ∷ s) h = absurd (omega arith)
+fill-whole (suc n) [] h = absurd (omega arith)
+fill-whole (suc n) (b ∷ s) h = ap (λ (l : List ℕ). b ∷ l) (fill-whole n s (omega arith))
+
+-- Judging filler from place i on: it goes on past 0xFF, stops at another byte, and passes at the end.
+pub filler-on : (s : List ℕ) (i : ℕ) → i < length s → getD s i 0 ≡ 255 → allFiller (drop i s) ≡ allFiller (drop (i + 1) s)
+unfolding allFiller
+filler-on s i h e = rw (add-one, drop-cons s i 0 h, e)
+
+pub filler-stops : (s : List ℕ) (i : ℕ) → i < length s → (getD s i 0 ≡ 255 → ⊥) → allFiller (drop i s) ≡ false
+unfolding allFiller
+filler-stops s i h e = rw (drop-cons s i 0 h, ne-eqb _ _ e)
+
+pub filler-ends : (s : List ℕ) (i : ℕ) → length s ≤ i → allFiller (drop i s) ≡ true
+unfolding allFiller
+filler-ends s i h = rw (drop-of-length-le s h)
+
+-- Reading goes by the range of the kind, then by the filler.
+pub read-low : (f : Frame) → f .kind < 1 → refused 6 ≡ readOf f
+unfolding readOf pick
+read-low f h = rw (lt-leb _ _ h)
+
+pub read-high : (f : Frame) → 8 ≤ f .kind → refused 6 ≡ readOf f
+unfolding readOf pick
+read-high f h = rw (le-leb 1 (f .kind) (omega arith), lt-leb (f .kind) 7 (omega arith))
+
+pub read-inside : (f : Frame) → 1 ≤ f .kind → f .kind < 8 → (filler : Bool)
+    → filler ≡ allFiller (drop (namedOf (f .kind) (byteOf f 0)) (f .bytes))
+    → pick filler (accepted (f .kind)) (refused 6) ≡ readOf f
+unfolding readOf pick
+read-inside f low high filler e = rw (le-leb 1 (f .kind) low, le-leb (f .kind) 7 (omega arith), e)

@@ -1,0 +1,37 @@
+// Numbers that both ends count with.
+ghost use mathlib.Core.Path.{_≡_};
+ghost use Rattle.frame.specs.Count.{frameCountOf, incrementOf, lowByte, highByte, wordOf};
+
+// How many frames of seven bytes hold a message of this length.
+pub fn frame_count(length: u16) -> u16
+    ensures { λ r. ⌜ r ≡ frameCountOf length ⌝ }
+{
+    ((length as u32 + 6) / 7) as u16
+}
+
+// One more, held at 65535.
+pub fn increment(count: u16) -> u16
+    ensures { λ r. ⌜ r ≡ incrementOf count ⌝ }
+{
+    if count < 65535 { count + 1 } else { 65535 }
+}
+
+// The two bytes of a word.
+pub fn low_byte(word: u16) -> u8
+    ensures { λ r. ⌜ r ≡ lowByte word ⌝ }
+{
+    (word % 256) as u8
+}
+
+pub fn high_byte(word: u16) -> u8
+    ensures { λ r. ⌜ r ≡ highByte word ⌝ }
+{
+    (word / 256) as u8
+}
+
+// The word of two bytes, low byte first.
+pub fn word(low: u8, high: u8) -> u16
+    ensures { λ r. ⌜ r ≡ wordOf low high ⌝ }
+{
+    low as u16 + 256 * (high as u16)
+}
