@@ -8,3 +8,4 @@ pub mod Receives
 pub mod Moves
 pub mod Lives
 pub mod Theorem
+pub mod Example

@@ -2,3 +2,4 @@ pub mod World
 pub mod Step
 pub mod Seen
 pub mod Demand3
+pub mod Example
