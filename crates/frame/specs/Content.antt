@@ -1,8 +1,8 @@
 -- What a frame says, in document 01's words: the fields that its kind names. Writing gives the frame, reading the fields
 -- back; `proofs/Inverse.antt` shows that each undoes the other.
-use Prim.Native.Nat.{ℕ, suc, _≤_, _<_}
+use Prim.Native.Nat.{ℕ, _≤_, _<_}
 use mathlib.Core.Path.{_≡_}
-use mathlib.Core.List.{List, [], _∷_}
+use mathlib.Core.List.{List}
 use lib.Dec.{eqb}
 use lib.ListN.{length, drop}
 use Rattle.frame.specs.Choice.{pick}

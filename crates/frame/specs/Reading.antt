@@ -1,7 +1,7 @@
 -- Document 01, Refusals, hearing: "6 kind not 1 to 7, or filler not 0xFF (never judged in kind 1 from number 1, nor
 -- kinds 5, 7)".
 use Prim.Native.Nat.{ℕ}
-use mathlib.Core.Bool.{Bool, true, false, _&&_}
+use mathlib.Core.Bool.{Bool, true, _&&_}
 use mathlib.Core.List.{List, [], _∷_}
 use lib.Dec.{eqb, leb}
 use lib.ListN.{drop}

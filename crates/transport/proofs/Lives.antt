@@ -1,16 +1,14 @@
 -- What each call does to the world beside what has been seen since the last accepted begin.
-use Prim.Native.Nat.{ℕ, _+_, _≤_, _<_}
-use mathlib.Core.Bool.{Bool, true, false, not, _&&_}
+use Prim.Native.Nat.{ℕ, _≤_, _<_}
+use mathlib.Core.Bool.{Bool, true, false}
 use mathlib.Core.List.{List, [], _∷_, _++_, append-nil}
-use mathlib.Core.Path.{_≡_, refl, sym, ap, _∙_, subst, subst⁻¹}
+use mathlib.Core.Path.{_≡_, refl, _∙_}
 use native.Mathlib.Nat.{add-zero}
 use native.Mathlib.Omega.{arith}
-use borrow.Author.Tests.{leb-true, leb-false, eqb-true}
-use lib.Dec.{leb, eqb}
+use borrow.Author.Tests.{leb-true, leb-false}
+use lib.Dec.{leb}
 use lib.ListN.{length}
-use Rattle.frame.specs.Choice.{pick}
 use Rattle.frame.specs.Frames.{fillTo, smRmOf}
-use Rattle.frame.specs.Reading.{readOf}
 use Rattle.frame.specs.declared.Frame.{Frame}
 use Rattle.receiver.specs.Hear as receiver-hear
 use Rattle.receiver.specs.Tick as receiver-tick
@@ -24,16 +22,16 @@ use Rattle.sender.specs.Hear.{hearOf}
 use Rattle.sender.specs.Tick.{tickOf}
 use Rattle.sender.specs.Told.{Told}
 use Rattle.sender.specs.declared.Phase.{Phase}
-use Rattle.sender.specs.declared.Phase.the-variants.{Idle, Opening, Sending, Waiting, Short}
+use Rattle.sender.specs.declared.Phase.the-variants.{Idle}
 use Rattle.sender.specs.declared.Sender.{Sender}
 use Rattle.sender.specs.declared.Settings.{Settings}
-use Rattle.transport.proofs.Choices.{pick-elim, both-left, both-right}
+use Rattle.transport.proofs.Choices.{pick-elim, both-right}
 use Rattle.transport.proofs.Lines.{Line, none, more, joins, widens, behind, none-late, joins-late}
 use Rattle.transport.proofs.Moves.{Fits, Took, left-line, Unrefused, stage-tick, stage-hear, stage-leaving, stage-back}
 use Rattle.transport.proofs.Receives.{receiverIn, reads-short}
 use Rattle.transport.proofs.Sends.{Ticks, over, kept, waits, adds, long-tick, short-tick, Hears, stays, finishes, Acked, same, windowed, long-ack, long-nack, long-end, short-end, Rests, ignores, refuses, idle-tick, idle-hear}
 use Rattle.transport.proofs.Stages as stages
-use Rattle.transport.proofs.Stages.{senderIn, framesOf, announces, Adds, announcement, information, Replies, Refuses, Closes, Moving, Stage, fresh, asked, going, there, Lone, lone, Echoes, echoes, Repeats, repeats, Live, resting, long, short}
+use Rattle.transport.proofs.Stages.{senderIn, framesOf, announces, Adds, announcement, information, Replies, Moving, Stage, fresh, asked, going, there, Lone, lone, Echoes, echoes, Repeats, repeats, Live, resting, long, short}
 use Rattle.transport.proofs.Timing.{Shut}
 use Rattle.transport.specs.Demand3.{Copies, Exactly, HadReport, SentMeans, LentMessage, AgainAfter}
 use Rattle.transport.specs.Seen.{taken, one, senderReports, deliveriesBy, Begun, never, since, further, begunBy, begins}

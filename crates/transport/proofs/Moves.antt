@@ -1,29 +1,25 @@
 -- What the receiver's calls do to a long transfer's stage: each leaves a stage behind, with what was delivered added.
-use Prim.Native.Nat.{ℕ, _+_, _≤_, _<_}
+use Prim.Native.Nat.{ℕ, _≤_, _<_}
 use mathlib.Core.Bool.{Bool, true, false, not}
 use mathlib.Core.List.{List, [], _∷_, _++_, append-nil}
-use mathlib.Core.Path.{_≡_, refl, sym, ap, ap₂, _∙_, subst, subst⁻¹}
+use mathlib.Core.Path.{_≡_, refl, ap, ap₂, _∙_, subst⁻¹}
 use native.Mathlib.Omega.{arith}
 use borrow.Author.Tests.{eqb-true}
-use lib.Dec.{eqb}
-use lib.ListN.{length, take}
-use Rattle.frame.specs.Choice.{pick}
+use lib.ListN.{length}
 use Rattle.frame.specs.Count.{frameCountOf}
-use Rattle.frame.specs.Frames.{fillTo, partFrom, announcementOf, endOfAckOf}
+use Rattle.frame.specs.Frames.{fillTo, partFrom, endOfAckOf}
 use Rattle.frame.specs.Reading.{readOf}
 use Rattle.frame.specs.declared.Frame.{Frame}
 use Rattle.receiver.specs.Hear.{hearOf, hearRead, hearAnnouncement, hearInformation, announceIdle, announceOpen, opening, informationOpen, stored}
 use Rattle.receiver.specs.Tick.{tickOf, tickPhase}
 use Rattle.receiver.specs.Told.{Told, Heard, heard}
-use Rattle.receiver.specs.declared.Connection.{Connection}
-use Rattle.receiver.specs.declared.Delivery.{Delivery}
 use Rattle.receiver.specs.declared.Phase.{Phase}
 use Rattle.receiver.specs.declared.Phase.the-variants.{Idle, Done, Open}
 use Rattle.receiver.specs.declared.Receiver.{Receiver}
 use Rattle.receiver.specs.declared.Settings.{Settings}
 use Rattle.sender.specs.Tick.{informationAt}
 use Rattle.transport.proofs.Choices.{pick-elim}
-use Rattle.transport.proofs.Lines.{Line, none, more, joins, widens, behind, Ordered, late, early, behind-ordered}
+use Rattle.transport.proofs.Lines.{Line, more, joins, widens, behind, Ordered, late, early, behind-ordered}
 use Rattle.transport.proofs.Receives.{receiverIn, reads-announcement, reads-information, Goes, silent, replies, fails, Ends, goes, ends, half-tick, half-announcement, half-information}
 use Rattle.transport.proofs.Stages as stages
 use Rattle.transport.proofs.Stages.{framesOf, Announces, announces, Carries, carries, Refuses, Replies, grants, Closes, Halfway, closed, opened, Stage, fresh, asked, going, there}

@@ -1,12 +1,12 @@
 -- Frame i carries the message's bytes from 7(i−1) on. Stored where the bytes before them are the message's, they leave
 -- one piece more of the message at the front of the buffer; after the last, the whole message.
-use Prim.Native.Nat.{ℕ, zero, suc, _+_, _-_, _*_, _/_, _≤_, _<_, min}
+use Prim.Native.Nat.{ℕ, zero, suc, _+_, _-_, _*_, _≤_, _<_}
 use mathlib.Core.List.{List, [], _∷_, _++_}
 use mathlib.Core.Path.{_≡_, refl, sym, ap, _∙_}
 use native.Mathlib.Nat.{le-of-suc-le-suc, not-suc-le-zero}
 use native.Mathlib.Omega.{arith}
 use lib.ListN.{length, take, drop, length-drop}
-use lib.Seq.{paste, take-paste, take-add, take-all}
+use lib.Seq.{take-paste, take-add, take-all}
 use Rattle.frame.specs.Count.{frameCountOf}
 use Rattle.frame.specs.Frames.{fillTo, partFrom}
 use Rattle.receiver.specs.Hear.{storing, carried}

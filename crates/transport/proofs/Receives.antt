@@ -1,32 +1,30 @@
 -- What the receiver does in a long transfer, at a tick and at each frame that the sender of that transfer emits.
-use Prim.Native.Nat.{ℕ, _+_, _-_, _*_, _/_, _%_, _≤_, _<_, min}
-use mathlib.Core.Bool.{Bool, true, false, not, _&&_}
-use mathlib.Core.List.{List, [], _∷_, _++_, append-nil}
-use mathlib.Core.Path.{_≡_, refl, sym, ap, _∙_, subst, subst⁻¹}
+use Prim.Native.Nat.{ℕ, _+_, _-_, _*_, _≤_, _<_}
+use mathlib.Core.Bool.{true, false}
+use mathlib.Core.List.{List, []}
+use mathlib.Core.Path.{_≡_, refl, ap, _∙_, subst⁻¹}
 use native.Mathlib.Nat.{le-of-eq}
 use native.Mathlib.Omega.{arith}
-use borrow.Author.Tests.{leb-true, leb-false, ltb-true, ltb-false, eqb-true, eqb-false, eq-eqb, ne-eqb}
-use lib.Dec.{eqb, leb, ltb}
+use borrow.Author.Tests.{ltb-true, eqb-true, eqb-false, ne-eqb}
+use lib.Dec.{eqb}
 use lib.ListN.{length, take, drop, drop-of-length-le}
 use Rattle.frame.specs.Choice.{pick}
-use Rattle.frame.specs.Count.{frameCountOf, lowByte, highByte, wordOf}
-use Rattle.frame.specs.Frames.{byteOf, fillTo, partFrom, announcementOf, informationOf, lmAckOf, lmNackOf, endOfAckOf, smRmOf, smAckOf}
+use Rattle.frame.specs.Count.{lowByte, highByte, wordOf}
+use Rattle.frame.specs.Frames.{byteOf, fillTo, partFrom, announcementOf, informationOf, endOfAckOf, smRmOf, smAckOf}
 use Rattle.frame.specs.Reading.{readOf, namedOf, allFiller}
 use Rattle.frame.specs.declared.Frame.{Frame}
-use Rattle.receiver.specs.Hear.{hearOf, hearRead, hearKind, hearNumbered, hearAnnouncement, hearInformation, announceIdle, announceOpen, opening, informationOpen, stored, storing}
-use Rattle.receiver.specs.Tick.{tickOf, tickPhase, tickOpen, windowOf}
-use Rattle.receiver.specs.Told.{Told, Heard, heard, quiet, refused, delivered, failed, short, silently, emitting, refusing, shortWith}
+use Rattle.receiver.specs.Hear.{hearRead, hearKind, hearNumbered, hearAnnouncement, hearInformation, announceIdle, announceOpen, opening, informationOpen, stored, storing}
+use Rattle.receiver.specs.Tick.{tickOf, tickPhase, tickOpen}
+use Rattle.receiver.specs.Told.{Told, Heard, heard, quiet, delivered, failed, shortWith}
 use Rattle.receiver.specs.declared.Connection.{Connection}
-use Rattle.receiver.specs.declared.Delivery.{Delivery}
 use Rattle.receiver.specs.declared.Phase.{Phase}
 use Rattle.receiver.specs.declared.Phase.the-variants.{Idle, Done, Open}
 use Rattle.receiver.specs.declared.Receiver.{Receiver}
 use Rattle.receiver.specs.declared.Settings.{Settings}
 use Rattle.sender.specs.Tick.{informationAt}
-use Rattle.transport.proofs.Choices.{pick-elim, both-left, both-right}
+use Rattle.transport.proofs.Choices.{pick-elim}
 use Rattle.transport.proofs.Pieces.{length-fill, next-stored, last-stored}
 use Rattle.transport.proofs.Stages.{framesOf, Replies, grants, refuses, Halfway, closed, opened}
-use Rattle.transport.specs.Step.{wasRefused}
 
 abbrev pub receiverIn : Settings → Phase → Receiver
 receiverIn rs q = record { settings = rs; phase = q }

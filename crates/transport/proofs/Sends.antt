@@ -1,22 +1,22 @@
 -- What the sender does in a transfer: at a tick it goes on, with a frame of the transfer or none, or fails; at a frame
 -- heard it goes on, takes up a window, or finishes.
-use Prim.Native.Nat.{ℕ, _+_, _-_, _*_, _≤_, _<_, min}
-use mathlib.Core.Bool.{Bool, true, false, _&&_, _||_}
-use mathlib.Core.List.{List, [], _∷_}
-use mathlib.Core.Path.{_≡_, refl, sym, ap, ap₂, _∙_, subst⁻¹}
+use Prim.Native.Nat.{ℕ, _+_, _-_, _≤_, _<_, min}
+use mathlib.Core.Bool.{Bool, true, false, _||_}
+use mathlib.Core.List.{List}
+use mathlib.Core.Path.{_≡_, refl, ap, ap₂, _∙_, subst⁻¹}
 use native.Mathlib.Omega.{arith}
-use borrow.Author.Tests.{leb-true, leb-false, ltb-true, ltb-false, eqb-true, eqb-false}
+use borrow.Author.Tests.{leb-false, ltb-false, eqb-false}
 use lib.Dec.{eqb, leb, ltb}
 use lib.ListN.{length}
 use Rattle.frame.specs.Choice.{pick}
-use Rattle.frame.specs.Count.{incrementOf, frameCountOf}
-use Rattle.frame.specs.Frames.{byteOf, wordAt, announcementOf, informationOf, lmAckOf, lmNackOf, endOfAckOf, smRmOf, smAckOf}
+use Rattle.frame.specs.Count.{incrementOf}
+use Rattle.frame.specs.Frames.{wordAt, announcementOf, lmAckOf, lmNackOf, endOfAckOf, smAckOf}
 use Rattle.frame.specs.Reading.{readOf, namedOf, allFiller}
 use Rattle.frame.specs.declared.Frame.{Frame}
 use Rattle.sender.specs.Hear.{hearOf, hearRead, hearKind, hearAck, hearNack, hearEnd, hearShortAck, ackOpening, ackWindow, taking, ifWhole}
-use Rattle.sender.specs.State.{aged, counted, inPhase}
-use Rattle.sender.specs.Tick.{tickOf, tickPhase, tickOpening, tickSending, tickWaiting, tickShort, afterFrame, informationAt}
-use Rattle.sender.specs.Told.{Told, quiet, refused, sent, failed, silently, emitting, refusing}
+use Rattle.sender.specs.State.{aged, counted}
+use Rattle.sender.specs.Tick.{tickOf, tickPhase, tickOpening, tickSending, tickWaiting, tickShort, afterFrame}
+use Rattle.sender.specs.Told.{Told, quiet, refused, sent, failed, refusing}
 use Rattle.sender.specs.declared.Announced.{Announced}
 use Rattle.sender.specs.declared.Awaited.{Awaited}
 use Rattle.sender.specs.declared.Phase.{Phase}

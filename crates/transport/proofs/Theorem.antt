@@ -1,40 +1,33 @@
 -- Demand 3. What the calls keep (`Lives`) and the receiver's time (`Timing`) hold from the start on, along every list of
 -- calls that meets the conditions, and the promise is read off them.
-use Prim.Native.Nat.{ℕ, _+_, _*_, _≤_, _<_}
-use mathlib.Core.Bool.{Bool, true, false, not, _&&_, false≢true}
-use mathlib.Core.List.{List, [], _∷_, _++_, append-nil}
-use mathlib.Core.Path.{_≡_, refl, sym, ap, _∙_, subst, subst⁻¹}
-use native.Mathlib.Nat.{add-zero}
+use Prim.Native.Nat.{ℕ, _≤_}
+use mathlib.Core.Bool.{Bool, true, false, _&&_, false≢true}
+use mathlib.Core.List.{List, [], _∷_}
+use mathlib.Core.Path.{_≡_, refl, subst}
 use native.Mathlib.Omega.{arith}
 use borrow.Author.Tests.{leb-true}
 use lib.Dec.{leb}
-use lib.ListN.{length}
 use Rattle.frame.specs.Choice.{pick}
 use Rattle.frame.specs.declared.Frame.{Frame}
-use Rattle.receiver.specs.Hear as receiver-hear
 use Rattle.receiver.specs.Tick as receiver-tick
 use Rattle.receiver.specs.Told as receiver
 use Rattle.receiver.specs.declared.Phase.the-variants as at
 use Rattle.receiver.specs.declared.Receiver.{Receiver}
 use Rattle.receiver.specs.declared.Settings as receiver-settings
 use Rattle.sender.specs.Begin as sender-making
-use Rattle.sender.specs.Begin.{beginOf}
-use Rattle.sender.specs.Hear.{hearOf}
-use Rattle.sender.specs.Tick.{tickOf}
 use Rattle.sender.specs.Told as sender
 use Rattle.sender.specs.declared.Phase.the-variants.{Idle}
 use Rattle.sender.specs.declared.Sender.{Sender}
 use Rattle.sender.specs.declared.Settings.{Settings}
 use Rattle.transport.proofs.Choices.{both-left, both-right}
-use Rattle.transport.proofs.Lives.{Acted, Began, Found, Received, tick-live, hear-live, begin-live, receiver-tick-live, receiver-hear-live, lose-forward-live, lose-back-live, idle-live}
-use Rattle.transport.proofs.Moves.{Unrefused}
+use Rattle.transport.proofs.Lives.{Acted, Received, tick-live, hear-live, begin-live, receiver-tick-live, receiver-hear-live, lose-forward-live, lose-back-live, idle-live}
 use Rattle.transport.proofs.Receives.{receiverIn}
 use Rattle.transport.proofs.Stages.{senderIn, Live, resting, long, short}
-use Rattle.transport.proofs.Timing.{Shut, Within, Timed, before, between, during, Listened, timed-later, tick-timed, hear-timed, in-time}
-use Rattle.transport.specs.Demand3.{LentMessage, Condition, Conditions, SentMeans, Reported, HadReport, AgainAfter, Finished, Sent, Again, Promise, Demand3, fresh}
-use Rattle.transport.specs.Seen.{taken, one, senderReports, Begun, Opened, further, later, begunBy, begunAfter, begunIn, openedAfter, openedIn, idle, announces, firstAck, receiverReports, listened, other, sortOf}
-use Rattle.transport.specs.Step.{Stepped, emission, unheard, bySender, byReceiver, Rest, gone, still, leaving, givenForward, givenBack, dropped, stepOf, Past, next, runOf}
-use Rattle.transport.specs.World.{World, Call, begin, senderTick, receiverTick, hearForward, repeatForward, loseForward, hearBack, repeatBack, loseBack, Event, nobody, toSender, toReceiver, startOf}
+use Rattle.transport.proofs.Timing.{Shut, Timed, before, between, during, Listened, timed-later, tick-timed, hear-timed, in-time}
+use Rattle.transport.specs.Demand3.{Condition, Conditions, Reported, Finished, Sent, Again, Promise, Demand3, fresh}
+use Rattle.transport.specs.Seen.{Begun, Opened, further, begunAfter, begunIn, openedAfter, openedIn, idle, listened, other, sortOf}
+use Rattle.transport.specs.Step.{Stepped, unheard, bySender, byReceiver, Rest, gone, still, leaving, givenForward, givenBack, stepOf, Past, next, runOf}
+use Rattle.transport.specs.World.{World, Call, begin, senderTick, receiverTick, hearForward, repeatForward, loseForward, hearBack, repeatBack, loseBack, Event, toSender, toReceiver}
 
 -- what holds of the world and the events after every call
 record Holds (st : Settings) (rs : receiver-settings.Settings) (w : World) (events : List Event) : Type 0 where

@@ -1,21 +1,20 @@
 -- The receiver's time. While a connection is open, its ticks are at most T for each timeout that its state can still tell
 -- of, three for each frame before the one expected, and the wait; so a connection is over by 3 × T × N.
-use Prim.Native.Nat.{ℕ, _+_, _-_, _*_, _/_, _≤_, _<_, min}
-use mathlib.Core.Bool.{Bool, true, false, not, _&&_, and-false}
-use mathlib.Core.List.{List, [], _∷_}
-use mathlib.Core.Path.{_≡_, refl, sym, ap, _∙_}
+use Prim.Native.Nat.{ℕ, _+_, _-_, _*_, _≤_, _<_}
+use mathlib.Core.Bool.{Bool, true, false, _&&_, and-false}
+use mathlib.Core.List.{List}
+use mathlib.Core.Path.{_≡_, refl}
 use native.Mathlib.Nat.{add-zero, mul-le-mul-left}
 use native.Mathlib.Omega.{arith}
-use borrow.Author.Tests.{leb-true, leb-false, ltb-true, ltb-false, eqb-true, eqb-false}
-use lib.Dec.{eqb, leb, ltb}
+use borrow.Author.Tests.{leb-true, leb-false, eqb-true, eqb-false}
+use lib.Dec.{eqb, leb}
 use Rattle.frame.specs.Choice.{pick}
 use Rattle.frame.specs.Count.{incrementOf, frameCountOf}
-use Rattle.frame.specs.Frames.{byteOf, blankOf, lmAckOf, lmNackOf, endOfAckOf, smAckOf}
-use Rattle.frame.specs.Reading.{readOf}
+use Rattle.frame.specs.Frames.{byteOf, lmAckOf, lmNackOf, endOfAckOf, smAckOf}
 use Rattle.frame.specs.declared.Frame.{Frame}
 use Rattle.receiver.specs.Hear.{hearOf, hearRead, hearKind, hearNumbered, hearAnnouncement, hearInformation, hearNack, announcesWell, announceIdle, announceOpen, opening, informationOpen, stored}
 use Rattle.receiver.specs.Tick.{tickOf, tickPhase, tickOpen, windowOf}
-use Rattle.receiver.specs.Told.{Told, Heard, heard}
+use Rattle.receiver.specs.Told.{Told, Heard}
 use Rattle.receiver.specs.declared.Connection.{Connection}
 use Rattle.receiver.specs.declared.Phase.{Phase}
 use Rattle.receiver.specs.declared.Phase.the-variants.{Idle, Done, Open}

@@ -22,8 +22,8 @@ use Rattle.sender.specs.Begin as sender-making
 use Rattle.sender.specs.Told as sender
 use Rattle.sender.specs.declared.Sender.{Sender}
 use Rattle.transport.specs.Seen.{taken, Begun, Opened, begunIn, openedIn, idle, listened, Sort, begins, ticksSender, ticksReceiver, other, sortOf}
-use Rattle.transport.specs.Step.{Stepped, stepOf, Past, next, runOf}
-use Rattle.transport.specs.World.{World, Call, begin, senderTick, receiverTick, hearForward, repeatForward, loseForward, hearBack, repeatBack, loseBack, Event, startOf}
+use Rattle.transport.specs.Step.{stepOf, Past, next, runOf}
+use Rattle.transport.specs.World.{Call, begin, senderTick, receiverTick, hearForward, repeatForward, loseForward, hearBack, repeatBack, loseBack, Event, startOf}
 
 -- ---- the conditions
 
