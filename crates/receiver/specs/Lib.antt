@@ -1,3 +1,4 @@
 pub mod Told
 pub mod Tick
 pub mod Hear
+pub mod Reachable

@@ -1,4 +1,13 @@
 // The receiving end: its settings, its state and its answers. State goes in and out by value.
+mod announce;
+mod answers;
+mod hear;
+mod information;
+mod make;
+mod store;
+mod tick;
+mod window;
+
 use frame::Frame;
 
 // Timeout T in ticks, window C in frames, capacity K in bytes.

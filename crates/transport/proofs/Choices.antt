@@ -1,22 +1,9 @@
--- How a fact is shown of a choice: on each side, with the test's outcome in hand.
+-- What a test of two halves tells, and a count that is not held back.
 use Prim.Native.Nat.{ℕ, _+_, _<_}
 use mathlib.Core.Bool.{Bool, true, false, _&&_, _||_, false≢true, true≢false}
 use mathlib.Core.Path.{_≡_, refl}
 use native.Mathlib.Omega.{arith}
-use Rattle.frame.specs.Choice.{pick}
 use Rattle.frame.specs.Count.{incrementOf}
-use Rattle.frame.specs.Reading.{Judgement, accepted, refused, readOf}
-use Rattle.frame.specs.declared.Frame.{Frame}
-
-pub pick-elim : {A : Type 0} (P : A → Type 0) (b : Bool) {x y : A} → (b ≡ true → P x) → (b ≡ false → P y) → P (pick b x y)
-unfolding pick
-pick-elim P true f g = f refl
-pick-elim P false f g = g refl
-
--- a frame is read as its own kind, or refused 6
-pub read-elim : (P : Judgement → Type 0) (f : Frame) → P (accepted (f .kind)) → P (refused 6) → P (readOf f)
-unfolding readOf
-read-elim P f whole bad = pick-elim P _ (λ known. pick-elim P _ (λ clean. whole) (λ dirty. bad)) (λ unknown. bad)
 
 -- the two halves of a test that passed
 pub both-left : (a b : Bool) → (a && b) ≡ true → a ≡ true

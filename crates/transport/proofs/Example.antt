@@ -18,7 +18,7 @@ use Rattle.sender.specs.Tick as sender-tick
 use Rattle.sender.specs.declared.Sender.{Sender}
 use Rattle.transport.specs.Demand3.{LentMessage, Condition, Conditions, fresh}
 use Rattle.transport.specs.Example.{callFor, callsFor, shownBefore, exampleStart, exampleCalls, exampleShown}
-use Rattle.transport.proofs.Choices.{pick-elim}
+use Rattle.frame.proofs.Choice.{pick-elim}
 use Rattle.transport.specs.Seen.{Sort, begins, ticksSender, ticksReceiver, other, sortOf, taken, Begun, further, begunBy, begunIn, begunAfter, openedIn}
 use Rattle.transport.specs.Step.{Rest, gone, still, givenForward, givenBack, stepOf, Past, next, runOf}
 use Rattle.transport.specs.World.{World, Call, begin, senderTick, receiverTick, hearForward, repeatForward, loseForward, hearBack, repeatBack, loseBack}

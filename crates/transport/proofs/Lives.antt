@@ -25,7 +25,8 @@ use Rattle.sender.specs.declared.Phase.{Phase}
 use Rattle.sender.specs.declared.Phase.the-variants.{Idle}
 use Rattle.sender.specs.declared.Sender.{Sender}
 use Rattle.sender.specs.declared.Settings.{Settings}
-use Rattle.transport.proofs.Choices.{pick-elim, both-right}
+use Rattle.frame.proofs.Choice.{pick-elim}
+use Rattle.transport.proofs.Choices.{both-right}
 use Rattle.transport.proofs.Lines.{Line, none, more, joins, widens, behind, none-late, joins-late}
 use Rattle.transport.proofs.Moves.{Fits, Took, left-line, Unrefused, stage-tick, stage-hear, stage-leaving, stage-back}
 use Rattle.transport.proofs.Receives.{receiverIn, reads-short}

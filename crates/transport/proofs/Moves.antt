@@ -18,7 +18,7 @@ use Rattle.receiver.specs.declared.Phase.the-variants.{Idle, Done, Open}
 use Rattle.receiver.specs.declared.Receiver.{Receiver}
 use Rattle.receiver.specs.declared.Settings.{Settings}
 use Rattle.sender.specs.Tick.{informationAt}
-use Rattle.transport.proofs.Choices.{pick-elim}
+use Rattle.frame.proofs.Choice.{pick-elim}
 use Rattle.transport.proofs.Lines.{Line, more, joins, widens, behind, Ordered, late, early, behind-ordered}
 use Rattle.transport.proofs.Receives.{receiverIn, reads-announcement, reads-information, Goes, silent, replies, fails, Ends, goes, ends, half-tick, half-announcement, half-information}
 use Rattle.transport.proofs.Stages as stages

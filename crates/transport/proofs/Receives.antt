@@ -9,8 +9,8 @@ use borrow.Author.Tests.{ltb-true, eqb-true, eqb-false, ne-eqb}
 use lib.Dec.{eqb}
 use lib.ListN.{length, take, drop, drop-of-length-le}
 use Rattle.frame.specs.Choice.{pick}
-use Rattle.frame.specs.Count.{lowByte, highByte, wordOf}
 use Rattle.frame.specs.Frames.{byteOf, fillTo, partFrom, announcementOf, informationOf, endOfAckOf, smRmOf, smAckOf}
+use Rattle.frame.proofs.Laws.{word-whole}
 use Rattle.frame.specs.Reading.{readOf, namedOf, allFiller}
 use Rattle.frame.specs.declared.Frame.{Frame}
 use Rattle.receiver.specs.Hear.{hearRead, hearKind, hearNumbered, hearAnnouncement, hearInformation, announceIdle, announceOpen, opening, informationOpen, stored, storing}
@@ -22,7 +22,7 @@ use Rattle.receiver.specs.declared.Phase.the-variants.{Idle, Done, Open}
 use Rattle.receiver.specs.declared.Receiver.{Receiver}
 use Rattle.receiver.specs.declared.Settings.{Settings}
 use Rattle.sender.specs.Tick.{informationAt}
-use Rattle.transport.proofs.Choices.{pick-elim}
+use Rattle.frame.proofs.Choice.{pick-elim}
 use Rattle.transport.proofs.Pieces.{length-fill, next-stored, last-stored}
 use Rattle.transport.proofs.Stages.{framesOf, Replies, grants, refuses, Halfway, closed, opened}
 
@@ -35,16 +35,12 @@ receiverIn rs q = record { settings = rs; phase = q }
 drop-fill : (n : ℕ) (given : List ℕ) → drop n (fillTo n given) ≡ []
 drop-fill n given = drop-of-length-le (fillTo n given) (le-of-eq (length-fill n given))
 
--- a length up to 65535 is read back from its two bytes
-word-back : (length : ℕ) → length < 65536 → wordOf (lowByte length) (highByte length) ≡ length
-word-back length h = omega arith
-
 pub reads-announcement : (r : Receiver) (frames length : ℕ) (lent : List ℕ) → length < 65536
     → hearRead r (announcementOf frames length) lent (readOf (announcementOf frames length))
     ≡ heard (hearAnnouncement r (r .phase) frames length) lent
 unfolding hearRead hearKind hearNumbered readOf namedOf allFiller pick announcementOf
 reads-announcement r frames length lent h =
-    ap (λ (l : ℕ). heard (hearAnnouncement r (r .phase) frames l) lent) (word-back length h)
+    ap (λ (l : ℕ). heard (hearAnnouncement r (r .phase) frames l) lent) (word-whole length h)
 
 pub reads-information : (r : Receiver) (number : ℕ) (m lent : List ℕ) → 1 ≤ number
     → hearRead r (informationAt number m) lent (readOf (informationAt number m))

@@ -26,7 +26,8 @@ use Rattle.sender.specs.declared.Settings.{Settings}
 use Rattle.sender.specs.declared.Single.{Single}
 use Rattle.sender.specs.declared.Streamed.{Streamed}
 use Rattle.sender.specs.declared.Transfer.{Transfer}
-use Rattle.transport.proofs.Choices.{pick-elim, read-elim, neither-left, neither-right, increment-is}
+use Rattle.frame.proofs.Choice.{pick-elim, read-elim}
+use Rattle.transport.proofs.Choices.{neither-left, neither-right, increment-is}
 use Rattle.transport.proofs.Stages.{senderIn, framesOf, announces, carries, Adds, announcement, information, Keeps, Moving, opening, sending, waiting, Lone, lone, Repeats, repeats}
 use Rattle.transport.specs.Seen.{taken}
 

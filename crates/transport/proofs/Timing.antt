@@ -20,7 +20,8 @@ use Rattle.receiver.specs.declared.Phase.{Phase}
 use Rattle.receiver.specs.declared.Phase.the-variants.{Idle, Done, Open}
 use Rattle.receiver.specs.declared.Receiver.{Receiver}
 use Rattle.receiver.specs.declared.Settings.{Settings}
-use Rattle.transport.proofs.Choices.{pick-elim, read-elim, both-left, both-right, increment-is}
+use Rattle.frame.proofs.Choice.{pick-elim, read-elim}
+use Rattle.transport.proofs.Choices.{both-left, both-right, increment-is}
 use Rattle.transport.specs.Seen.{Opened, never, since, later, idle, announces, firstAck, receiverReports}
 use Rattle.transport.specs.Step.{emission}
 use Rattle.transport.specs.World.{toReceiver}

@@ -1,0 +1,26 @@
+-- How a fact is shown of a choice: by its test's outcome, or on each side with the outcome in hand.
+-- Assumes nothing.
+use mathlib.Core.Path.{_≡_, refl}
+use mathlib.Core.Bool.{Bool, true, false}
+use Rattle.frame.specs.Choice.{pick}
+use Rattle.frame.specs.Reading.{Judgement, accepted, refused, readOf}
+use Rattle.frame.specs.declared.Frame.{Frame}
+
+pub pick-true : {A : Type 0} {b : Bool} {a x : A} (y : A) → b ≡ true → a ≡ x → a ≡ pick b x y
+unfolding pick
+pick-true y t e = rw t e
+
+pub pick-false : {A : Type 0} {b : Bool} {a y : A} (x : A) → b ≡ false → a ≡ y → a ≡ pick b x y
+unfolding pick
+pick-false x t e = rw t e
+
+-- what holds on both sides of a choice holds of it
+pub pick-elim : {A : Type 0} (P : A → Type 0) (b : Bool) {x y : A} → (b ≡ true → P x) → (b ≡ false → P y) → P (pick b x y)
+unfolding pick
+pick-elim P true f g = f refl
+pick-elim P false f g = g refl
+
+-- a frame is read as its own kind, or refused 6
+pub read-elim : (P : Judgement → Type 0) (f : Frame) → P (accepted (f .kind)) → P (refused 6) → P (readOf f)
+unfolding readOf
+read-elim P f whole bad = pick-elim P _ (λ known. pick-elim P _ (λ clean. whole) (λ dirty. bad)) (λ unknown. bad)

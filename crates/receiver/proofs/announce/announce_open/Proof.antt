@@ -1,0 +1,36 @@
+-- `receiver::announce::announce_open` meets its contract. One law for each of its two answers: the LM_ACK again,
+-- nothing.
+-- Assumes nothing.
+use borrow.Author.Needs.{needs}
+use Rattle.receiver.proofs.Laws.{announces}
+use Rattle.receiver.proofs.announce.announce_open.Statement.{statement}
+use Rattle.receiver.proofs.announce.announce_open.Tie as tie
+
+announced-again-requires : tie.Need-announced-again-requires
+announced-again-requires c κs = search needs
+
+lm-ack-requires : tie.Need-lm-ack-requires
+lm-ack-requires c κs = search needs
+
+emit-requires : tie.Need-emit-requires
+emit-requires c κs = search needs
+
+stay-quiet-requires : tie.Need-stay-quiet-requires
+stay-quiet-requires c κs = search needs
+
+returns : tie.Need-returns
+returns c = search announces
+
+returns-2 : tie.Need-returns-2
+returns-2 c = search announces
+
+pub announce-open-spec : {M : Type 1} → statement M
+announce-open-spec =
+    tie.close
+    (tie.spec
+    announced-again-requires
+    lm-ack-requires
+    emit-requires
+    stay-quiet-requires
+    returns
+    returns-2)

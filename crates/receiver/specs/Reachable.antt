@@ -1,0 +1,76 @@
+-- The states that making and calls bring a receiver to, what holds of them, and that in them the definitions' tests and
+-- counts are document 01's own. `proofs/Reachable.antt` proves both.
+use Prim.Native.Nat.{ℕ, _+_, _-_, _*_, _≤_, _<_}
+use mathlib.Core.Path.{_≡_}
+use mathlib.Core.List.{List}
+use lib.Dec.{eqb, leb}
+use Rattle.frame.specs.Count.{frameCountOf, incrementOf}
+use Rattle.frame.specs.declared.Frame.{Frame}
+use Rattle.receiver.specs.Hear.{carried, hearOf}
+use Rattle.receiver.specs.Tick.{makeOf, windowOf, tickOf}
+use Rattle.receiver.specs.Told.{made}
+use Rattle.receiver.specs.declared.Connection.{Connection}
+use Rattle.receiver.specs.declared.Phase.{Phase}
+use Rattle.receiver.specs.declared.Phase.the-variants.{Idle, Done, Open}
+use Rattle.receiver.specs.declared.Receiver.{Receiver}
+use Rattle.receiver.specs.declared.Settings.{Settings}
+
+-- a receiver that making answered, and what a tick, or a hearing of any frame with any buffer, leaves of a reachable
+-- one
+pub data Reachable : Receiver → Type 0 where
+  new : {r : Receiver} (timeout window capacity : ℕ) → makeOf timeout window capacity ≡ made r → Reachable r
+  ticked : {r : Receiver} → Reachable r → Reachable (tickOf r .next)
+  hearing : {r : Receiver} → Reachable r → (f : Frame) (buffer : List ℕ) → Reachable (hearOf r f buffer .told .next)
+
+-- "T 1 to 10000", "window C 1 to 255, capacity K 9 to 1785"
+pub record SettingsWithin (s : Settings) : Type 0 where
+  pub timeoutLow : 1 ≤ s .timeout
+  pub timeoutHigh : s .timeout ≤ 10000
+  pub windowLow : 1 ≤ s .window
+  pub windowHigh : s .window ≤ 255
+  pub capacityLow : 9 ≤ s .capacity
+  pub capacityHigh : s .capacity ≤ 1785
+
+-- an N and an L that were announced and had space
+pub record Announced (s : Settings) (frames length : ℕ) : Type 0 where
+  pub long : 9 ≤ length
+  pub space : length ≤ s .capacity
+  pub fits : frames ≡ frameCountOf length
+  pub byte : frames ≤ 255
+
+-- an open connection: 1 ≤ e ≤ w ≤ N, w at most e + C − 1, short of T and of the third miss
+pub record OpenWithin (s : Settings) (x : Connection) : Type 0 where
+  pub announced : Announced s (x .frames) (x .length)
+  pub first : 1 ≤ x .expected
+  pub inside : x .expected ≤ x .last
+  pub final : x .last ≤ x .frames
+  pub window : x .last ≤ x .expected + s .window - 1
+  pub waits : x .wait < s .timeout
+  pub tries : x .misses < 3
+
+abbrev pub PhaseWithin : Settings → Phase → Type 0
+PhaseWithin s Idle = Unit
+PhaseWithin s (Done x) = Announced s (x .frames) (x .length)
+PhaseWithin s (Open x) = OpenWithin s x
+
+pub record Within (r : Receiver) : Type 0 where
+  pub settings : SettingsWithin (r .settings)
+  pub phase : PhaseWithin (r .settings) (r .phase)
+
+-- What the definitions do in another way than document 01 says, for the sake of states that no calls make, is the same
+-- in a state within: no count is cut, "at least" is "at", no difference is cut, and what is stored lies inside L.
+pub record Exact (r : Receiver) (x : Connection) : Type 0 where
+  -- "wait grows by 1", "misses grows by 1"
+  pub wait : incrementOf (x .wait) ≡ x .wait + 1
+  pub misses : incrementOf (x .misses) ≡ x .misses + 1
+  -- "At T", "the third"
+  pub due : leb (r .settings .timeout) (incrementOf (x .wait)) ≡ eqb (x .wait + 1) (r .settings .timeout)
+  pub third : leb 3 (incrementOf (x .misses)) ≡ eqb (x .misses + 1) 3
+  -- "LM_ACK e, w − e + 1": of the window now, asked for again, and of the next
+  pub count : x .last - (x .expected - 1) ≡ x .last + 1 - x .expected
+  pub again : x .expected ≤ windowOf r (x .expected) (x .frames)
+  pub next : x .expected < x .frames → x .expected + 1 ≤ windowOf r (x .expected + 1) (x .frames)
+  -- "its message bytes": at least one, and none past L; the last frame's end at L
+  pub some : 1 ≤ carried (x .expected) (x .length)
+  pub part : 7 * (x .expected - 1) + carried (x .expected) (x .length) ≤ x .length
+  pub whole : 7 * (x .frames - 1) + carried (x .frames) (x .length) ≡ x .length

@@ -1,0 +1,43 @@
+// Making a receiver.
+ghost use mathlib.Core.Path.{_≡_};
+ghost use mathlib.Core.Bool.{_&&_};
+ghost use lib.Dec.{leb};
+ghost use Rattle.receiver.specs.Tick.{settingsFit, makeOf};
+ghost use Rattle.receiver.specs.Told.{toldMade};
+use crate::Made;
+use crate::Phase;
+use crate::Receiver;
+use crate::Settings;
+
+fn within(low: u16, x: u16, high: u16) -> bool
+    ensures { λ r. ⌜ r ≡ (leb low x && leb x high) ⌝ }
+{
+    (low <= x) & (x <= high)
+}
+
+fn settings_fit(timeout: u16, window: u16, capacity: u16) -> bool
+    ensures { λ r. ⌜ r ≡ settingsFit timeout window capacity ⌝ }
+{
+    within(1, timeout, 10000) & (within(1, window, 255) & within(9, capacity, 1785))
+}
+
+impl Receiver {
+    // A receiver with these settings, Idle with nothing delivered; refused 1 where one is outside its limits.
+    pub fn make(timeout: u16, window: u16, capacity: u16) -> Made
+        ensures { λ r. ⌜ toldMade r ≡ makeOf timeout window capacity ⌝ }
+    {
+        if settings_fit(timeout, window, capacity) {
+            let settings = Settings {
+                timeout,
+                window,
+                capacity,
+            };
+            Made::End(Receiver {
+                settings,
+                phase: Phase::Idle,
+            })
+        } else {
+            Made::Refused(1)
+        }
+    }
+}
