@@ -3,3 +3,5 @@ pub mod Told
 pub mod Begin
 pub mod Tick
 pub mod Hear
+pub mod Parts
+pub mod Reachable

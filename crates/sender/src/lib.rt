@@ -1,4 +1,9 @@
 // The sending end: its settings, its state and its answers. State goes in and out by value.
+mod begin;
+mod hear;
+mod steps;
+mod tick;
+
 use frame::Frame;
 
 // Gap G, timeout T and sending time M, in ticks.

@@ -9,3 +9,4 @@ pub mod Moves
 pub mod Lives
 pub mod Theorem
 pub mod Example
+pub mod Across

@@ -1,0 +1,331 @@
+-- Every sender that calls can make is within its limits, and there no count is cut and every "at least" is "at". By the
+-- calls: each leaves a sender that is within its limits so. A count that has not come to its limit is below it; a window
+-- starts from 1 to N and ends from its start to N.
+-- Assumes nothing.
+use Prim.Native.Nat.{ℕ, _+_, _-_, _≤_, _<_, min}
+use mathlib.Core.Path.{_≡_, refl, sym, subst}
+use mathlib.Core.Bool.{Bool, true, false, _&&_, _||_, and-eq-true-iff, false≢true, true≢false}
+use mathlib.Core.List.{List}
+use native.Mathlib.Omega.{arith}
+use borrow.Author.Tests.{leb-true, leb-false, ltb-true, ltb-false, eqb-true, eqb-false, le-leb, lt-leb}
+use lib.Dec.{eqb, leb, ltb}
+use lib.ListN.{length}
+use Rattle.frame.specs.Choice.{pick}
+use Rattle.frame.specs.Count.{frameCountOf, incrementOf}
+use Rattle.frame.specs.Frames.{byteOf, wordAt}
+use Rattle.frame.specs.Reading.{Judgement, accepted, refused, readOf}
+use Rattle.frame.specs.declared.Frame.{Frame}
+use Rattle.sender.specs.Begin.{settingsFit, makeOf, beginLong, beginShort, beginIdle, beginPhase, beginOf, postOf}
+use Rattle.sender.specs.Hear.{taking, unlessBad, ackOpening, ackWindow, hearAck, hearNack, ifWhole, hearEnd, hearShortAck, hearKind, hearRead, hearOf}
+use Rattle.sender.specs.Reachable.{Reachable, fresh, begun, ticked, heard, posted, SettingsWithin, TransferWithin, LongWithin, ShortWithin, PhaseWithin, Within, Counts, OfTransfer, OfWait, OfGap, OfMisses, Exact}
+use Rattle.sender.specs.State.{aged, counted, inPhase}
+use Rattle.sender.specs.Tick.{tickOpening, afterFrame, tickSending, tickWaiting, tickShort, tickPhase, tickOf}
+use Rattle.sender.specs.Told.{Made, made, unmade, Told}
+use Rattle.sender.specs.declared.Announced.{Announced}
+use Rattle.sender.specs.declared.Awaited.{Awaited}
+use Rattle.sender.specs.declared.Phase.{Phase}
+use Rattle.sender.specs.declared.Phase.the-variants.{Idle, Opening, Sending, Waiting, Short}
+use Rattle.sender.specs.declared.Sender.{Sender}
+use Rattle.sender.specs.declared.Settings.{Settings}
+use Rattle.sender.specs.declared.Single.{Single}
+use Rattle.sender.specs.declared.Streamed.{Streamed}
+use Rattle.sender.specs.declared.Transfer.{Transfer}
+
+-- a fact of a choice: on each side, with the test's outcome in hand
+pick-elim : {A : Type 0} (P : A → Type 0) (b : Bool) {x y : A} → (b ≡ true → P x) → (b ≡ false → P y) → P (pick b x y)
+unfolding pick
+pick-elim P true f g = f refl
+pick-elim P false f g = g refl
+
+neither : (a b : Bool) → (a || b) ≡ false → (a ≡ false) × (b ≡ false)
+neither true b e = absurd (true≢false e)
+neither false b e = (refl, e)
+
+-- the state after a call is within its limits
+abbrev Keeps : Told → Type 0
+Keeps a = Within (a .next)
+
+-- ---- making
+
+makes : (gap timeout limit : ℕ) (s : Sender) → makeOf gap timeout limit ≡ made s → Within s
+unfolding makeOf
+makes gap timeout limit s =
+    pick-elim (λ m. m ≡ made s → Within s) (settingsFit gap timeout limit)
+    (λ fit e.
+    let all = and-eq-true-iff _ _ .0 fit in
+    let g = and-eq-true-iff _ _ .0 (all .0) in
+    let rest = and-eq-true-iff _ _ .0 (all .1) in
+    let t = and-eq-true-iff _ _ .0 (rest .0) in
+    let l = and-eq-true-iff _ _ .0 (rest .1) in
+    let same : record { settings = record { gap = gap; timeout = timeout; limit = limit }; phase = Idle } ≡ s = cc in
+    subst Within same
+    (record {
+      settings = record {
+        gap = (leb-true _ _ (g .0), leb-true _ _ (g .1));
+        timeout = (leb-true _ _ (t .0), leb-true _ _ (t .1));
+        limit = (leb-true _ _ (l .0), leb-true _ _ (l .1));
+      };
+      phase = tt;
+    }))
+    (λ unfit e. let z : _≡_ {A = ℕ} 0 1 = cc in absurd (omega arith))
+
+-- ---- calls, of a sender whose settings are within their limits
+
+module _ (s : Sender) (h : Within s) where
+  -- in another phase, within its limits
+  enters : (p : Phase) → PhaseWithin (s .settings) p → Within (inPhase s p)
+  enters p w = record { settings = h .settings; phase = w }
+
+  idles : Within (inPhase s Idle)
+  idles = enters Idle tt
+
+  begins-long : (m : List ℕ) → 9 ≤ length m → length m ≤ 1785 → Keeps (beginLong s m)
+  unfolding beginLong frameCountOf
+  begins-long m low high =
+      let l = h .settings .limit in
+      let t = h .settings .timeout in
+      enters _ (
+        record { counted = record { age = l .0; emitted = omega arith }; length = (low, high); frames = (refl, omega arith, omega arith) },
+        t .0,
+        omega arith,
+      )
+
+  begins-short : (m : List ℕ) → 1 ≤ length m → length m ≤ 8 → Keeps (beginShort s m)
+  unfolding beginShort
+  begins-short m low high =
+      enters _ (
+        record { counted = record { age = h .settings .limit .0; emitted = omega arith }; length = (low, high); frames = refl },
+        h .settings .timeout .0,
+      )
+
+  begins : (p : Phase) (m : List ℕ) → Keeps (beginPhase s p m)
+  unfolding beginPhase beginIdle
+  begins Idle m =
+      pick-elim Keeps _
+      (λ fits.
+      let both = and-eq-true-iff _ _ .0 fits in
+      pick-elim Keeps _ (λ few. begins-short m (leb-true _ _ (both .0)) (leb-true _ _ few))
+      (λ many. begins-long m (leb-false _ _ many) (leb-true _ _ (both .1))))
+      (λ unfit. h)
+  begins (Opening x) m = h
+  begins (Sending x) m = h
+  begins (Waiting x) m = h
+  begins (Short x) m = h
+
+  posts : (m : List ℕ) → Keeps (postOf s m)
+  unfolding postOf
+  posts m = pick-elim Keeps _ (λ fits. h) (λ unfit. h)
+
+  -- a transfer that is a tick older, short of M, and perhaps has emitted a frame more
+  older : (t : Transfer) → TransferWithin (s .settings) t → incrementOf (t .age) < s .settings .limit
+      → TransferWithin (s .settings) (aged t) × TransferWithin (s .settings) (counted (aged t))
+  unfolding incrementOf
+  older t w young =
+      let l = h .settings .limit in
+      (record { age = young; emitted = omega arith }, record { age = young; emitted = omega arith })
+
+  longer : (t u : Transfer) → u .length ≡ t .length → u .frames ≡ t .frames → LongWithin (s .settings) t → TransferWithin (s .settings) u
+      → LongWithin (s .settings) u
+  longer t u same many w counts =
+      record { counted = counts; length = rw same (w .length); frames = rw (same, many) (w .frames) }
+
+  ticks-opening : (x : Announced) → PhaseWithin (s .settings) (Opening x) → Keeps (tickOpening s x)
+  unfolding tickOpening
+  ticks-opening x w =
+      pick-elim Keeps _ (λ over. idles)
+      (λ on.
+      let t = older (x .transfer) (w .0 .counted) (leb-false _ _ on) in
+      pick-elim Keeps _
+      (λ due. pick-elim Keeps _ (λ third. idles)
+      (λ again. enters _ (longer (x .transfer) _ refl refl (w .0) (t .1), h .settings .timeout .0, leb-false _ _ again)))
+      (λ early. enters _ (longer (x .transfer) _ refl refl (w .0) (t .0), leb-false _ _ early, w .2)))
+
+  ticks-waiting : (x : Awaited) (m : List ℕ) → PhaseWithin (s .settings) (Waiting x) → Keeps (tickWaiting s x m)
+  unfolding tickWaiting
+  ticks-waiting x m w =
+      pick-elim Keeps _ (λ over. idles)
+      (λ on.
+      let t = older (x .transfer) (w .0 .counted) (leb-false _ _ on) in
+      pick-elim Keeps _
+      (λ due. pick-elim Keeps _ (λ third. idles)
+      (λ again. enters _ (longer (x .transfer) _ refl refl (w .0) (t .1), w .1, h .settings .timeout .0, leb-false _ _ again)))
+      (λ early. enters _ (longer (x .transfer) _ refl refl (w .0) (t .0), w .1, leb-false _ _ early, w .3)))
+
+  after : (x : Streamed) → PhaseWithin (s .settings) (Sending x) → LongWithin (s .settings) (counted (aged (x .transfer)))
+      → PhaseWithin (s .settings) (afterFrame x)
+  unfolding afterFrame
+  after x w l =
+      let n = w .1 in
+      pick-elim (PhaseWithin (s .settings)) _
+      (λ last. (l, omega arith, h .settings .timeout .0, w .3))
+      (λ more. let e : x .next < x .last = leb-false _ _ more in (l, omega arith, h .settings .gap .0, w .3))
+
+  ticks-sending : (x : Streamed) (m : List ℕ) → PhaseWithin (s .settings) (Sending x) → Keeps (tickSending s x m)
+  unfolding tickSending
+  ticks-sending x m w =
+      pick-elim Keeps _ (λ over. idles)
+      (λ on.
+      let t = older (x .transfer) (w .0 .counted) (leb-false _ _ on) in
+      pick-elim Keeps _
+      (λ due. enters _ (after x w (longer (x .transfer) _ refl refl (w .0) (t .1))))
+      (λ early. enters _ (longer (x .transfer) _ refl refl (w .0) (t .0), w .1, leb-false _ _ early, w .3)))
+
+  ticks-short : (x : Single) (m : List ℕ) → PhaseWithin (s .settings) (Short x) → Keeps (tickShort s x m)
+  unfolding tickShort
+  ticks-short x m w =
+      pick-elim Keeps _ (λ over. idles)
+      (λ on.
+      let t = older (x .transfer) (w .0 .counted) (leb-false _ _ on) in
+      pick-elim Keeps _
+      (λ due. enters _
+      (record { counted = t .1; length = w .0 .length; frames = w .0 .frames }, h .settings .timeout .0))
+      (λ early. enters _
+      (record { counted = t .0; length = w .0 .length; frames = w .0 .frames }, leb-false _ _ early)))
+
+  ticks : (p : Phase) (m : List ℕ) → PhaseWithin (s .settings) p → Keeps (tickPhase s p m)
+  unfolding tickPhase
+  ticks Idle m w = h
+  ticks (Opening x) m w = pick-elim Keeps _ (λ lent. ticks-opening x w) (λ other. h)
+  ticks (Sending x) m w = pick-elim Keeps _ (λ lent. ticks-sending x m w) (λ other. h)
+  ticks (Waiting x) m w = pick-elim Keeps _ (λ lent. ticks-waiting x m w) (λ other. h)
+  ticks (Short x) m w = pick-elim Keeps _ (λ lent. ticks-short x m w) (λ other. h)
+
+  -- a window from 1 to N
+  takes : (t : Transfer) (start count misses : ℕ) → LongWithin (s .settings) t → 1 ≤ start → 1 ≤ count → start ≤ t .frames → misses < 3
+      → Keeps (taking s t start count misses)
+  unfolding taking
+  takes t start count misses l from some within few = enters _ (l, omega arith, h .settings .gap .0, few)
+
+  -- what an LM_ACK with sound numbers does, if that keeps the limits
+  sound : (t : Transfer) (start count : ℕ) (heeded : Told) → (1 ≤ start → 1 ≤ count → start ≤ t .frames → Keeps heeded)
+      → Keeps (unlessBad s t start count heeded)
+  sound t start count heeded k =
+      pick-elim Keeps _ (λ void. h)
+      (λ sound.
+      let n = neither _ _ sound in
+      let a : start ≡ 0 → ⊥ = eqb-false _ _ (n .0) in
+      let b : count ≡ 0 → ⊥ = eqb-false _ _ (n .1) in
+      pick-elim Keeps _ (λ above. idles) (λ within. k (omega arith) (omega arith) (ltb-false _ _ within)))
+
+  acks-opening : (t : Transfer) (start count : ℕ) → LongWithin (s .settings) t → Keeps (ackOpening s t start count)
+  unfolding ackOpening
+  acks-opening t start count l =
+      sound t start count _
+      (λ from some within. pick-elim Keeps _ (λ one. takes t start count 0 l from some within (omega arith)) (λ other. h))
+
+  acks-window : (t : Transfer) (taken misses start count : ℕ) → LongWithin (s .settings) t → misses < 3
+      → Keeps (ackWindow s t taken misses start count)
+  unfolding ackWindow
+  acks-window t taken misses start count l few =
+      sound t start count _
+      (λ from some within. pick-elim Keeps _ (λ below. h)
+      (λ on. takes t start count _ l from some within
+      (pick-elim (λ n. n < 3) (eqb start taken) (λ same. few) (λ other. omega arith))))
+
+  acks : (p : Phase) (start count : ℕ) → PhaseWithin (s .settings) p → Keeps (hearAck s p start count)
+  unfolding hearAck
+  acks Idle start count w = h
+  acks (Opening x) start count w = acks-opening (x .transfer) start count (w .0)
+  acks (Sending x) start count w = acks-window (x .transfer) (x .start) (x .misses) start count (w .0) (w .3)
+  acks (Waiting x) start count w = acks-window (x .transfer) (x .start) (x .misses) start count (w .0) (w .3)
+  acks (Short x) start count w = h
+
+  nacks : (p : Phase) → Keeps (hearNack s p)
+  unfolding hearNack
+  nacks Idle = h
+  nacks (Opening x) = idles
+  nacks (Sending x) = idles
+  nacks (Waiting x) = idles
+  nacks (Short x) = h
+
+  ends : (p : Phase) (frames length : ℕ) → Keeps (hearEnd s p frames length)
+  unfolding hearEnd ifWhole
+  ends Idle frames length = h
+  ends (Opening x) frames length = h
+  ends (Sending x) frames length = pick-elim Keeps _ (λ whole. idles) (λ other. h)
+  ends (Waiting x) frames length = pick-elim Keeps _ (λ whole. idles) (λ other. h)
+  ends (Short x) frames length = h
+
+  short-acks : (p : Phase) (first : ℕ) → Keeps (hearShortAck s p first)
+  unfolding hearShortAck
+  short-acks Idle first = h
+  short-acks (Opening x) first = h
+  short-acks (Sending x) first = h
+  short-acks (Waiting x) first = h
+  short-acks (Short x) first = pick-elim Keeps _ (λ same. idles) (λ other. h)
+
+  hears : (f : Frame) (j : Judgement) → Keeps (hearRead s f j)
+  unfolding hearRead hearKind
+  hears f (accepted kind) =
+      pick-elim Keeps _ (λ ack. acks (s .phase) _ _ (h .phase))
+      (λ _. pick-elim Keeps _ (λ nack. nacks (s .phase))
+      (λ _. pick-elim Keeps _ (λ end. ends (s .phase) _ _) (λ _. pick-elim Keeps _ (λ short. short-acks (s .phase) _) (λ other. h))))
+  hears f (refused number) = h
+
+-- ---- the theorems
+
+pub reachable-within : {s : Sender} → Reachable s → Within s
+unfolding beginOf tickOf hearOf
+reachable-within (fresh {s = s} gap timeout limit e) = makes gap timeout limit s e
+reachable-within (begun {s = s} message r) = begins s (reachable-within r) (s .phase) message
+reachable-within (ticked {s = s} message r) = let h = reachable-within r in ticks s h (s .phase) message (h .phase)
+reachable-within (heard {s = s} f r) = hears s (reachable-within r) f (readOf f)
+reachable-within (posted {s = s} message r) = posts s (reachable-within r) message
+
+-- a count below its limit
+counts : (count limit : ℕ) → count < limit → limit ≤ 60000 → Counts count limit
+unfolding incrementOf
+counts count limit below most = record { grows = omega arith; exact = at (eqb (count + 1) limit) refl }
+  where
+    at : (b : Bool) → eqb (count + 1) limit ≡ b → leb limit (min (count + 1) 65535) ≡ b
+    at true e = let n : count + 1 ≡ limit = eqb-true _ _ e in le-leb limit (min (count + 1) 65535) (omega arith)
+    at false e = let n : count + 1 ≡ limit → ⊥ = eqb-false _ _ e in lt-leb limit (min (count + 1) 65535) (omega arith)
+
+module _ (r : Settings) (w : SettingsWithin r) where
+  of-transfer : (P : Transfer → Type 0) → ((t : Transfer) → TransferWithin r t → P t) → (p : Phase) → PhaseWithin r p → OfTransfer p P
+  of-transfer P k Idle h = tt
+  of-transfer P k (Opening x) h = k (x .transfer) (h .0 .counted)
+  of-transfer P k (Sending x) h = k (x .transfer) (h .0 .counted)
+  of-transfer P k (Waiting x) h = k (x .transfer) (h .0 .counted)
+  of-transfer P k (Short x) h = k (x .transfer) (h .0 .counted)
+
+  -- the frames emitted are at most a tick's count more, and so below 65535
+  emitted-grows : (t : Transfer) → TransferWithin r t → incrementOf (t .emitted) ≡ t .emitted + 1
+  unfolding incrementOf
+  emitted-grows t c = omega (arith, w .limit .1, c .age, c .emitted .1)
+
+  of-wait : (p : Phase) → PhaseWithin r p → OfWait p (λ wait. Counts wait (r .timeout))
+  of-wait Idle h = tt
+  of-wait (Opening x) h = counts _ _ (h .1) (omega (arith, w .timeout .1))
+  of-wait (Sending x) h = tt
+  of-wait (Waiting x) h = counts _ _ (h .2) (omega (arith, w .timeout .1))
+  of-wait (Short x) h = counts _ _ (h .1) (omega (arith, w .timeout .1))
+
+  of-gap : (p : Phase) → PhaseWithin r p → OfGap p (λ gap. Counts gap (r .gap))
+  of-gap Idle h = tt
+  of-gap (Opening x) h = tt
+  of-gap (Sending x) h = counts _ _ (h .2) (omega (arith, w .gap .1))
+  of-gap (Waiting x) h = tt
+  of-gap (Short x) h = tt
+
+  of-misses : (p : Phase) → PhaseWithin r p → OfMisses p (λ misses. Counts misses 3)
+  of-misses Idle h = tt
+  of-misses (Opening x) h = counts _ 3 (h .2) (omega arith)
+  of-misses (Sending x) h = counts _ 3 (h .3) (omega arith)
+  of-misses (Waiting x) h = counts _ 3 (h .3) (omega arith)
+  of-misses (Short x) h = tt
+
+pub within-exact : (s : Sender) → Within s → Exact s
+within-exact s h =
+    let r = s .settings in
+    let w = h .settings in
+    record {
+      age = of-transfer r w _ (λ t c. counts (t .age) (r .limit) (c .age) (w .limit .1)) (s .phase) (h .phase);
+      emitted = of-transfer r w _ (λ t c. emitted-grows r w t c) (s .phase) (h .phase);
+      wait = of-wait r w (s .phase) (h .phase);
+      gap = of-gap r w (s .phase) (h .phase);
+      misses = of-misses r w (s .phase) (h .phase);
+    }
+
+pub reachable-exact : {s : Sender} → Reachable s → Exact s
+reachable-exact {s} r = within-exact s (reachable-within r)

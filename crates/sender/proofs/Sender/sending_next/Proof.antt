@@ -1,0 +1,31 @@
+-- `sender::Sender::sending_next` meets its contract. The state and the frame are those that the callees promise.
+-- Assumes nothing.
+use borrow.Author.Needs.{needs}
+use Rattle.sender.proofs.Laws.{out-paths}
+use Rattle.sender.proofs.Sender.sending_next.Statement.{statement}
+use Rattle.sender.proofs.Sender.sending_next.Tie as tie
+
+information-at-requires : tie.Need-information-at-requires
+information-at-requires c κs = search needs
+
+after-frame-requires : tie.Need-after-frame-requires
+after-frame-requires c κs = search needs
+
+in-phase-requires : tie.Need-in-phase-requires
+in-phase-requires c κs = search needs
+
+emitting-requires : tie.Need-emitting-requires
+emitting-requires c κs = search needs
+
+returns : tie.Need-returns
+returns c = search out-paths
+
+pub sending-next-spec : {M : Type 1} → statement M
+sending-next-spec =
+    tie.close
+    (tie.spec
+    information-at-requires
+    after-frame-requires
+    in-phase-requires
+    emitting-requires
+    returns)

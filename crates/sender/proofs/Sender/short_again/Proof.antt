@@ -1,0 +1,26 @@
+-- `sender::Sender::short_again` meets its contract. The state and the frame are those that the callees promise.
+-- Assumes nothing.
+use borrow.Author.Needs.{needs}
+use Rattle.sender.proofs.Laws.{out-paths}
+use Rattle.sender.proofs.Sender.short_again.Statement.{statement}
+use Rattle.sender.proofs.Sender.short_again.Tie as tie
+
+sm-rm-requires : tie.Need-sm-rm-requires
+sm-rm-requires c κs = search needs
+
+counted-requires : tie.Need-counted-requires
+counted-requires c κs = search needs
+
+in-phase-requires : tie.Need-in-phase-requires
+in-phase-requires c κs = search needs
+
+emitting-requires : tie.Need-emitting-requires
+emitting-requires c κs = search needs
+
+returns : tie.Need-returns
+returns c = search out-paths
+
+pub short-again-spec : {M : Type 1} → statement M
+short-again-spec =
+    tie.close
+    (tie.spec sm-rm-requires counted-requires in-phase-requires emitting-requires returns)

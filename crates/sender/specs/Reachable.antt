@@ -1,0 +1,110 @@
+-- The senders that calls can make, what holds of them, and what follows for the definitions: no count is ever cut, and
+-- every "at least" is document 01's "at".
+use Prim.Native.Nat.{ℕ, _+_, _≤_, _<_}
+use mathlib.Core.Path.{_≡_}
+use mathlib.Core.List.{List}
+use lib.Dec.{eqb, leb}
+use Rattle.frame.specs.Count.{frameCountOf, incrementOf}
+use Rattle.frame.specs.declared.Frame.{Frame}
+use Rattle.sender.specs.Begin.{makeOf, beginOf, postOf}
+use Rattle.sender.specs.Hear.{hearOf}
+use Rattle.sender.specs.Tick.{tickOf}
+use Rattle.sender.specs.Told.{made}
+use Rattle.sender.specs.declared.Phase.{Phase}
+use Rattle.sender.specs.declared.Phase.the-variants.{Idle, Opening, Sending, Waiting, Short}
+use Rattle.sender.specs.declared.Sender.{Sender}
+use Rattle.sender.specs.declared.Settings.{Settings}
+use Rattle.sender.specs.declared.Transfer.{Transfer}
+
+-- a sender that making answered, and the next state of every call on a reachable one, whatever is lent or heard
+pub data Reachable : Sender → Type 0 where
+  fresh : {s : Sender} (gap timeout limit : ℕ) → makeOf gap timeout limit ≡ made s → Reachable s
+  begun : {s : Sender} (message : List ℕ) → Reachable s → Reachable (beginOf s message .next)
+  ticked : {s : Sender} (message : List ℕ) → Reachable s → Reachable (tickOf s message .next)
+  heard : {s : Sender} (f : Frame) → Reachable s → Reachable (hearOf s f .next)
+  posted : {s : Sender} (message : List ℕ) → Reachable s → Reachable (postOf s message .next)
+
+-- "gap G 1 to 10, timeout T 1 to 10000, sending time M 1 to 60000"
+pub record SettingsWithin (r : Settings) : Type 0 where
+  pub gap : (1 ≤ r .gap) × (r .gap ≤ 10)
+  pub timeout : (1 ≤ r .timeout) × (r .timeout ≤ 10000)
+  pub limit : (1 ≤ r .limit) × (r .limit ≤ 60000)
+
+-- the ticks are below M; "A call emits at most one frame", and begin emitted the first
+pub record TransferWithin (r : Settings) (t : Transfer) : Type 0 where
+  pub age : t .age < r .limit
+  pub emitted : (1 ≤ t .emitted) × (t .emitted ≤ t .age + 1)
+
+-- "Lengths 1 to 8 go short, 9 to 1785 long"; N is that of L, and so at most 255
+pub record LongWithin (r : Settings) (t : Transfer) : Type 0 where
+  pub counted : TransferWithin r t
+  pub length : (9 ≤ t .length) × (t .length ≤ 1785)
+  pub frames : (t .frames ≡ frameCountOf (t .length)) × (2 ≤ t .frames) × (t .frames ≤ 255)
+
+pub record ShortWithin (r : Settings) (t : Transfer) : Type 0 where
+  pub counted : TransferWithin r t
+  pub length : (1 ≤ t .length) × (t .length ≤ 8)
+  pub frames : t .frames ≡ 1
+
+-- the counts of each phase are below their limits, the numbers of its frames within 1 to N
+abbrev pub PhaseWithin : Settings → Phase → Type 0
+PhaseWithin r Idle = Unit
+PhaseWithin r (Opening x) = LongWithin r (x .transfer) × (x .wait < r .timeout) × (x .misses < 3)
+PhaseWithin r (Sending x) =
+    LongWithin r (x .transfer)
+    × ((1 ≤ x .start) × (x .start ≤ x .next) × (x .next ≤ x .last) × (x .last ≤ x .transfer .frames))
+    × (x .gap < r .gap)
+    × (x .misses < 3)
+PhaseWithin r (Waiting x) =
+    LongWithin r (x .transfer)
+    × ((1 ≤ x .start) × (x .start ≤ x .last) × (x .last ≤ x .transfer .frames))
+    × (x .wait < r .timeout)
+    × (x .misses < 3)
+PhaseWithin r (Short x) = ShortWithin r (x .transfer) × (x .wait < r .timeout)
+
+pub record Within (s : Sender) : Type 0 where
+  pub settings : SettingsWithin (s .settings)
+  pub phase : PhaseWithin (s .settings) (s .phase)
+
+-- a count that is not cut as it grows, and whose test "at least" is the test "at": "If age = M", "At T", "At G", "at the
+-- third"
+pub record Counts (count limit : ℕ) : Type 0 where
+  pub grows : incrementOf count ≡ count + 1
+  pub exact : leb limit (incrementOf count) ≡ eqb (count + 1) limit
+
+-- what is said of the transfer, the wait, the gap count and the misses, where the phase has one
+abbrev pub OfTransfer : Phase → (Transfer → Type 0) → Type 0
+OfTransfer Idle P = Unit
+OfTransfer (Opening x) P = P (x .transfer)
+OfTransfer (Sending x) P = P (x .transfer)
+OfTransfer (Waiting x) P = P (x .transfer)
+OfTransfer (Short x) P = P (x .transfer)
+
+abbrev pub OfWait : Phase → (ℕ → Type 0) → Type 0
+OfWait Idle P = Unit
+OfWait (Opening x) P = P (x .wait)
+OfWait (Sending x) P = Unit
+OfWait (Waiting x) P = P (x .wait)
+OfWait (Short x) P = P (x .wait)
+
+abbrev pub OfGap : Phase → (ℕ → Type 0) → Type 0
+OfGap Idle P = Unit
+OfGap (Opening x) P = Unit
+OfGap (Sending x) P = P (x .gap)
+OfGap (Waiting x) P = Unit
+OfGap (Short x) P = Unit
+
+abbrev pub OfMisses : Phase → (ℕ → Type 0) → Type 0
+OfMisses Idle P = Unit
+OfMisses (Opening x) P = P (x .misses)
+OfMisses (Sending x) P = P (x .misses)
+OfMisses (Waiting x) P = P (x .misses)
+OfMisses (Short x) P = Unit
+
+-- what document 01 says of each count, of a sender within its limits
+pub record Exact (s : Sender) : Type 0 where
+  pub age : OfTransfer (s .phase) (λ t. Counts (t .age) (s .settings .limit))
+  pub emitted : OfTransfer (s .phase) (λ t. incrementOf (t .emitted) ≡ t .emitted + 1)
+  pub wait : OfWait (s .phase) (λ wait. Counts wait (s .settings .timeout))
+  pub gap : OfGap (s .phase) (λ gap. Counts gap (s .settings .gap))
+  pub misses : OfMisses (s .phase) (λ misses. Counts misses 3)
