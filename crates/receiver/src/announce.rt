@@ -73,6 +73,7 @@ fn announce_open(r: Receiver, x: Connection, frames: u8, length: u16) -> Answer
     }
 }
 
+// Frame 0, by the phase.
 pub(crate) fn hear_announcement(r: Receiver, frames: u8, length: u16) -> Answer
     ensures { λ a. ⌜ told a ≡ hearAnnouncement r (r .phase) frames length ⌝ }
 {

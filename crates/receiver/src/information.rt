@@ -63,6 +63,7 @@ fn advance(r: Receiver, x: Connection) -> Answer
     stay_quiet(in_phase(r, Phase::Open(next)))
 }
 
+// Above N the connection fails; the frame expected is stored; any other is ignored.
 fn information_open(r: Receiver, x: Connection, f: Frame, number: u8, buffer: &mut [u8]) -> Answer
     requires { ⌜ length (now buffer) ≡ 1785 ⌝ }
     ensures { λ a. ⌜ heard (told a) (now (buffer .exit))
@@ -89,6 +90,7 @@ fn information_done(idle: Receiver, x: Delivery, number: u8) -> Answer
     }
 }
 
+// A frame from number 1 on, by the phase.
 pub(crate) fn hear_information(r: Receiver, f: Frame, number: u8, buffer: &mut [u8]) -> Answer
     requires { ⌜ length (now buffer) ≡ 1785 ⌝ }
     ensures { λ a. ⌜ heard (told a) (now (buffer .exit))

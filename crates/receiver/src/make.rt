@@ -9,12 +9,14 @@ use crate::Phase;
 use crate::Receiver;
 use crate::Settings;
 
+// x is low to high.
 fn within(low: u16, x: u16, high: u16) -> bool
     ensures { λ r. ⌜ r ≡ (leb low x && leb x high) ⌝ }
 {
     (low <= x) & (x <= high)
 }
 
+// T is 1 to 10000, C is 1 to 255, K is 9 to 1785.
 fn settings_fit(timeout: u16, window: u16, capacity: u16) -> bool
     ensures { λ r. ⌜ r ≡ settingsFit timeout window capacity ⌝ }
 {

@@ -3,7 +3,9 @@ use crate::input::byte;
 use crate::input::part;
 use crate::input::word;
 use crate::line::Line;
+use crate::line::empty;
 use crate::print;
+use frame::Frame;
 use receiver::Receiver;
 use sender::Sender;
 
@@ -15,48 +17,65 @@ pub(crate) struct World {
     pub back: Line,
 }
 
+// A line after a call that emitted a frame or none.
+fn line_after(line: Line, emits: bool, f: Frame) -> Line {
+    if emits { line.joined(f) } else { line }
+}
+
 impl World {
     // After a call of the sender; its frame joins forward.
     fn after_sender(self, a: sender::Answer) -> World {
-        let line = self.forward;
-        let forward = if a.emits { line.joined(a.frame) } else { line };
+        let sender = a.next;
+        let receiver = self.receiver;
+        let forward = line_after(self.forward, a.emits, a.frame);
+        let back = self.back;
         World {
-            sender: a.next,
-            receiver: self.receiver,
+            sender,
+            receiver,
             forward,
-            back: self.back,
+            back,
         }
     }
 
     // After a call of the receiver; its frame joins back.
     fn after_receiver(self, a: receiver::Answer) -> World {
-        let line = self.back;
-        let back = if a.emits { line.joined(a.frame) } else { line };
+        let sender = self.sender;
+        let receiver = a.next;
+        let forward = self.forward;
+        let back = line_after(self.back, a.emits, a.frame);
         World {
-            sender: self.sender,
-            receiver: a.next,
-            forward: self.forward,
+            sender,
+            receiver,
+            forward,
             back,
         }
     }
 
     fn lose_forward(self) -> World {
+        let sender = self.sender;
+        let receiver = self.receiver;
         let line = self.forward;
+        let forward = line.rest();
+        let back = self.back;
         World {
-            sender: self.sender,
-            receiver: self.receiver,
-            forward: line.rest(),
-            back: self.back,
+            sender,
+            receiver,
+            forward,
+            back,
         }
     }
 
     fn lose_back(self) -> World {
+        let sender = self.sender;
+        let receiver = self.receiver;
+        let forward = self.forward;
         let line = self.back;
+        let back = line.rest();
         World {
-            sender: self.sender,
-            receiver: self.receiver,
-            forward: self.forward,
-            back: line.rest(),
+            sender,
+            receiver,
+            forward,
+            back,
         }
     }
 
@@ -113,24 +132,34 @@ impl World {
             _ => self,
         }
     }
+
+    // Event i of the list, where there is one; the begin is number 0.
+    fn turn(self, i: u16, message: &[u8], events: &[u8], buffer: &mut [u8]) -> World {
+        let at = i as usize;
+        if i < 4096 {
+            if at < events.len() {
+                return self.after(i + 1, events[at], message, buffer);
+            }
+        }
+        self
+    }
 }
 
-// Begins the message and plays the events.
-fn play(s: Sender, r: Receiver, message: &[u8], events: &[u8]) {
-    let mut buffer = [0u8; 1785];
+// Begins the message and plays the events, 4096 of them at the most.
+fn play(s: Sender, r: Receiver, message: &[u8], events: &[u8], buffer: &mut [u8]) {
     let begun = s.begin(message);
     print::sender_lines(0, begun);
+    let line = empty();
     let start = World {
         sender: s,
         receiver: r,
-        forward: crate::line::empty(),
-        back: crate::line::empty(),
+        forward: line,
+        back: line,
     };
     let mut world = start.after_sender(begun);
     let mut i: u16 = 0;
-    while (i as usize) < events.len() {
-        let at = i as usize;
-        world = world.after(i + 1, events[at], message, &mut buffer);
+    while i < 4096 {
+        world = world.turn(i, message, events, buffer);
         i += 1;
     }
 }
@@ -170,11 +199,13 @@ pub(crate) fn session(input: &[u8], at: usize) -> usize {
         print::text(b"refused 1\n");
         return past(events, count);
     };
+    let mut buffer = [0u8; 1785];
     play(
         s,
         r,
         part(input, message, length),
         part(input, events, count),
+        &mut buffer,
     );
     past(events, count)
 }

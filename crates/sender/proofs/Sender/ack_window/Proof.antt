@@ -7,31 +7,31 @@ use Rattle.sender.proofs.Sender.ack_window.Statement.{statement}
 use Rattle.sender.proofs.Sender.ack_window.Tie as tie
 
 void-requires : tie.Need-void-requires
-void-requires c κs = search needs
+void-requires c κs = tt
 
 silently-requires : tie.Need-silently-requires
-silently-requires c κs = search needs
+silently-requires c κs = tt
 
 returns : tie.Need-returns
 returns c = search ack-paths
 
 failing-with-requires : tie.Need-failing-with-requires
-failing-with-requires c κs = search needs
+failing-with-requires c κs = tt
 
 returns-2 : tie.Need-returns-2
 returns-2 c = search ack-paths
 
 silently-requires-2 : tie.Need-silently-requires-2
-silently-requires-2 c κs = search needs
+silently-requires-2 c κs = tt
 
 returns-3 : tie.Need-returns-3
 returns-3 c = search ack-paths
 
 taking-requires : tie.Need-taking-requires
-taking-requires c κs = search needs
+taking-requires c κs = tt
 
 taking-requires-2 : tie.Need-taking-requires-2
-taking-requires-2 c κs = search needs
+taking-requires-2 c κs = tt
 
 returns-4 : tie.Need-returns-4
 returns-4 c = search ack-paths

@@ -7,34 +7,34 @@ use Rattle.sender.proofs.Sender.begin.Statement.{statement}
 use Rattle.sender.proofs.Sender.begin.Tie as tie
 
 enum-told : tie.Need-enum-told
-enum-told c = search needs
+enum-told c = c .match .keys1
 
 begin-idle-requires : tie.Need-begin-idle-requires
-begin-idle-requires c κs = search needs
+begin-idle-requires c κs = tt
 
 enum-told-2 : tie.Need-enum-told-2
-enum-told-2 c = search needs
+enum-told-2 c = c .match .keys2
 
 refusing-requires : tie.Need-refusing-requires
-refusing-requires c κs = search needs
+refusing-requires c κs = tt
 
 enum-told-3 : tie.Need-enum-told-3
-enum-told-3 c = search needs
+enum-told-3 c = c .match .keys3
 
 refusing-requires-2 : tie.Need-refusing-requires-2
-refusing-requires-2 c κs = search needs
+refusing-requires-2 c κs = tt
 
 enum-told-4 : tie.Need-enum-told-4
-enum-told-4 c = search needs
+enum-told-4 c = c .match .keys4
 
 refusing-requires-3 : tie.Need-refusing-requires-3
-refusing-requires-3 c κs = search needs
+refusing-requires-3 c κs = tt
 
 enum-told-5 : tie.Need-enum-told-5
-enum-told-5 c = search needs
+enum-told-5 c = c .match .keys5
 
 refusing-requires-4 : tie.Need-refusing-requires-4
-refusing-requires-4 c κs = search needs
+refusing-requires-4 c κs = tt
 
 returns : tie.Need-returns
 unfolding beginOf beginPhase

@@ -13,7 +13,7 @@ begin-long-requires : tie.Need-begin-long-requires
 begin-long-requires c κs = search needs
 
 refusing-requires : tie.Need-refusing-requires
-refusing-requires c κs = search needs
+refusing-requires c κs = tt
 
 returns : tie.Need-returns
 returns c = search begin-paths

@@ -10,7 +10,7 @@ cast-length : tie.Need-cast-length
 cast-length c = search needs
 
 frame-count-requires : tie.Need-frame-count-requires
-frame-count-requires c κs = search needs
+frame-count-requires c κs = tt
 
 cast-frames : tie.Need-cast-frames
 cast-frames c = search frames-fit
@@ -19,13 +19,13 @@ begun-with-requires : tie.Need-begun-with-requires
 begun-with-requires c κs = search needs
 
 announcement-requires : tie.Need-announcement-requires
-announcement-requires c κs = search needs
+announcement-requires c κs = tt
 
 in-phase-requires : tie.Need-in-phase-requires
-in-phase-requires c κs = search needs
+in-phase-requires c κs = tt
 
 emitting-requires : tie.Need-emitting-requires
-emitting-requires c κs = search needs
+emitting-requires c κs = tt
 
 returns : tie.Need-returns
 returns c = search begin-paths

@@ -6,13 +6,13 @@ use Rattle.sender.proofs.Sender.failing_with.Statement.{statement}
 use Rattle.sender.proofs.Sender.failing_with.Tie as tie
 
 in-phase-requires : tie.Need-in-phase-requires
-in-phase-requires c κs = search needs
+in-phase-requires c κs = tt
 
 lm-nack-requires : tie.Need-lm-nack-requires
-lm-nack-requires c κs = search needs
+lm-nack-requires c κs = tt
 
 counted-requires : tie.Need-counted-requires
-counted-requires c κs = search needs
+counted-requires c κs = tt
 
 returns : tie.Need-returns
 returns c = rw (c .before .before .in-phase .ensures, c .before .lm-nack .ensures, c .counted .ensures)

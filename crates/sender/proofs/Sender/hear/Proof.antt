@@ -7,25 +7,25 @@ use Rattle.sender.proofs.Sender.hear.Statement.{statement}
 use Rattle.sender.proofs.Sender.hear.Tie as tie
 
 read-requires : tie.Need-read-requires
-read-requires c κs = search needs
+read-requires c κs = tt
 
 enum-known-reading : tie.Need-enum-known-reading
-enum-known-reading c = search needs
+enum-known-reading c = c .match .keys1
 
 enum-told : tie.Need-enum-told
-enum-told c = search needs
+enum-told c = c .match .keys2
 
 refusal-requires : tie.Need-refusal-requires
-refusal-requires c κs = search needs
+refusal-requires c κs = tt
 
 refusing-requires : tie.Need-refusing-requires
-refusing-requires c κs = search needs
+refusing-requires c κs = tt
 
 returns : tie.Need-returns
 returns c = search hear-paths
 
 hear-kind-requires : tie.Need-hear-kind-requires
-hear-kind-requires c κs = search needs
+hear-kind-requires c κs = tt
 
 returns-2 : tie.Need-returns-2
 returns-2 c = search hear-paths

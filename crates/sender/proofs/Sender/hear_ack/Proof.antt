@@ -8,34 +8,34 @@ use Rattle.sender.proofs.Sender.hear_ack.Statement.{statement}
 use Rattle.sender.proofs.Sender.hear_ack.Tie as tie
 
 enum-told : tie.Need-enum-told
-enum-told c = search needs
+enum-told c = c .match .keys1
 
 silently-requires : tie.Need-silently-requires
-silently-requires c κs = search needs
+silently-requires c κs = tt
 
 enum-known-phase : tie.Need-enum-known-phase
-enum-known-phase c = search needs
+enum-known-phase c = c .match .keys2
 
 ack-opening-requires : tie.Need-ack-opening-requires
-ack-opening-requires c κs = search needs
+ack-opening-requires c κs = tt
 
 enum-known-phase-2 : tie.Need-enum-known-phase-2
-enum-known-phase-2 c = search needs
+enum-known-phase-2 c = c .match .keys3
 
 ack-window-requires : tie.Need-ack-window-requires
-ack-window-requires c κs = search needs
+ack-window-requires c κs = tt
 
 enum-known-phase-3 : tie.Need-enum-known-phase-3
-enum-known-phase-3 c = search needs
+enum-known-phase-3 c = c .match .keys4
 
 ack-window-requires-2 : tie.Need-ack-window-requires-2
-ack-window-requires-2 c κs = search needs
+ack-window-requires-2 c κs = tt
 
 enum-told-2 : tie.Need-enum-told-2
-enum-told-2 c = search needs
+enum-told-2 c = c .match .keys5
 
 silently-requires-2 : tie.Need-silently-requires-2
-silently-requires-2 c κs = search needs
+silently-requires-2 c κs = tt
 
 returns : tie.Need-returns
 unfolding hearAck

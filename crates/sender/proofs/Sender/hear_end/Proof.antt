@@ -8,34 +8,34 @@ use Rattle.sender.proofs.Sender.hear_end.Statement.{statement}
 use Rattle.sender.proofs.Sender.hear_end.Tie as tie
 
 enum-told : tie.Need-enum-told
-enum-told c = search needs
+enum-told c = c .match .keys1
 
 silently-requires : tie.Need-silently-requires
-silently-requires c κs = search needs
+silently-requires c κs = tt
 
 enum-told-2 : tie.Need-enum-told-2
-enum-told-2 c = search needs
+enum-told-2 c = c .match .keys2
 
 silently-requires-2 : tie.Need-silently-requires-2
-silently-requires-2 c κs = search needs
+silently-requires-2 c κs = tt
 
 enum-known-phase : tie.Need-enum-known-phase
-enum-known-phase c = search needs
+enum-known-phase c = c .match .keys3
 
 if-whole-requires : tie.Need-if-whole-requires
-if-whole-requires c κs = search needs
+if-whole-requires c κs = tt
 
 enum-known-phase-2 : tie.Need-enum-known-phase-2
-enum-known-phase-2 c = search needs
+enum-known-phase-2 c = c .match .keys4
 
 if-whole-requires-2 : tie.Need-if-whole-requires-2
-if-whole-requires-2 c κs = search needs
+if-whole-requires-2 c κs = tt
 
 enum-told-3 : tie.Need-enum-told-3
-enum-told-3 c = search needs
+enum-told-3 c = c .match .keys5
 
 silently-requires-3 : tie.Need-silently-requires-3
-silently-requires-3 c κs = search needs
+silently-requires-3 c κs = tt
 
 returns : tie.Need-returns
 unfolding hearEnd

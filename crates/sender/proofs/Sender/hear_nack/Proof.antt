@@ -8,34 +8,34 @@ use Rattle.sender.proofs.Sender.hear_nack.Statement.{statement}
 use Rattle.sender.proofs.Sender.hear_nack.Tie as tie
 
 enum-told : tie.Need-enum-told
-enum-told c = search needs
+enum-told c = c .match .keys1
 
 silently-requires : tie.Need-silently-requires
-silently-requires c κs = search needs
+silently-requires c κs = tt
 
 enum-known-phase : tie.Need-enum-known-phase
-enum-known-phase c = search needs
+enum-known-phase c = c .match .keys2
 
 failing-requires : tie.Need-failing-requires
-failing-requires c κs = search needs
+failing-requires c κs = tt
 
 enum-known-phase-2 : tie.Need-enum-known-phase-2
-enum-known-phase-2 c = search needs
+enum-known-phase-2 c = c .match .keys3
 
 failing-requires-2 : tie.Need-failing-requires-2
-failing-requires-2 c κs = search needs
+failing-requires-2 c κs = tt
 
 enum-known-phase-3 : tie.Need-enum-known-phase-3
-enum-known-phase-3 c = search needs
+enum-known-phase-3 c = c .match .keys4
 
 failing-requires-3 : tie.Need-failing-requires-3
-failing-requires-3 c κs = search needs
+failing-requires-3 c κs = tt
 
 enum-told-2 : tie.Need-enum-told-2
-enum-told-2 c = search needs
+enum-told-2 c = c .match .keys5
 
 silently-requires-2 : tie.Need-silently-requires-2
-silently-requires-2 c κs = search needs
+silently-requires-2 c κs = tt
 
 returns : tie.Need-returns
 unfolding hearNack

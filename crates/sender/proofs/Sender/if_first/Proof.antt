@@ -6,10 +6,10 @@ use Rattle.sender.proofs.Sender.if_first.Statement.{statement}
 use Rattle.sender.proofs.Sender.if_first.Tie as tie
 
 sending-requires : tie.Need-sending-requires
-sending-requires c κs = search needs
+sending-requires c κs = tt
 
 silently-requires : tie.Need-silently-requires
-silently-requires c κs = search needs
+silently-requires c κs = tt
 
 returns : tie.Need-returns
 returns c = search sent-paths

@@ -6,7 +6,7 @@ use Rattle.sender.proofs.Sender.make.Statement.{statement}
 use Rattle.sender.proofs.Sender.make.Tie as tie
 
 settings-fit-requires : tie.Need-settings-fit-requires
-settings-fit-requires c κs = search needs
+settings-fit-requires c κs = tt
 
 returns : tie.Need-returns
 returns c = search make-paths

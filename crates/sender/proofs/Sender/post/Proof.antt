@@ -7,13 +7,13 @@ use Rattle.sender.proofs.Sender.post.Statement.{statement}
 use Rattle.sender.proofs.Sender.post.Tie as tie
 
 sm-urm-requires : tie.Need-sm-urm-requires
-sm-urm-requires c κs = search needs
+sm-urm-requires c κs = tt
 
 emitting-requires : tie.Need-emitting-requires
-emitting-requires c κs = search needs
+emitting-requires c κs = tt
 
 refusing-requires : tie.Need-refusing-requires
-refusing-requires c κs = search needs
+refusing-requires c κs = tt
 
 returns : tie.Need-returns
 returns c = search post-paths

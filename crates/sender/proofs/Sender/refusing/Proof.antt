@@ -5,7 +5,7 @@ use Rattle.sender.proofs.Sender.refusing.Statement.{statement}
 use Rattle.sender.proofs.Sender.refusing.Tie as tie
 
 blank-requires : tie.Need-blank-requires
-blank-requires c κs = search needs
+blank-requires c κs = tt
 
 returns : tie.Need-returns
 returns c = rw (c .blank .ensures)

@@ -6,10 +6,10 @@ use Rattle.sender.proofs.Sender.sending.Statement.{statement}
 use Rattle.sender.proofs.Sender.sending.Tie as tie
 
 in-phase-requires : tie.Need-in-phase-requires
-in-phase-requires c κs = search needs
+in-phase-requires c κs = tt
 
 blank-requires : tie.Need-blank-requires
-blank-requires c κs = search needs
+blank-requires c κs = tt
 
 returns : tie.Need-returns
 returns c = rw (c .before .in-phase .ensures, c .blank .ensures)

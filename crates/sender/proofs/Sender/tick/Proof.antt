@@ -7,40 +7,40 @@ use Rattle.sender.proofs.Sender.tick.Statement.{statement}
 use Rattle.sender.proofs.Sender.tick.Tie as tie
 
 lent-to-requires : tie.Need-lent-to-requires
-lent-to-requires c κs = search needs
+lent-to-requires c κs = tt
 
 enum-told : tie.Need-enum-told
-enum-told c = search needs
+enum-told c = c .match .keys1
 
 silently-requires : tie.Need-silently-requires
-silently-requires c κs = search needs
+silently-requires c κs = tt
 
 enum-known-phase : tie.Need-enum-known-phase
-enum-known-phase c = search needs
+enum-known-phase c = c .match .keys2
 
 tick-opening-requires : tie.Need-tick-opening-requires
-tick-opening-requires c κs = search needs
+tick-opening-requires c κs = tt
 
 enum-known-phase-2 : tie.Need-enum-known-phase-2
-enum-known-phase-2 c = search needs
+enum-known-phase-2 c = c .match .keys3
 
 tick-sending-requires : tie.Need-tick-sending-requires
-tick-sending-requires c κs = search needs
+tick-sending-requires c κs = tt
 
 enum-known-phase-3 : tie.Need-enum-known-phase-3
-enum-known-phase-3 c = search needs
+enum-known-phase-3 c = c .match .keys4
 
 tick-waiting-requires : tie.Need-tick-waiting-requires
-tick-waiting-requires c κs = search needs
+tick-waiting-requires c κs = tt
 
 enum-known-phase-4 : tie.Need-enum-known-phase-4
-enum-known-phase-4 c = search needs
+enum-known-phase-4 c = c .match .keys5
 
 tick-short-requires : tie.Need-tick-short-requires
-tick-short-requires c κs = search needs
+tick-short-requires c κs = tt
 
 refusing-requires : tie.Need-refusing-requires
-refusing-requires c κs = search needs
+refusing-requires c κs = tt
 
 returns : tie.Need-returns
 returns c = search tick-paths
@@ -82,3 +82,5 @@ tick-spec =
     returns-4
     returns-5
     returns-6)
+
+-- C 1794755040.647208

@@ -7,37 +7,37 @@ use Rattle.sender.proofs.Sender.tick_waiting.Statement.{statement}
 use Rattle.sender.proofs.Sender.tick_waiting.Tie as tie
 
 aged-requires : tie.Need-aged-requires
-aged-requires c κs = search needs
+aged-requires c κs = tt
 
 failing-with-requires : tie.Need-failing-with-requires
-failing-with-requires c κs = search needs
+failing-with-requires c κs = tt
 
 returns : tie.Need-returns
 returns c = search pacing-paths
 
 increment-requires : tie.Need-increment-requires
-increment-requires c κs = search needs
+increment-requires c κs = tt
 
 in-phase-requires : tie.Need-in-phase-requires
-in-phase-requires c κs = search needs
+in-phase-requires c κs = tt
 
 silently-requires : tie.Need-silently-requires
-silently-requires c κs = search needs
+silently-requires c κs = tt
 
 returns-2 : tie.Need-returns-2
 returns-2 c = search pacing-paths
 
 increment-requires-2 : tie.Need-increment-requires-2
-increment-requires-2 c κs = search needs
+increment-requires-2 c κs = tt
 
 failing-with-requires-2 : tie.Need-failing-with-requires-2
-failing-with-requires-2 c κs = search needs
+failing-with-requires-2 c κs = tt
 
 returns-3 : tie.Need-returns-3
 returns-3 c = search pacing-paths
 
 waiting-again-requires : tie.Need-waiting-again-requires
-waiting-again-requires c κs = search needs
+waiting-again-requires c κs = tt
 
 returns-4 : tie.Need-returns-4
 returns-4 c = search pacing-paths

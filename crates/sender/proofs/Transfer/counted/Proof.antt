@@ -5,7 +5,7 @@ use Rattle.sender.proofs.Transfer.counted.Statement.{statement}
 use Rattle.sender.proofs.Transfer.counted.Tie as tie
 
 increment-requires : tie.Need-increment-requires
-increment-requires c κs = search needs
+increment-requires c κs = tt
 
 returns : tie.Need-returns
 returns c = rw (c .increment .ensures)

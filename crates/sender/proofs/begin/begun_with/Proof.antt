@@ -6,7 +6,7 @@ use Rattle.sender.proofs.begin.begun_with.Statement.{statement}
 use Rattle.sender.proofs.begin.begun_with.Tie as tie
 
 first-byte-requires : tie.Need-first-byte-requires
-first-byte-requires c κs = search needs
+first-byte-requires c κs = tt
 
 cast-t5 : tie.Need-cast-t5
 cast-t5 c = search needs

@@ -7,13 +7,13 @@ use Rattle.sender.proofs.begin.settings_fit.Statement.{statement}
 use Rattle.sender.proofs.begin.settings_fit.Tie as tie
 
 within-requires : tie.Need-within-requires
-within-requires c κs = search needs
+within-requires c κs = tt
 
 within-requires-2 : tie.Need-within-requires-2
-within-requires-2 c κs = search needs
+within-requires-2 c κs = tt
 
 within-requires-3 : tie.Need-within-requires-3
-within-requires-3 c κs = search needs
+within-requires-3 c κs = tt
 
 returns : tie.Need-returns
 returns c = search and-paths

@@ -6,10 +6,10 @@ use Rattle.sender.proofs.tick.after_frame.Statement.{statement}
 use Rattle.sender.proofs.tick.after_frame.Tie as tie
 
 aged-requires : tie.Need-aged-requires
-aged-requires c κs = search needs
+aged-requires c κs = tt
 
 counted-requires : tie.Need-counted-requires
-counted-requires c κs = search needs
+counted-requires c κs = tt
 
 add-t7 : tie.Need-add-t7
 add-t7 c = search needs

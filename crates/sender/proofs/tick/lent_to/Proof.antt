@@ -8,28 +8,28 @@ use Rattle.sender.proofs.tick.lent_to.Statement.{statement}
 use Rattle.sender.proofs.tick.lent_to.Tie as tie
 
 enum-told : tie.Need-enum-told
-enum-told c = search needs
+enum-told c = c .match .keys1
 
 enum-known-phase : tie.Need-enum-known-phase
-enum-known-phase c = search needs
+enum-known-phase c = c .match .keys2
 
 cast-result : tie.Need-cast-result
 cast-result c = search needs
 
 enum-known-phase-2 : tie.Need-enum-known-phase-2
-enum-known-phase-2 c = search needs
+enum-known-phase-2 c = c .match .keys3
 
 cast-result-2 : tie.Need-cast-result-2
 cast-result-2 c = search needs
 
 enum-known-phase-3 : tie.Need-enum-known-phase-3
-enum-known-phase-3 c = search needs
+enum-known-phase-3 c = c .match .keys4
 
 cast-result-3 : tie.Need-cast-result-3
 cast-result-3 c = search needs
 
 enum-known-phase-4 : tie.Need-enum-known-phase-4
-enum-known-phase-4 c = search needs
+enum-known-phase-4 c = c .match .keys5
 
 cast-result-4 : tie.Need-cast-result-4
 cast-result-4 c = search needs
