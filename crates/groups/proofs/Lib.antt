@@ -1,0 +1,5 @@
+pub mod Laws
+pub mod Table
+pub mod Inverse
+pub mod Range
+pub mod Examples

@@ -1,0 +1,142 @@
+-- A value out of range is refused, and nothing else is: the refusals of a group whose length, code and filler are as they
+-- must be, in words of numbers. And a refused write leaves the bytes.
+-- Assumes nothing.
+use Prim.Native.Nat.{ℕ, _≤_}
+use mathlib.Core.Path.{_≡_, refl, sym, ap, _∙_}
+use mathlib.Core.Bool.{Bool, true, false, _&&_, _||_, and-eq-true-iff, or-true, Bool·beq}
+use mathlib.Core.List.{List, [], _∷_}
+use mathlib.Core.Logic.{_⊎_, inl, inr, ⊎-elim}
+use native.Mathlib.Omega.{arith}
+use borrow.Author.Tests.{eq-eqb, le-leb, leb-true, eqb-true}
+use lib.Dec.{eqb, leb}
+use lib.ListN.{length, getD, drop}
+use Rattle.groups.specs.Answer.{Answer, given, refused}
+use Rattle.groups.specs.Choice.{pick}
+use Rattle.groups.specs.Format.{kindsFor, kindsOf, values, allowed, allAllowed, groupFrom, bytesFor, allFiller}
+use Rattle.groups.specs.Reading.{judged, readRow, readBy, readOf}
+use Rattle.groups.specs.Table.{kindLines, groupLines, rowFrom, kindAt, findOf}
+use Rattle.groups.specs.Writing.{Outcome, outcome, writeRow, writeBy, writeOf}
+use Rattle.groups.specs.declared.Group.{Group}
+use Rattle.groups.specs.declared.Kind.{Kind}
+use Rattle.groups.specs.declared.Row.{Row}
+use Rattle.groups.specs.declared.Width.{Width}
+use Rattle.groups.specs.declared.Width.the-variants.{None, Byte, Word}
+use Rattle.groups.proofs.Table.{every, at-code, one-of}
+
+-- A value is in the range of a kind or is one of its marks; values are so, each of its own kind.
+abbrev pub InRange : Kind → ℕ → Type 0
+InRange k v = ((k .low ≤ v) × (v ≤ k .high)) ⊎ ((v ≡ k .mark) ⊎ (v ≡ k .other))
+
+abbrev pub AllInRange : List Kind → List ℕ → Type 0
+AllInRange [] vs = Unit
+AllInRange (k ∷ ks) [] = Unit
+AllInRange (k ∷ ks) (v ∷ vs) = InRange k v × AllInRange ks vs
+
+-- That is what a kind allows.
+in-range : (k : Kind) (v : ℕ) → allowed k v ≡ true → InRange k v
+unfolding allowed
+in-range k v h =
+    one-of (leb (k .low) v && leb v (k .high)) (eqb v (k .mark)) (eqb v (k .other)) (InRange k v) h
+    (λ i. let both = and-eq-true-iff (leb (k .low) v) (leb v (k .high)) .0 i in
+    inl (leb-true _ _ (both .0), leb-true _ _ (both .1)))
+    (λ i. inr (inl (eqb-true _ _ i)))
+    (λ i. inr (inr (eqb-true _ _ i)))
+
+range-allowed : (k : Kind) (v : ℕ) → InRange k v → allowed k v ≡ true
+unfolding allowed
+range-allowed k v h =
+    ⊎-elim (λ i. rw (le-leb _ _ (i .0), le-leb _ _ (i .1)))
+    (λ m. ⊎-elim (λ i. rw (eq-eqb v (k .mark) i, or-true)) (λ i. rw (eq-eqb v (k .other) i, or-true)) m) h
+
+all-in-range : (ks : List Kind) (vs : List ℕ) → allAllowed ks vs ≡ true → AllInRange ks vs
+all-in-range [] vs h = tt
+all-in-range (k ∷ ks) [] h = tt
+all-in-range (k ∷ ks) (v ∷ vs) h =
+    let both = and-eq-true-iff (allowed k v) (allAllowed ks vs) .0 h in
+    (in-range k v (both .0), all-in-range ks vs (both .1))
+
+range-all-allowed : (ks : List Kind) (vs : List ℕ) → AllInRange ks vs → allAllowed ks vs ≡ true
+range-all-allowed [] vs h = refl
+range-all-allowed (k ∷ ks) [] h = refl
+range-all-allowed (k ∷ ks) (v ∷ vs) h = rw (range-allowed k v (h .0), range-all-allowed ks vs (h .1))
+
+out-of-range : (ks : List Kind) (vs : List ℕ) → (AllInRange ks vs → ⊥) → (t : Bool) → allAllowed ks vs ≡ t → t ≡ false
+out-of-range ks vs h true e = absurd (h (all-in-range ks vs e))
+out-of-range ks vs h false e = refl
+
+-- Reading eight bytes whose code has a row and whose filler is 0xFF: values in range are read, others are refused 10.
+module _ (s : List ℕ) (x : Row) (eight : length s ≡ 8) (found : findOf (getD s 0 0) ≡ given x)
+    (filler : allFiller (drop (x .length) s) ≡ true) where
+  abbrev pub group : Group
+  group = groupFrom (getD s 0 0) (kindsOf x) s
+
+  pub read-in-range : AllInRange (kindsOf x) (values group) → readOf s ≡ given group
+  unfolding readOf readBy readRow judged pick
+  read-in-range h = rw (eq-eqb _ _ eight, found, filler, range-all-allowed (kindsOf x) (values group) h)
+
+  pub read-out-of-range : (AllInRange (kindsOf x) (values group) → ⊥) → readOf s ≡ refused 10
+  unfolding readOf readBy readRow judged pick
+  read-out-of-range h = rw (eq-eqb _ _ eight, found, filler, out-of-range (kindsOf x) (values group) h _ refl)
+
+-- Writing a group whose code has a row into eight bytes: values in range are written, others are refused 10 and leave the
+-- bytes.
+module _ (g : Group) (s : List ℕ) (x : Row) (eight : length s ≡ 8) (found : findOf (g .code) ≡ given x) where
+  pub write-in-range : AllInRange (kindsOf x) (values g) → writeOf g s ≡ outcome (given tt) (bytesFor (g .code) (kindsOf x) (values g))
+  unfolding writeOf writeBy writeRow pick
+  write-in-range h = rw (eq-eqb _ _ eight, found, range-all-allowed (kindsOf x) (values g) h)
+
+  pub write-out-of-range : (AllInRange (kindsOf x) (values g) → ⊥) → writeOf g s ≡ outcome (refused 10) s
+  unfolding writeOf writeBy writeRow pick
+  write-out-of-range h = rw (eq-eqb _ _ eight, found, out-of-range (kindsOf x) (values g) h _ refl)
+
+-- Every refused write leaves the bytes.
+kept : (g : Group) (s : List ℕ) (x : Row) (t : Bool) (n : ℕ) (u : List ℕ)
+    → pick t (outcome (given tt) (bytesFor (g .code) (kindsOf x) (values g))) (outcome (refused 10) s) ≡ outcome (refused n) u → u ≡ s
+unfolding pick
+kept g s x true n u h = absurd (let a = ap (λ (o : Outcome). o .answer) h in let z : _≡_ {A = ℕ} 0 1 = cc in omega arith)
+kept g s x false n u h = sym (ap (λ (o : Outcome). o .bytes) h)
+
+kept-by : (g : Group) (s : List ℕ) (a : Answer Row) (n : ℕ) (u : List ℕ) → writeBy g s a ≡ outcome (refused n) u → u ≡ s
+unfolding writeBy writeRow
+kept-by g s (given x) n u h = kept g s x _ n u h
+kept-by g s (refused m) n u h = sym (ap (λ (o : Outcome). o .bytes) h)
+
+kept-length : (g : Group) (s : List ℕ) (t : Bool) (n : ℕ) (u : List ℕ)
+    → pick t (writeBy g s (findOf (g .code))) (outcome (refused 9) s) ≡ outcome (refused n) u → u ≡ s
+unfolding pick
+kept-length g s true n u h = kept-by g s (findOf (g .code)) n u h
+kept-length g s false n u h = sym (ap (λ (o : Outcome). o .bytes) h)
+
+pub write-refused-leaves : (g : Group) (s : List ℕ) (n : ℕ) (u : List ℕ) → writeOf g s ≡ outcome (refused n) u → u ≡ s
+unfolding writeOf
+write-refused-leaves g s n u h = kept-length g s (eqb (length s) 8) n u h
+
+-- "Only the fields of 77 may be missing": a row has a field that takes a mark for missing, 0xFFFE or 0xFFFF in a word or 0xFE in
+-- a byte, just if its code is 0x77. (0xFF in a byte is also the reason "other" of 0x75.) One test of the whole table.
+abbrev marked : Width → Kind → Bool
+marked None k = false
+marked Byte k = allowed k 0xFE
+marked Word k = allowed k 0xFFFE || allowed k 0xFFFF
+
+abbrev pub anyMarked : List Kind → Bool
+anyMarked [] = false
+anyMarked (k ∷ ks) = marked (k .width) k || anyMarked ks
+
+abbrev missingTest : Row → Bool
+missingTest x = Bool·beq (anyMarked (kindsOf x)) (eqb (x .code) 0x77)
+
+missing-tested : every (λ l. missingTest (rowFrom l)) groupLines ≡ true
+unfolding groupLines kindLines kindsFor kindAt allowed
+missing-tested = refl
+
+same : (a b : Bool) → Bool·beq a b ≡ true → a ≡ b
+same true true h = refl
+same true false h = sym h
+same false true h = h
+same false false h = refl
+
+pub missing-only : (code : ℕ) (x : Row) → findOf code ≡ given x → anyMarked (kindsOf x) ≡ eqb code 0x77
+unfolding findOf
+missing-only code x e =
+    let at = at-code missingTest code x groupLines missing-tested e in
+    same _ _ (at .0) ∙ ap (λ (c : ℕ). eqb c 0x77) (at .1)

@@ -1,0 +1,29 @@
+-- `groups::write::write_row` meets its contract. The values are tested, and only then are bytes stored.
+-- Assumes nothing.
+use borrow.Author.Needs.{needs}
+use Rattle.groups.proofs.Laws.{writing}
+use Rattle.groups.proofs.write.write_row.Statement.{statement}
+use Rattle.groups.proofs.write.write_row.Tie as tie
+
+kinds-of-requires : tie.Need-kinds-of-requires
+kinds-of-requires c κs = search needs
+
+all-allowed-requires : tie.Need-all-allowed-requires
+all-allowed-requires c κs = search needs
+
+store-requires : tie.Need-store-requires
+store-requires c κs = search (needs, writing)
+
+same-length : tie.Need-same-length
+same-length c = search needs
+
+returns : tie.Need-returns
+returns c = search writing
+
+returns-2 : tie.Need-returns-2
+returns-2 c = search writing
+
+pub write-row-spec : {M : Type 1} → statement M
+write-row-spec =
+    tie.close
+    (tie.spec kinds-of-requires all-allowed-requires store-requires same-length returns returns-2)

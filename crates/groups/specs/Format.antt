@@ -1,0 +1,84 @@
+-- How a group stands in its bytes: the code, then its fields one after the other, then filler. Document 01: "Words of two
+-- bytes go low byte first"; Groups: "A group is read from and written to eight lent bytes, 0xFF after its own length".
+use Prim.Native.Nat.{ℕ, _+_, _-_, _*_, _/_, _%_}
+use mathlib.Core.Bool.{Bool, true, _&&_, _||_}
+use mathlib.Core.List.{List, [], _∷_, _++_}
+use lib.Dec.{eqb, leb}
+use lib.ListN.{length, getD, drop, replicate}
+use Rattle.groups.specs.Table.{kindAt}
+use Rattle.groups.specs.declared.Group.{Group}
+use Rattle.groups.specs.declared.Kind.{Kind}
+use Rattle.groups.specs.declared.Kinds.{Kinds}
+use Rattle.groups.specs.declared.Row.{Row}
+use Rattle.groups.specs.declared.Width.{Width}
+use Rattle.groups.specs.declared.Width.the-variants.{None, Byte, Word}
+
+-- the kinds of a row's four places, and a group's four values, as lists
+unfoldable pub kindsFor : Row → Kinds
+kindsFor x =
+    record { first = kindAt (x .first); second = kindAt (x .second); third = kindAt (x .third); fourth = kindAt (x .fourth) }
+
+abbrev pub listed : Kinds → List Kind
+listed x = x .first ∷ x .second ∷ x .third ∷ x .fourth ∷ []
+
+abbrev pub kindsOf : Row → List Kind
+kindsOf x = listed (kindsFor x)
+
+abbrev pub values : Group → List ℕ
+values x = x .first ∷ x .second ∷ x .third ∷ x .fourth ∷ []
+
+-- how many bytes a field has, and fields together
+abbrev pub sizeOf : Width → ℕ
+sizeOf None = 0
+sizeOf Byte = 1
+sizeOf Word = 2
+
+abbrev pub sizesOf : List Kind → ℕ
+sizesOf [] = 0
+sizesOf (k ∷ ks) = sizeOf (k .width) + sizesOf ks
+
+-- a kind allows the values of its range and its marks; kinds allow values, each its own
+unfoldable pub allowed : Kind → ℕ → Bool
+allowed k v = leb (k .low) v && leb v (k .high) || eqb v (k .mark) || eqb v (k .other)
+
+abbrev pub allAllowed : List Kind → List ℕ → Bool
+allAllowed [] vs = true
+allAllowed (k ∷ ks) [] = true
+allAllowed (k ∷ ks) (v ∷ vs) = allowed k v && allAllowed ks vs
+
+-- the value of a field at the front of some bytes, and of fields one after the other
+abbrev pub valueOf : Width → List ℕ → ℕ
+valueOf None s = 0
+valueOf Byte s = getD s 0 0
+valueOf Word s = getD s 0 0 + 256 * getD s 1 0
+
+abbrev pub valuesOf : List Kind → List ℕ → List ℕ
+valuesOf [] s = []
+valuesOf (k ∷ ks) s = valueOf (k .width) s ∷ valuesOf ks (drop (sizeOf (k .width)) s)
+
+-- the bytes of a value in a field, and of values in fields one after the other
+abbrev pub bytesOf : Width → ℕ → List ℕ
+bytesOf None v = []
+bytesOf Byte v = v % 256 ∷ []
+bytesOf Word v = v % 256 ∷ v / 256 % 256 ∷ []
+
+abbrev pub fieldsOf : List Kind → List ℕ → List ℕ
+fieldsOf [] vs = []
+fieldsOf (k ∷ ks) [] = []
+fieldsOf (k ∷ ks) (v ∷ vs) = bytesOf (k .width) v ++ fieldsOf ks vs
+
+-- the group of a code and four values
+abbrev pub groupOf : ℕ → List ℕ → Group
+groupOf code vs = record { code = code; first = getD vs 0 0; second = getD vs 1 0; third = getD vs 2 0; fourth = getD vs 3 0 }
+
+-- the group in eight bytes, whose fields start after the code, and the eight bytes of a group
+unfoldable pub groupFrom : ℕ → List Kind → List ℕ → Group
+groupFrom code ks s = groupOf code (valuesOf ks (drop 1 s))
+
+unfoldable pub bytesFor : ℕ → List Kind → List ℕ → List ℕ
+bytesFor code ks vs = code ∷ fieldsOf ks vs ++ replicate (7 - sizesOf ks) 255
+
+-- every byte is 0xFF
+unfoldable pub allFiller : List ℕ → Bool
+allFiller [] = true
+allFiller (b ∷ s) = eqb b 255 && allFiller s

@@ -1,0 +1,6 @@
+pub mod Choice
+pub mod Answer
+pub mod Table
+pub mod Format
+pub mod Reading
+pub mod Writing

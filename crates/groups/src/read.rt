@@ -1,0 +1,110 @@
+// Reading a group from eight bytes.
+ghost use mathlib.Core.Path.{_≡_};
+ghost use Prim.Native.Nat.{_≤_};
+ghost use lib.ListN.{getD, drop};
+ghost use Rattle.groups.specs.Answer.{toldReading};
+ghost use Rattle.groups.specs.Format.{valueOf, groupFrom, listed, allFiller};
+ghost use Rattle.groups.specs.Reading.{readRow, readOf};
+use crate::FILLER;
+use crate::Finding;
+use crate::Group;
+use crate::Kind;
+use crate::Kinds;
+use crate::Reading;
+use crate::Row;
+use crate::Width;
+use crate::all_allowed;
+use crate::find;
+use crate::kinds_of;
+use crate::size;
+
+// The byte at a place, 0 past the end.
+fn byte_at(bytes: &[u8], at: usize) -> u16
+    ensures { λ r. ⌜ (r ≡ getD (now (bytes .entry)) at 0) × (r ≤ 255) ⌝ }
+{
+    if at < bytes.len() {
+        bytes[at] as u16
+    } else {
+        0
+    }
+}
+
+// The value of a field that starts at a place.
+fn value_at(bytes: &[u8], at: usize, kind: Kind) -> u16
+    requires { ⌜ at ≤ 7 ⌝ }
+    ensures { λ r. ⌜ r ≡ valueOf (kind .width) (drop at (now (bytes .entry))) ⌝ }
+{
+    let width = kind.width;
+    match width {
+        Width::None => 0,
+        Width::Byte => byte_at(bytes, at),
+        Width::Word => byte_at(bytes, at) + 256 * byte_at(bytes, at + 1),
+    }
+}
+
+// The code and the fields, one after the other from place 1 on.
+fn group_at(bytes: &[u8], code: u8, kinds: Kinds) -> Group
+    ensures { λ r. ⌜ r ≡ groupFrom code (listed kinds) (now (bytes .entry)) ⌝ }
+{
+    let at = 1 + size(kinds.first);
+    let next = at + size(kinds.second);
+    let last = next + size(kinds.third);
+    let first = value_at(bytes, 1, kinds.first);
+    let second = value_at(bytes, at, kinds.second);
+    let third = value_at(bytes, next, kinds.third);
+    let fourth = value_at(bytes, last, kinds.fourth);
+    Group {
+        code,
+        first,
+        second,
+        third,
+        fourth,
+    }
+}
+
+// Every byte from a place on is filler.
+fn all_filler(bytes: &[u8], from: usize) -> bool
+    ensures { λ r. ⌜ r ≡ allFiller (drop from (now (bytes .entry))) ⌝ }
+{
+    let mut i = from;
+    while i < bytes.len() {
+        if bytes[i] != FILLER {
+            return false;
+        }
+        i += 1;
+    }
+    true
+}
+
+// The group of a row: refusal 9 for its filler, then 10 for a value.
+fn read_row(bytes: &[u8], code: u8, row: Row) -> Reading
+    ensures { λ r. ⌜ toldReading r ≡ readRow (now (bytes .entry)) code row ⌝ }
+{
+    let length = row.length;
+    if all_filler(bytes, length) {
+        let kinds = kinds_of(row);
+        let group = group_at(bytes, code, kinds);
+        if all_allowed(kinds, group) {
+            Reading::Group(group)
+        } else {
+            Reading::Refused(10)
+        }
+    } else {
+        Reading::Refused(9)
+    }
+}
+
+// The group in eight lent bytes: refusal 9 for the length, the code and the filler, then 10 for a value.
+pub fn read(bytes: &[u8]) -> Reading
+    ensures { λ r. ⌜ toldReading r ≡ readOf (now (bytes .entry)) ⌝ }
+{
+    if bytes.len() != 8 {
+        return Reading::Refused(9);
+    }
+    let code = bytes[0];
+    let finding = find(code);
+    match finding {
+        Finding::Row(row) => read_row(bytes, code, row),
+        Finding::Refused(number) => Reading::Refused(number),
+    }
+}

@@ -1,0 +1,102 @@
+// Writing a group to eight bytes.
+ghost use mathlib.Core.Path.{_≡_};
+ghost use Prim.Native.Nat.{_≤_};
+ghost use lib.ListN.{set, length, replicate};
+ghost use lib.Seq.{sets};
+ghost use Rattle.groups.specs.Answer.{toldWriting};
+ghost use Rattle.groups.specs.Format.{bytesOf, listed, values, sizesOf, kindsOf, bytesFor};
+ghost use Rattle.groups.specs.Writing.{outcome, writeRow, writeOf};
+use crate::FILLER;
+use crate::Finding;
+use crate::Group;
+use crate::Kind;
+use crate::Kinds;
+use crate::Row;
+use crate::Width;
+use crate::Writing;
+use crate::all_allowed;
+use crate::find;
+use crate::kinds_of;
+use crate::size;
+
+// Every byte becomes filler.
+fn fill(bytes: &mut [u8])
+    ensures { λ r. ⌜ now (bytes .exit) ≡ replicate (length (now (bytes .entry))) 255 ⌝ }
+{
+    let mut i = 0;
+    while i < bytes.len() {
+        bytes[i] = FILLER;
+        i += 1;
+    }
+}
+
+// A byte at a place, nothing past the end.
+fn put_byte(bytes: &mut [u8], at: usize, byte: u8)
+    ensures { λ r. ⌜ now (bytes .exit) ≡ set (now (bytes .entry)) at byte ⌝ }
+{
+    if at < bytes.len() {
+        bytes[at] = byte;
+    }
+}
+
+// The bytes of a field that starts at a place.
+fn put(bytes: &mut [u8], at: usize, kind: Kind, value: u16)
+    requires { ⌜ at ≤ 7 ⌝ }
+    ensures { λ r. ⌜ now (bytes .exit) ≡ sets (now (bytes .entry)) at (bytesOf (kind .width) value) ⌝ }
+{
+    let width = kind.width;
+    let low = (value % 256) as u8;
+    let high = (value / 256) as u8;
+    match width {
+        Width::None => {}
+        Width::Byte => put_byte(bytes, at, low),
+        Width::Word => {
+            put_byte(bytes, at, low);
+            put_byte(bytes, at + 1, high);
+        }
+    }
+}
+
+// The code and the fields, one after the other, and filler after them.
+fn store(bytes: &mut [u8], group: Group, kinds: Kinds)
+    requires { ⌜ (length (now bytes) ≡ 8) × (sizesOf (listed kinds) ≤ 7) ⌝ }
+    ensures { λ r. ⌜ now (bytes .exit) ≡ bytesFor (group .code) (listed kinds) (values group) ⌝ }
+{
+    let at = 1 + size(kinds.first);
+    let next = at + size(kinds.second);
+    let last = next + size(kinds.third);
+    fill(bytes);
+    put_byte(bytes, 0, group.code);
+    put(bytes, 1, kinds.first, group.first);
+    put(bytes, at, kinds.second, group.second);
+    put(bytes, next, kinds.third, group.third);
+    put(bytes, last, kinds.fourth, group.fourth);
+}
+
+// A group of a row: refusal 10 for a value.
+fn write_row(bytes: &mut [u8], group: Group, row: Row) -> Writing
+    requires { ⌜ (length (now bytes) ≡ 8) × (sizesOf (kindsOf row) ≤ 7) ⌝ }
+    ensures { λ r. ⌜ outcome (toldWriting r) (now (bytes .exit)) ≡ writeRow group (now (bytes .entry)) row ⌝ }
+{
+    let kinds = kinds_of(row);
+    if all_allowed(kinds, group) {
+        store(bytes, group, kinds);
+        Writing::Done
+    } else {
+        Writing::Refused(10)
+    }
+}
+
+// A group into eight lent bytes: refusal 9 for the length and the code, then 10 for a value; a refusal leaves the bytes.
+pub fn write(group: Group, bytes: &mut [u8]) -> Writing
+    ensures { λ r. ⌜ outcome (toldWriting r) (now (bytes .exit)) ≡ writeOf group (now (bytes .entry)) ⌝ }
+{
+    if bytes.len() != 8 {
+        return Writing::Refused(9);
+    }
+    let finding = find(group.code);
+    match finding {
+        Finding::Row(row) => write_row(bytes, group, row),
+        Finding::Refused(number) => Writing::Refused(number),
+    }
+}

@@ -1,0 +1,86 @@
+-- Laws on the tests of the definitions.
+-- Assumes nothing.
+use Prim.Native.Nat.{ℕ, _/_, _%_}
+use mathlib.Core.Path.{_≡_, refl}
+use mathlib.Core.Bool.{Bool, true, false, _&&_, and-eq-true-iff, and-true}
+use native.Mathlib.Omega.{arith}
+use borrow.Author.Tests.{ltb-true, ltb-false, eqb-true, lt-ltb, le-ltb, eq-eqb}
+use lib.Dec.{eqb, ltb}
+use Rattle.identifier.specs.Choice.{pick}
+use Rattle.identifier.specs.Identifier.{numberOf, partsOf, fitsOf, Within}
+use Rattle.identifier.specs.Answer.{given, refused, joinOf, partOf}
+use Rattle.identifier.specs.declared.Parts.{Parts}
+
+-- Six tests that pass together pass each.
+six : (a b c d e f : Bool) → (a && b && c && d && e && f) ≡ true
+    → (a ≡ true) × (b ≡ true) × (c ≡ true) × (d ≡ true) × (e ≡ true) × (f ≡ true)
+six a b c d e f h =
+    let five = and-eq-true-iff (a && b && c && d && e) f .0 h in
+    let four = and-eq-true-iff (a && b && c && d) e .0 (five .0) in
+    let three = and-eq-true-iff (a && b && c) d .0 (four .0) in
+    let two = and-eq-true-iff (a && b) c .0 (three .0) in
+    let one = and-eq-true-iff a b .0 (two .0) in
+    (one .0, one .1, two .1, three .1, four .1, five .1)
+
+-- The test of parts that passes says what it tests, and parts of which it says so pass.
+pub within : (x : Parts) → fitsOf x ≡ true → Within x
+unfolding fitsOf
+within x h =
+    let all = six (ltb (x .p) 8) (eqb (x .edp) 0) (eqb (x .dp) 0) (ltb (x .pf) 256) (ltb (x .ps) 256) (ltb (x .sa) 256) h in
+    record {
+      p = ltb-true _ _ (all .0);
+      edp = eqb-true _ _ (all .1);
+      dp = eqb-true _ _ (all .2);
+      pf = ltb-true _ _ (all .3);
+      ps = ltb-true _ _ (all .4);
+      sa = ltb-true _ _ (all .5);
+    }
+
+pub passes : (x : Parts) → Within x → fitsOf x ≡ true
+unfolding fitsOf
+passes x w =
+    simp (
+      lt-ltb _ _ (w .p),
+      eq-eqb _ _ (w .edp),
+      eq-eqb _ _ (w .dp),
+      lt-ltb _ _ (w .pf),
+      lt-ltb _ _ (w .ps),
+      lt-ltb _ _ (w .sa),
+    )
+
+-- What lies above the low 26 bits is below 8 just if the number has 29 bits.
+top : (n : ℕ) (t : Bool) → ltb n 536870912 ≡ t → ltb (n / 67108864) 8 ≡ t
+top n true h = lt-ltb (n / 67108864) 8 (omega (arith, ltb-true n 536870912 h))
+top n false h = le-ltb (n / 67108864) 8 (omega (arith, ltb-false n 536870912 h))
+
+-- The parts of a number fit just if the number has 29 bits and EDP and DP are 0: the other parts are cut to their widths.
+pub fits-number : (n : ℕ) → fitsOf (partsOf n) ≡ (ltb n 536870912 && eqb (partsOf n .edp) 0 && eqb (partsOf n .dp) 0)
+unfolding fitsOf partsOf
+fits-number n =
+    simp (
+      top n _ refl,
+      lt-ltb (n / 65536 % 256) 256 (omega arith),
+      lt-ltb (n / 256 % 256) 256 (omega arith),
+      lt-ltb (n % 256) 256 (omega arith),
+      and-true,
+    )
+
+-- Joining goes by the test of the parts.
+pub join-given : (x : Parts) (n : ℕ) (fits : Bool) → fits ≡ true → fits ≡ fitsOf x → n ≡ numberOf x → given n ≡ joinOf x
+unfolding joinOf pick
+join-given x n fits t e v = rw (v, ← e, t)
+
+pub join-refused : (x : Parts) (fits : Bool) → fits ≡ false → fits ≡ fitsOf x → refused 8 ≡ joinOf x
+unfolding joinOf pick
+join-refused x fits t e = rw (← e, t)
+
+-- And so does parting, of the parts of the number.
+pub part-given : (x : Parts) (n : ℕ) (fits : Bool) → fits ≡ true → fits ≡ fitsOf x → x ≡ partsOf n → given x ≡ partOf n
+unfolding partOf pick
+part-given x n fits t e v = rw (v, ← fits-number n, ← v, ← e, t)
+
+pub part-refused : (x : Parts) (n : ℕ) (fits : Bool) → fits ≡ false → fits ≡ fitsOf x → x ≡ partsOf n → refused 8 ≡ partOf n
+unfolding partOf pick
+part-refused x n fits t e v = rw (← fits-number n, ← v, ← e, t)
+
+pub ruleset joining = (within, join-given, join-refused, part-given, part-refused)

@@ -1,0 +1,4 @@
+pub mod Choice
+pub mod Identifier
+pub mod Answer
+pub mod Named

@@ -1,0 +1,22 @@
+-- `version::list::version_at` meets its contract. Past the eighth place there is no version.
+-- Assumes nothing.
+use borrow.Author.Needs.{needs}
+use Rattle.version.proofs.Laws.{at-past}
+use Rattle.version.proofs.list.version_at.Statement.{statement}
+use Rattle.version.proofs.list.version_at.Tie as tie
+
+mul-result : tie.Need-mul-result
+mul-result c = search needs
+
+array-read-result : tie.Need-array-read-result
+array-read-result c = search needs
+
+returns : tie.Need-returns
+returns c = search needs
+
+returns-2 : tie.Need-returns-2
+returns-2 c =
+    at-past (c .before .before .args .versions .numbers) _ (search needs) (c .if1 .left)
+
+pub version-at-spec : {M : Type 1} → statement M
+version-at-spec = tie.close (tie.spec mul-result array-read-result returns returns-2)

@@ -1,0 +1,5 @@
+pub mod List
+pub mod Message
+pub mod Told
+pub mod Table
+pub mod Talk

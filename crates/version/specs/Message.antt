@@ -1,0 +1,59 @@
+-- The version message. 001, tables 6 and 7: CAN type, result, version (three bytes), control-pilot version, transport version,
+-- reserved; eight bytes in all, the same for both sides.
+use Prim.Native.Nat.{ℕ}
+use mathlib.Core.Bool.{Bool, true, false, _&&_}
+use mathlib.Core.List.{List, [], _∷_}
+use lib.Dec.{eqb, leb}
+use lib.ListN.{getD}
+use Rattle.frame.specs.Choice.{pick}
+use Rattle.version.specs.List.{versionOf, majorOf, minorOf, temporaryOf}
+use Rattle.version.specs.declared.Message.{Message}
+use Rattle.version.specs.declared.MessageReading as reading-enum
+use Rattle.version.specs.declared.MessageReading.the-variants as reading-variants
+use Rattle.version.specs.declared.Verdict.{Verdict}
+use Rattle.version.specs.declared.Verdict.the-variants.{Continue, Success, Failure}
+
+-- tables 6 and 7, field 2, the result (协商结果): "0x00 continue, 0x01 success, 0x02 failure"
+abbrev pub verdictByte : Verdict → ℕ
+verdictByte Continue = 0
+verdictByte Success = 1
+verdictByte Failure = 2
+
+unfoldable pub verdictOf : ℕ → Verdict
+verdictOf byte = pick (eqb byte 0) Continue (pick (eqb byte 1) Success Failure)
+
+-- "A failure names version FF FF FF (001 prints four bytes for this three-byte field)"
+abbrev pub named : Verdict → ℕ → ℕ
+named Continue version = version
+named Success version = version
+named Failure version = versionOf 0xFF 0xFF 0xFF
+
+-- "Control-pilot, transport-version and reserved bytes .. are written as the caller's byte, 0x01 and 0xFF"; CAN type 0x00 is
+-- CAN 2.0B
+unfoldable pub messageBytes : Message → List ℕ
+messageBytes m =
+    0x00 ∷ verdictByte (m .verdict)
+    ∷ majorOf (named (m .verdict) (m .version)) ∷ minorOf (named (m .verdict) (m .version)) ∷ temporaryOf (named (m .verdict) (m .version))
+    ∷ m .control ∷ 0x01 ∷ 0xFF ∷ []
+
+-- what reading says: the message, or a refusal's number
+pub data MessageJudgement : Type 0 where
+  message : Message → MessageJudgement
+  refused : ℕ → MessageJudgement
+
+-- document 01's value for each case of reading's answer
+abbrev pub toldReading : reading-enum.MessageReading → MessageJudgement
+toldReading (reading-variants.Message m) = message m
+toldReading (reading-variants.Refused number) = refused number
+
+-- refusals, message: "10 CAN type not 0 or result over 2"; nothing else is judged
+unfoldable pub readMessage : List ℕ → MessageJudgement
+readMessage bytes =
+    pick (eqb (getD bytes 0 0) 0 && leb (getD bytes 1 0) 2)
+    (message
+    (record {
+      verdict = verdictOf (getD bytes 1 0);
+      version = versionOf (getD bytes 2 0) (getD bytes 3 0) (getD bytes 4 0);
+      control = getD bytes 5 0;
+    }))
+    (refused 10)

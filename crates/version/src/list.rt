@@ -1,0 +1,178 @@
+// The list of versions: what stands in lent bytes, and places in it.
+ghost use mathlib.Core.Path.{_≡_};
+ghost use Prim.Native.Nat.{min};
+ghost use lib.ListN.{getD};
+ghost use Rattle.version.specs.List.{
+  versionOf,
+  versionsIn,
+  rising,
+  places,
+  toldListed,
+  refusing,
+  listOf,
+  at,
+  highest,
+  toldFound,
+  standing,
+  placeOf,
+  placeBelow,
+};
+use crate::ListOutcome;
+use crate::Listed;
+use crate::Versions;
+
+// A place in a list, if there is one.
+pub(crate) enum Found {
+    Nowhere,
+    Here(u8),
+}
+
+// A version as a number, major first.
+pub(crate) fn number(major: u8, minor: u8, temporary: u8) -> u32
+    ensures { λ r. ⌜ r ≡ versionOf major minor temporary ⌝ }
+{
+    65536 * (major as u32) + 256 * (minor as u32) + temporary as u32
+}
+
+// The version at a place of lent bytes, three bytes for each; 0 past the last.
+fn lent(bytes: &[u8], place: usize) -> u32
+    ensures { λ r. ⌜ r ≡ getD (versionsIn (now (bytes .entry))) place 0 ⌝ }
+{
+    if place < bytes.len() / 3 {
+        let first = 3 * place;
+        number(bytes[first], bytes[first + 1], bytes[first + 2])
+    } else {
+        0
+    }
+}
+
+// Each version is above the one before it.
+fn all_rising(bytes: &[u8]) -> bool
+    ensures { λ r. ⌜ r ≡ rising (versionsIn (now (bytes .entry))) ⌝ }
+{
+    let count = bytes.len() / 3;
+    let mut i = 0;
+    while i + 1 < count {
+        if lent(bytes, i + 1) <= lent(bytes, i) {
+            return false;
+        }
+        i += 1;
+    }
+    true
+}
+
+// The versions of lent bytes at their eight places.
+fn numbers_of(bytes: &[u8]) -> [u32; 8]
+    ensures { λ r. ⌜ r ≡ places (versionsIn (now (bytes .entry))) ⌝ }
+{
+    let n0 = lent(bytes, 0);
+    let n1 = lent(bytes, 1);
+    let n2 = lent(bytes, 2);
+    let n3 = lent(bytes, 3);
+    let n4 = lent(bytes, 4);
+    let n5 = lent(bytes, 5);
+    let n6 = lent(bytes, 6);
+    let n7 = lent(bytes, 7);
+    [n0, n1, n2, n3, n4, n5, n6, n7]
+}
+
+// Refusal 11.
+fn refused() -> Listed
+    ensures { λ r. ⌜ toldListed r ≡ refusing 11 ⌝ }
+{
+    let numbers = [0; 8];
+    let versions = Versions { count: 0, numbers };
+    Listed {
+        versions,
+        outcome: ListOutcome::Refused(11),
+    }
+}
+
+// A list of 1 to 8 strictly rising versions, three bytes for each, or refusal 11.
+pub fn list(bytes: &[u8]) -> Listed
+    ensures { λ r. ⌜ toldListed r ≡ listOf (now (bytes .entry)) ⌝ }
+{
+    let length = bytes.len();
+    let count = length / 3;
+    if count < 1 {
+        return refused();
+    }
+    if 8 < count {
+        return refused();
+    }
+    if length != 3 * count {
+        return refused();
+    }
+    if all_rising(bytes) {
+        let numbers = numbers_of(bytes);
+        let versions = Versions {
+            count: count as u8,
+            numbers,
+        };
+        Listed {
+            versions,
+            outcome: ListOutcome::Accepted,
+        }
+    } else {
+        refused()
+    }
+}
+
+// The version at a place; 0 past the eighth.
+pub(crate) fn version_at(versions: Versions, place: u8) -> u32
+    ensures { λ r. ⌜ r ≡ at versions place ⌝ }
+{
+    let numbers = versions.numbers;
+    if place < 8 {
+        numbers[place as usize]
+    } else {
+        0
+    }
+}
+
+// The place of the highest version.
+pub(crate) fn last_place(versions: Versions) -> u8
+    ensures { λ r. ⌜ r ≡ highest versions ⌝ }
+{
+    let count = versions.count;
+    if 0 < count { count - 1 } else { 0 }
+}
+
+// How many places of the list stand.
+fn standing_count(versions: Versions) -> usize
+    ensures { λ r. ⌜ r ≡ min (versions .count) 8 ⌝ }
+{
+    let count = versions.count;
+    if count < 8 { count as usize } else { 8 }
+}
+
+// The place of this version.
+pub(crate) fn find(versions: Versions, version: u32) -> Found
+    ensures { λ r. ⌜ toldFound r ≡ placeOf (standing versions) version 0 ⌝ }
+{
+    let numbers = versions.numbers;
+    let count = standing_count(versions);
+    let mut i: usize = 0;
+    while i < count {
+        if numbers[i] == version {
+            return Found::Here(i as u8);
+        }
+        i += 1;
+    }
+    Found::Nowhere
+}
+
+// The place of the highest version below this one.
+pub(crate) fn find_below(versions: Versions, version: u32) -> Found
+    ensures { λ r. ⌜ toldFound r ≡ placeBelow (standing versions) version 0 ⌝ }
+{
+    let numbers = versions.numbers;
+    let mut i = standing_count(versions);
+    while 0 < i {
+        i -= 1;
+        if numbers[i] < version {
+            return Found::Here(i as u8);
+        }
+    }
+    Found::Nowhere
+}
