@@ -1,0 +1,256 @@
+//! Chapter "The receiver".
+
+use super::frame::{self, Content, Frame};
+use super::{refusal, Refused};
+
+/// "State: Idle, perhaps with the N and L last delivered; or Open with expected e and window end
+/// w."
+#[derive(Clone, Copy, Debug, PartialEq, Eq)]
+pub enum State {
+    Idle { delivered: Option<Delivered> },
+    Open(Connection),
+}
+
+/// "the N and L last delivered"
+#[derive(Clone, Copy, Debug, PartialEq, Eq)]
+pub struct Delivered {
+    pub n: u8,
+    pub l: u16,
+}
+
+#[derive(Clone, Copy, Debug, PartialEq, Eq)]
+pub struct Connection {
+    pub n: u8,
+    pub l: u16,
+    /// expected e
+    pub e: u8,
+    /// window end w
+    pub w: u8,
+    pub wait: u16,
+    pub misses: u16,
+}
+
+/// "for R `delivered L`, `failed cause`, `short` with its bytes"
+#[derive(Clone, Copy, Debug, PartialEq, Eq)]
+pub enum Report {
+    Delivered { l: u16 },
+    Failed { cause: u8 },
+    Short([u8; 8]),
+}
+
+#[derive(Clone, Copy, Debug, Default, PartialEq, Eq)]
+pub struct Answer {
+    pub frame: Option<Frame>,
+    pub report: Option<Report>,
+}
+
+impl Answer {
+    fn frame(frame: Frame) -> Answer {
+        Answer {
+            frame: Some(frame),
+            report: None,
+        }
+    }
+}
+
+#[derive(Clone, Debug, PartialEq, Eq)]
+pub struct Receiver {
+    /// "T as above (its own)"
+    pub timeout: u16,
+    /// "window C 1 to 255"
+    pub window: u8,
+    /// "capacity K 9 to 1785"
+    pub capacity: u16,
+    pub state: State,
+}
+
+impl Receiver {
+    /// "Settings: T as above (its own), window C 1 to 255, capacity K 9 to 1785." Refusal 1
+    /// otherwise.
+    pub fn make(timeout: u16, window: u8, capacity: u16) -> Result<Receiver, Refused> {
+        let within = (1..=10000).contains(&timeout)
+            && window >= 1
+            && (frame::LONG_LEAST..=frame::LONG_MOST).contains(&capacity);
+        if !within {
+            return Err(refusal::SETTING);
+        }
+        Ok(Receiver {
+            timeout,
+            window,
+            capacity,
+            state: State::Idle { delivered: None },
+        })
+    }
+
+    /// "Tick or LM_NACK, Idle: nothing." A receiver's tick is lent nothing and is never refused.
+    pub fn tick(&mut self) -> Answer {
+        let State::Open(mut open) = self.state else {
+            return Answer::default();
+        };
+        // "Tick, Open: wait grows by 1."
+        open.wait = open.wait.saturating_add(1);
+        if open.wait != self.timeout {
+            self.state = State::Open(open);
+            return Answer::default();
+        }
+        // "At T, wait is 0 and misses grows by 1;"
+        open.wait = 0;
+        open.misses = open.misses.saturating_add(1);
+        // "the third emits NACK 2 and fails;"
+        if open.misses == 3 {
+            let nack = frame::lm_nack(frame::CAUSE_TIMEOUTS);
+            return self.fail(frame::CAUSE_TIMEOUTS, Some(nack));
+        }
+        // "before it w as above and LM_ACK e, w - e + 1."
+        open.w = self.window_end(open.e, open.n);
+        self.state = State::Open(open);
+        Answer::frame(ask(&open))
+    }
+
+    /// "hearing: 5 buffer not 1785 (receiver); 6 ...; 7 kind for the other end (... receiver 1, 3,
+    /// 5, 7)", in this order and before any look at the state.
+    pub fn hear(&mut self, heard: Frame, buffer: &mut [u8]) -> Result<Answer, Refused> {
+        if buffer.len() != frame::BUFFER_LENGTH {
+            return Err(refusal::BUFFER);
+        }
+        let content = frame::read(heard)?;
+        match content {
+            Content::Announcement { n, l } => Ok(self.hear_announcement(n, l)),
+            Content::Information { i, bytes } => Ok(self.hear_information(i, bytes, buffer)),
+            Content::LmNack { .. } => Ok(match self.state {
+                // "LM_NACK, Open: closed, failed 1."
+                State::Open(_) => self.fail(frame::CAUSE_NO_SPACE, None),
+                // "Tick or LM_NACK, Idle: nothing."
+                State::Idle { .. } => Answer::default(),
+            }),
+            // "SM_RM: SM_ACK and a short delivery of its eight bytes; ... State and buffer stay."
+            Content::SmRm(bytes) => Ok(Answer {
+                frame: Some(frame::sm_ack(bytes[0])),
+                report: Some(Report::Short(bytes)),
+            }),
+            // "SM_URM: a delivery only. State and buffer stay."
+            Content::SmUrm(bytes) => Ok(Answer {
+                frame: None,
+                report: Some(Report::Short(bytes)),
+            }),
+            Content::LmAck { .. } | Content::EndofAck { .. } | Content::SmAck { .. } => {
+                Err(refusal::OTHER_END)
+            }
+        }
+    }
+
+    fn hear_announcement(&mut self, n: u8, l: u16) -> Answer {
+        match self.state {
+            State::Idle { .. } => {
+                // "Frame 0, Idle: unless L is 9 to 1785 and N fits it, NACK 5;"
+                let good = (frame::LONG_LEAST..=frame::LONG_MOST).contains(&l)
+                    && u16::from(n) == frame::frames_for(l);
+                if !good {
+                    return Answer::frame(frame::lm_nack(frame::CAUSE_ANNOUNCEMENT));
+                }
+                // "then if L > K, NACK 1; both change nothing."
+                if l > self.capacity {
+                    return Answer::frame(frame::lm_nack(frame::CAUSE_NO_SPACE));
+                }
+                // "Else Open, e = 1, w the smaller of C and N, wait and misses 0, emits LM_ACK 1,
+                // w; the last delivery is forgotten."
+                let w = self.window.min(n);
+                self.state = State::Open(Connection {
+                    n,
+                    l,
+                    e: 1,
+                    w,
+                    wait: 0,
+                    misses: 0,
+                });
+                Answer::frame(frame::lm_ack(1, w))
+            }
+            // "Frame 0, Open: with the same N and L and e = 1, LM_ACK 1, w again, nothing else;
+            // otherwise ignored."
+            State::Open(open) => {
+                if n == open.n && l == open.l && open.e == 1 {
+                    Answer::frame(frame::lm_ack(1, open.w))
+                } else {
+                    Answer::default()
+                }
+            }
+        }
+    }
+
+    fn hear_information(&mut self, i: u8, bytes: [u8; 7], buffer: &mut [u8]) -> Answer {
+        let mut open = match self.state {
+            // "Frame i from 1, Idle: EndofACK if i is the last delivered N, else ignored."
+            State::Idle { delivered } => {
+                return match delivered {
+                    Some(last) if i == last.n => Answer::frame(frame::endof_ack(last.n, last.l)),
+                    _ => Answer::default(),
+                };
+            }
+            State::Open(open) => open,
+        };
+        // "Frame i, Open: i > N emits NACK 4, closes, failed."
+        if i > open.n {
+            let nack = frame::lm_nack(frame::CAUSE_NUMBER);
+            return self.fail(frame::CAUSE_NUMBER, Some(nack));
+        }
+        // "i other than e is ignored." The wait is not restarted.
+        if i != open.e {
+            return Answer::default();
+        }
+        // "i = e: its message bytes go to that part of the buffer, from place 7(i-1) on, the rest
+        // stays;" Message bytes are those before L, so filler is not copied.
+        let start = usize::from(frame::PER_FRAME) * usize::from(i).saturating_sub(1);
+        let count = usize::from(open.l).saturating_sub(start).min(bytes.len());
+        for (place, &byte) in buffer.iter_mut().skip(start).zip(&bytes[..count]) {
+            *place = byte;
+        }
+        // "wait and misses 0."
+        open.wait = 0;
+        open.misses = 0;
+        // "At N: EndofACK, delivered L, Idle."
+        if i == open.n {
+            let delivered = Delivered {
+                n: open.n,
+                l: open.l,
+            };
+            self.state = State::Idle {
+                delivered: Some(delivered),
+            };
+            return Answer {
+                frame: Some(frame::endof_ack(open.n, open.l)),
+                report: Some(Report::Delivered { l: open.l }),
+            };
+        }
+        // "At w: e grows by 1, w is the smaller of e + C - 1 and N, LM_ACK e, w - e + 1. Else e
+        // grows by 1."
+        let at_window_end = i == open.w;
+        open.e = open.e.saturating_add(1);
+        if at_window_end {
+            open.w = self.window_end(open.e, open.n);
+            self.state = State::Open(open);
+            return Answer::frame(ask(&open));
+        }
+        self.state = State::Open(open);
+        Answer::default()
+    }
+
+    /// "the smaller of e + C - 1 and N"
+    fn window_end(&self, e: u8, n: u8) -> u8 {
+        let end = (u16::from(e) + u16::from(self.window)).saturating_sub(1);
+        end.min(u16::from(n)) as u8
+    }
+
+    /// "A failure forgets the last delivery."
+    fn fail(&mut self, cause: u8, closing: Option<Frame>) -> Answer {
+        self.state = State::Idle { delivered: None };
+        Answer {
+            frame: closing,
+            report: Some(Report::Failed { cause }),
+        }
+    }
+}
+
+/// "LM_ACK e, w - e + 1"
+fn ask(open: &Connection) -> Frame {
+    frame::lm_ack(open.e, open.w.saturating_sub(open.e).saturating_add(1))
+}

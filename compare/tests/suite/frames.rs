@@ -1,0 +1,148 @@
+//! Chapter "Frames".
+
+use compare::reference::frame::{self, Content, Frame};
+use compare::reference::Refused;
+
+#[test]
+fn builders_and_reader_agree() {
+    let pairs = [
+        (
+            frame::announcement(2, 9),
+            [1, 0, 2, 9, 0, 255, 255, 255, 255],
+            Content::Announcement { n: 2, l: 9 },
+        ),
+        (
+            frame::information(2, &[1, 2, 3, 4, 5, 6, 7, 8, 9]),
+            [1, 2, 8, 9, 255, 255, 255, 255, 255],
+            Content::Information {
+                i: 2,
+                bytes: [8, 9, 255, 255, 255, 255, 255],
+            },
+        ),
+        (
+            frame::lm_ack(3, 4),
+            [2, 3, 4, 255, 255, 255, 255, 255, 255],
+            Content::LmAck { s: 3, c: 4 },
+        ),
+        (
+            frame::lm_nack(5),
+            [3, 5, 255, 255, 255, 255, 255, 255, 255],
+            Content::LmNack { cause: 5 },
+        ),
+        (
+            frame::endof_ack(255, 1785),
+            [4, 255, 0xF9, 6, 255, 255, 255, 255, 255],
+            Content::EndofAck { n: 255, l: 1785 },
+        ),
+        (
+            frame::sm_rm(&[7, 8]),
+            [5, 7, 8, 255, 255, 255, 255, 255, 255],
+            Content::SmRm([7, 8, 255, 255, 255, 255, 255, 255]),
+        ),
+        (
+            frame::sm_ack(0),
+            [6, 0, 255, 255, 255, 255, 255, 255, 255],
+            Content::SmAck { first: 0 },
+        ),
+        (
+            frame::sm_urm(&[1, 2, 3, 4, 5, 6, 7, 8]),
+            [7, 1, 2, 3, 4, 5, 6, 7, 8],
+            Content::SmUrm([1, 2, 3, 4, 5, 6, 7, 8]),
+        ),
+    ];
+    for (built, bytes, content) in pairs {
+        let mut data = [0; 8];
+        data.copy_from_slice(&bytes[1..]);
+        assert_eq!(
+            built,
+            Frame {
+                kind: bytes[0],
+                data
+            }
+        );
+        assert_eq!(frame::read(built), Ok(content));
+    }
+}
+
+/// "N = L / 7 rounded up."
+#[test]
+fn number_of_frames() {
+    for (l, n) in [
+        (1, 1),
+        (7, 1),
+        (8, 2),
+        (9, 2),
+        (14, 2),
+        (15, 3),
+        (1778, 254),
+        (1779, 255),
+        (1785, 255),
+    ] {
+        assert_eq!(frame::frames_for(l), n);
+    }
+}
+
+/// "6 kind not 1 to 7"
+#[test]
+fn other_kinds_are_refused() {
+    for kind in 0..=255 {
+        let read = frame::read(Frame {
+            kind,
+            data: [0xFF; 8],
+        });
+        assert_eq!(read.is_ok(), (1..=7).contains(&kind), "kind {kind}");
+        if read.is_err() {
+            assert_eq!(read, Err(Refused(6)));
+        }
+    }
+}
+
+/// "or filler not 0xFF (never judged in kind 1 from number 1, nor kinds 5, 7)"
+#[test]
+fn filler_is_judged_where_it_is_filler() {
+    // kind, d0, number of named bytes
+    for (kind, first, named) in [
+        (1, 0, 4),
+        (1, 1, 8),
+        (1, 255, 8),
+        (2, 1, 2),
+        (3, 1, 1),
+        (4, 1, 3),
+        (5, 0, 8),
+        (6, 0, 1),
+        (7, 0, 8),
+    ] {
+        for place in 0..8 {
+            for byte in [0x00, 0x7F, 0xFE] {
+                let mut data = [0xFF; 8];
+                data[0] = first;
+                if place > 0 {
+                    data[place] = byte;
+                }
+                let read = frame::read(Frame { kind, data });
+                if place < named {
+                    assert!(read.is_ok(), "kind {kind} place {place}");
+                } else {
+                    assert_eq!(read, Err(Refused(6)), "kind {kind} place {place}");
+                }
+            }
+        }
+    }
+}
+
+/// "carries message bytes 7(i-1) onward in d1 to d7, the last frame filled with 0xFF"
+#[test]
+fn information_frames_carry_the_message() {
+    let message: Vec<u8> = (0..1785).map(|place| (place * 7 % 253) as u8).collect();
+    for length in [9, 13, 14, 15, 1779, 1785] {
+        let message = &message[..length];
+        let mut carried: Vec<u8> = Vec::new();
+        for i in 1..=frame::frames_for(length as u16) as u8 {
+            let built = frame::information(i, message);
+            assert_eq!((built.kind, built.data[0]), (1, i));
+            carried.extend(&built.data[1..]);
+        }
+        assert_eq!(carried[..length], *message);
+        assert!(carried[length..].iter().all(|&byte| byte == 0xFF));
+    }
+}

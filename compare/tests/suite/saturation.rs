@@ -1,0 +1,99 @@
+//! Counts at their ends: no call overflows, and a count that would pass 65535 stays there.
+
+use crate::help::*;
+use compare::reference::frame;
+use compare::reference::receiver::{Connection, Receiver, State};
+use compare::reference::sender::{Phase, Sender};
+
+/// The most a reachable transfer counts: a frame at every tick up to M = 60000, and begin's.
+#[test]
+fn most_frames_of_a_transfer() {
+    let (mut sender, message) = begun(1, 10000, 60000, 1785);
+    let mut answer = s_nothing();
+    for _ in 0..60000 {
+        sender.hear(frame::lm_ack(1, 255)).unwrap();
+        answer = sender.tick(&message).unwrap();
+    }
+    assert_eq!(answer, s_failed(3, 60000, 60001, Some(frame::lm_nack(3))));
+}
+
+#[test]
+fn sender_counts_stay_at_65535() {
+    let message = message(21);
+    let phases = [
+        Phase::Opening,
+        Phase::Sending { next: 1, last: 3 },
+        Phase::Sending {
+            next: 255,
+            last: 255,
+        },
+        Phase::Sending { next: 200, last: 3 },
+        Phase::Waiting { last: 255 },
+        Phase::Waiting { last: 0 },
+        Phase::Short,
+    ];
+    for phase in phases {
+        for count in [65534, 65535] {
+            let mut sender = Sender::make(1, 1, 60000).unwrap();
+            sender.phase = phase;
+            sender.length = 21;
+            sender.age = count;
+            sender.frames = count;
+            sender.misses = count;
+            // A timeout or a frame at this very tick, and then every count at its end.
+            for wait in [0, count] {
+                let mut called = sender.clone();
+                called.wait = wait;
+                called.gap_count = wait;
+                called.tick(&message).unwrap();
+                assert_eq!(called.age, 65535);
+                assert!(called.wait == 0 || called.wait >= wait);
+                called.hear(frame::lm_ack(255, 255)).unwrap();
+                assert!(called.frames >= count);
+            }
+        }
+    }
+    // A closing frame at the end of the count.
+    let (mut sender, message) = begun(1, 1, 1, 9);
+    sender.frames = 65535;
+    assert_eq!(
+        sender.tick(&message),
+        Ok(s_failed(3, 1, 65535, Some(frame::lm_nack(3))))
+    );
+}
+
+#[test]
+fn receiver_counts_stay_at_65535() {
+    let mut buffer = buffer();
+    for timeout in [1, 10000] {
+        for window in [1, 255] {
+            for (n, l) in [(2, 9), (255, 1785), (255, 65535), (255, 0), (0, 9)] {
+                for e in [0, 1, 254, 255] {
+                    for w in [0, 1, 255] {
+                        for count in [0, 65535] {
+                            let mut receiver = Receiver::make(timeout, window, 9).unwrap();
+                            let open = Connection {
+                                n,
+                                l,
+                                e,
+                                w,
+                                wait: count,
+                                misses: count,
+                            };
+                            receiver.state = State::Open(open);
+                            for i in [1, e.max(1), 255] {
+                                let frame = frame::information(i, &[1; 1785]);
+                                receiver.clone().hear(frame, &mut buffer).unwrap();
+                            }
+                            receiver
+                                .clone()
+                                .hear(frame::announcement(n, l), &mut buffer)
+                                .unwrap();
+                            receiver.tick();
+                        }
+                    }
+                }
+            }
+        }
+    }
+}
