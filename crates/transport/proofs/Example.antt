@@ -39,7 +39,7 @@ example = refl
 -- ---- the player's runs meet the conditions
 
 -- the begun message, if any, is m
-abbrev About : List ℕ → Begun → Type 0
+abbrev pub About : List ℕ → Begun → Type 0
 About m Begun.never = Unit
 About m (Begun.since message ticks reports deliveries) = m ≡ message
 
@@ -48,7 +48,7 @@ about-further m Begun.never ticks reports ds a = tt
 about-further m (Begun.since message t r d) ticks reports ds a = a
 
 -- no other begin comes
-abbrev Goes : Sort → Type 0
+abbrev pub Goes : Sort → Type 0
 Goes (begins message) = ⊥
 Goes ticksSender = Unit
 Goes ticksReceiver = Unit
@@ -83,12 +83,12 @@ step-call w hearBack = given-back-call gone hearBack w (w .back)
 step-call w repeatBack = given-back-call still repeatBack w (w .back)
 step-call w loseBack = refl
 
-about-step : (m : List ℕ) (p : Past) (c : Call) → Goes (sortOf c) → About m (begunIn (p .events)) → About m (begunIn (next p c .events))
+pub about-step : (m : List ℕ) (p : Past) (c : Call) → Goes (sortOf c) → About m (begunIn (p .events)) → About m (begunIn (next p c .events))
 unfolding begunIn begunAfter
 about-step m p c g a =
     about-by m (sortOf (stepOf (p .world) c .event .call)) _ _ (rw step-call g) (about-further m (begunIn (p .events)) _ _ _ a)
 
-lent-message : (m : List ℕ) (b : Begun) → About m b → LentMessage b m
+pub lent-message : (m : List ℕ) (b : Begun) → About m b → LentMessage b m
 lent-message m Begun.never a = tt
 lent-message m (Begun.since message ticks reports ds) a = λ _. a
 
@@ -122,7 +122,7 @@ meets-events m (event ∷ events) p a = (
   meets-events m events (next p (callFor (p .world) m event)) (about-step m p (callFor (p .world) m event) (goes-event m (p .world) event) a),
 )
 
-about-begin : (m : List ℕ) (accepted : Bool) → About m (begunBy (begins m) accepted Begun.never)
+pub about-begin : (m : List ℕ) (accepted : Bool) → About m (begunBy (begins m) accepted Begun.never)
 about-begin m true = refl
 about-begin m false = tt
 

@@ -1,0 +1,1 @@
+// The player: a run pack, and what is printed of it.
