@@ -15,7 +15,7 @@ use lib.Seq.{sets, getD-set-same, getD-set-other, take-all, take-append-le}
 use Rattle.frame.specs.Choice.{pick}
 use Rattle.frame.proofs.Choice.{pick-elim}
 use Rattle.frame.specs.declared.Frame.{Frame}
-use Rattle.line.proofs.Laws.{listed}
+use Rattle.line.proofs.Laws.{listed, head-there}
 use Rattle.line.specs.Ring.{frameAt, stored, framesFrom, framesIn, headOf, restOf, Kept, kept, joinOf}
 use Rattle.line.specs.declared.Ring.{Ring}
 
@@ -133,7 +133,9 @@ pub frames-joined : (r : Ring) (f : Frame) (bytes : List ℕ)
     → framesIn (joinOf r f bytes .ring) (joinOf r f bytes .bytes) ≡ take 64 (framesIn r bytes ++ f ∷ [])
 unfolding joinOf framesIn
 frames-joined r f bytes size eight =
-    pick-elim (λ (k : Kept). framesIn (k .ring) (k .bytes) ≡ take 64 (framesIn r bytes ++ f ∷ [])) (leb 64 (r .count)) full room
+    pick-elim (λ (k : Kept). framesIn (k .ring) (k .bytes) ≡ take 64 (framesIn r bytes ++ f ∷ [])) _
+    (λ whole. pick-elim (λ (k : Kept). framesIn (k .ring) (k .bytes) ≡ take 64 (framesIn r bytes ++ f ∷ [])) (leb 64 (r .count)) full room)
+    (λ other. absurd (eqb-false (length bytes) 576 other size))
   where
     full : leb 64 (r .count) ≡ true → framesIn r bytes ≡ take 64 (framesIn r bytes ++ f ∷ [])
     full t =
@@ -156,18 +158,28 @@ frames-joined r f bytes size eight =
         ∙ ap (λ (g : Frame). framesFrom bytes (r .first) (r .count) ++ g ∷ []) (frame-stored bytes _ f size eight (omega arith))
         ∙ sym (take-all 64 _ (rw (length-append, l) (omega arith))))
 
--- "Hear takes the first away": the first frame and the rest, or nothing where the ring is empty
-pub frames-some : (r : Ring) (bytes : List ℕ)
+-- the first place, and those behind it
+pub rest-frames : (r : Ring) (bytes : List ℕ)
     → (r .count ≡ 0 → ⊥)
-    → framesIn r bytes ≡ headOf r bytes ∷ framesIn (restOf r) bytes
+    → framesIn r bytes ≡ frameAt bytes (r .first % 64) ∷ framesIn (restOf r) bytes
 unfolding restOf framesIn framesFrom
-frames-some r bytes some =
-    pick-elim (λ (k : Ring). framesIn r bytes ≡ headOf r bytes ∷ framesIn k bytes) (eqb (r .count) 0)
+rest-frames r bytes some =
+    pick-elim (λ (k : Ring). framesIn r bytes ≡ frameAt bytes (r .first % 64) ∷ framesIn k bytes) (eqb (r .count) 0)
     (λ t. absurd (some (eqb-true _ _ t)))
     (λ t. let more : min (r .count) 64 ≡ suc (min (min (r .count) 64 - 1) 64) = omega arith in
     ap (framesFrom bytes (r .first)) more
-    ∙ ap (λ (l : List Frame). headOf r bytes ∷ l)
+    ∙ ap (λ (l : List Frame). frameAt bytes (r .first % 64) ∷ l)
     (frames-around bytes (min (min (r .count) 64 - 1) 64) (suc (r .first)) ((r .first % 64 + 1) % 64) (omega arith)))
+
+-- "Hear takes the first away": the first frame and the rest, or nothing where the ring is empty
+pub frames-some : (r : Ring) (bytes : List ℕ)
+    → length bytes ≡ 576
+    → (r .count ≡ 0 → ⊥)
+    → framesIn r bytes ≡ headOf r bytes ∷ framesIn (restOf r) bytes
+unfolding restOf framesIn framesFrom
+frames-some r bytes size some =
+    rw (← head-there r (frameAt bytes (r .first % 64)) bytes size refl)
+    (rest-frames r bytes some)
 
 pub frames-none : (r : Ring) (bytes : List ℕ) → r .count ≡ 0 → framesIn r bytes ≡ []
 unfolding framesIn framesFrom

@@ -14,8 +14,9 @@ use lib.ListN.{length, getD, set, take}
 use lib.Seq.{sets, getD-set-same, getD-set-other, length-sets}
 use Rattle.frame.specs.Choice.{pick}
 use Rattle.frame.proofs.Choice.{pick-true, pick-false}
+use Rattle.frame.specs.Frames.{blankOf}
 use Rattle.frame.specs.declared.Frame.{Frame}
-use Rattle.line.specs.Ring.{frameAt, stored, framesFrom, framesIn, restOf, Kept, kept, joinOf}
+use Rattle.line.specs.Ring.{frameAt, stored, framesFrom, framesIn, headOf, restOf, Kept, kept, joinOf}
 use Rattle.line.specs.declared.Ring.{Ring}
 
 abbrev ringOf : ℕ → ℕ → Ring
@@ -40,16 +41,30 @@ rest-some r some few =
     pick-false _ (ne-eqb _ _ some)
     (ap (ringOf ((r .first % 64 + 1) % 64)) (omega arith))
 
-pub join-full : (r : Ring) (f : Frame) (bytes : List ℕ) → 64 ≤ r .count → kept r bytes ≡ joinOf r f bytes
+pub head-there : (r : Ring) (f : Frame) (bytes : List ℕ) → length bytes ≡ 576 → f ≡ frameAt bytes (r .first % 64) → f ≡ headOf r bytes
+unfolding headOf
+head-there r f bytes size e = pick-true _ (eq-eqb _ _ size) e
+
+pub head-none : (r : Ring) (f : Frame) (bytes : List ℕ) → (length bytes ≡ 576 → ⊥) → f ≡ blankOf → f ≡ headOf r bytes
+unfolding headOf
+head-none r f bytes other e = pick-false _ (ne-eqb _ _ other) e
+
+pub join-nowhere : (r : Ring) (f : Frame) (bytes : List ℕ) → (length bytes ≡ 576 → ⊥) → kept r bytes ≡ joinOf r f bytes
 unfolding joinOf
-join-full r f bytes full = pick-true _ (le-leb _ _ full) refl
+join-nowhere r f bytes other = pick-false _ (ne-eqb _ _ other) refl
+
+pub join-full : (r : Ring) (f : Frame) (bytes : List ℕ) → length bytes ≡ 576 → 64 ≤ r .count → kept r bytes ≡ joinOf r f bytes
+unfolding joinOf
+join-full r f bytes size full = pick-true _ (eq-eqb _ _ size) (pick-true _ (le-leb _ _ full) refl)
 
 pub join-room : (r : Ring) (f : Frame) (bytes after : List ℕ)
+    → length bytes ≡ 576
     → r .count < 64
     → after ≡ stored bytes ((r .first % 64 + r .count) % 64) f
     → kept (ringOf (r .first) (r .count + 1)) after ≡ joinOf r f bytes
 unfolding joinOf
-join-room r f bytes after room e = pick-false _ (lt-leb _ _ room) (ap (kept (ringOf (r .first) (r .count + 1))) e)
+join-room r f bytes after size room e =
+    pick-true _ (eq-eqb _ _ size) (pick-false _ (lt-leb _ _ room) (ap (kept (ringOf (r .first) (r .count + 1))) e))
 
 -- n bytes of s from place k on
 abbrev pub bytesFrom : ℕ → ℕ → List ℕ → List ℕ
@@ -80,4 +95,6 @@ nine-stores bytes place f whole =
 -- the paths of each function
 pub ruleset rests = (rest-empty, rest-full, rest-some)
 
-pub ruleset joins = (join-full, join-room)
+pub ruleset heads = (head-there, head-none)
+
+pub ruleset joins = (join-nowhere, join-full, join-room)

@@ -3,9 +3,10 @@
 use Prim.Native.Nat.{ℕ, zero, suc, _+_, _-_, _*_, _%_, min}
 use mathlib.Core.List.{List, [], _∷_}
 use lib.Dec.{eqb, leb}
-use lib.ListN.{getD}
+use lib.ListN.{length, getD}
 use lib.Seq.{sets}
 use Rattle.frame.specs.Choice.{pick}
+use Rattle.frame.specs.Frames.{blankOf}
 use Rattle.frame.specs.declared.Frame.{Frame}
 use Rattle.line.specs.declared.Ring.{Ring}
 
@@ -44,9 +45,9 @@ framesIn r bytes = framesFrom bytes (r .first) (min (r .count) 64)
 abbrev pub emptyOf : Ring
 emptyOf = record { first = 0; count = 0 }
 
--- the first frame, where there is one
-abbrev pub headOf : Ring → List ℕ → Frame
-headOf r bytes = frameAt bytes (r .first % 64)
+-- the first frame, where there is one; lent bytes of another length hold none
+unfoldable pub headOf : Ring → List ℕ → Frame
+headOf r bytes = pick (eqb (length bytes) 576) (frameAt bytes (r .first % 64)) blankOf
 
 -- without its first frame: "Hear takes the first away"; "On an empty list nothing happens"
 unfoldable pub restOf : Ring → Ring
@@ -61,8 +62,10 @@ pub record Kept : Type 0 where
 abbrev pub kept : Ring → List ℕ → Kept
 kept r bytes = record { ring = r; bytes = bytes }
 
--- "Emitted frames join the end", and a frame that finds 64 before it is lost
+-- "Emitted frames join the end", and a frame that finds 64 before it is lost; lent bytes of another length take none
 unfoldable pub joinOf : Ring → Frame → List ℕ → Kept
 joinOf r f bytes =
-    pick (leb 64 (r .count)) (kept r bytes)
-    (kept (record { first = r .first; count = r .count + 1 }) (stored bytes ((r .first % 64 + r .count) % 64) f))
+    pick (eqb (length bytes) 576)
+    (pick (leb 64 (r .count)) (kept r bytes)
+    (kept (record { first = r .first; count = r .count + 1 }) (stored bytes ((r .first % 64 + r .count) % 64) f)))
+    (kept r bytes)

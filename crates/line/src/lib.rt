@@ -2,8 +2,12 @@
 ghost use mathlib.Core.Path.{_≡_};
 ghost use Prim.Native.Nat.{_<_};
 ghost use lib.Dec.{eqb};
+ghost use lib.ListN.{length};
 ghost use Rattle.line.specs.Ring.{emptyOf, headOf, frameAt, stored, restOf, kept, joinOf};
 use frame::Frame;
+
+// Nine bytes for each of 64 places.
+const SIZE: usize = 576;
 
 // The place of the first frame, and how many frames there are from it on.
 pub struct Ring {
@@ -12,8 +16,8 @@ pub struct Ring {
 }
 
 // The frame at a place.
-fn frame_at(place: u8, bytes: &[u8; 576]) -> Frame
-    requires { ⌜ place < 64 ⌝ }
+fn frame_at(place: u8, bytes: &[u8]) -> Frame
+    requires { ⌜ (place < 64) × (length (now bytes) ≡ 576) ⌝ }
     ensures { λ f. ⌜ f ≡ frameAt (now (bytes .entry)) place ⌝ }
 {
     let at = 9 * (place as usize);
@@ -33,8 +37,8 @@ fn frame_at(place: u8, bytes: &[u8; 576]) -> Frame
 }
 
 // A frame goes to a place.
-fn store(f: Frame, place: u8, bytes: &mut [u8; 576])
-    requires { ⌜ place < 64 ⌝ }
+fn store(f: Frame, place: u8, bytes: &mut [u8])
+    requires { ⌜ (place < 64) × (length (now bytes) ≡ 576) ⌝ }
     ensures { λ _. ⌜ now (bytes .exit) ≡ stored (now (bytes .entry)) place f ⌝ }
 {
     let data = f.bytes;
@@ -63,11 +67,15 @@ impl Ring {
         self.count == 0
     }
 
-    // The frame at the first place; the first frame, where there is one.
-    pub fn head(self, bytes: &[u8; 576]) -> Frame
+    // The frame at the first place: the first frame, where there is one. Lent anything but 576 bytes, the blank frame.
+    pub fn head(self, bytes: &[u8]) -> Frame
         ensures { λ f. ⌜ f ≡ headOf self (now (bytes .entry)) ⌝ }
     {
-        frame_at(self.first % 64, bytes)
+        if bytes.len() == SIZE {
+            frame_at(self.first % 64, bytes)
+        } else {
+            frame::build::blank()
+        }
     }
 
     // Without the first frame, where there is one.
@@ -88,12 +96,16 @@ impl Ring {
         }
     }
 
-    // With a frame more at its end; a frame that finds 64 before it is lost.
-    pub fn join(self, f: Frame, bytes: &mut [u8; 576]) -> Ring
+    // With a frame more at its end; a frame that finds 64 before it is lost, and so is one that is lent anything but 576
+    // bytes.
+    pub fn join(self, f: Frame, bytes: &mut [u8]) -> Ring
         ensures { λ r. ⌜ kept r (now (bytes .exit)) ≡ joinOf self f (now (bytes .entry)) ⌝ }
     {
         let first = self.first;
         let count = self.count;
+        if bytes.len() != SIZE {
+            return self;
+        }
         if 64 <= count {
             return self;
         }

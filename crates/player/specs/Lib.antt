@@ -1,2 +1,4 @@
 pub mod Step
 pub mod Claim
+pub mod Text
+pub mod State

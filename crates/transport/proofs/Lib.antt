@@ -10,3 +10,4 @@ pub mod Lives
 pub mod Theorem
 pub mod Example
 pub mod Across
+pub mod Refusals

@@ -1,0 +1,262 @@
+-- A law for each path through the code of one event: what the ends, the printing and the rings promise gives the step that
+-- the definition has. A line that no frame joins is at most 64 long as it is.
+-- Assumes nothing.
+use Prim.Native.Nat.{ℕ}
+use mathlib.Core.Path.{_≡_, refl, sym, ap, _∙_}
+use mathlib.Core.Bool.{Bool, true, false}
+use mathlib.Core.List.{List, [], _∷_, _++_, map, append-nil}
+use borrow.Author.Needs.{length-unmapped}
+use borrow.Author.Tests.{eqb-true, eqb-false}
+use lib.Dec.{eqb}
+use lib.ListN.{length, take}
+use lib.Seq.{take-all}
+use Rattle.frame.specs.declared.Frame.{Frame}
+use Rattle.line.proofs.Frames.{frames-joined, frames-limit, frames-some, frames-none, rest-frames}
+use Rattle.line.proofs.Laws.{rest-empty}
+use Rattle.line.specs.Ring.{framesIn, headOf, restOf, Kept, kept, joinOf}
+use Rattle.line.specs.declared.Ring.{Ring}
+use Rattle.player.specs.State.{worldOf, Turned, turned, printed, turnOf, senderAnswered, receiverAnswered}
+use Rattle.player.specs.Step.{capped, playerStep}
+use Rattle.player.specs.Text.{letterOf, framesText, eventText}
+use Rattle.player.specs.declared.Ends.{Ends}
+use Rattle.receiver.specs.Hear as hearing
+use Rattle.receiver.specs.Tick as ticking
+use Rattle.receiver.specs.Told as receiver
+use Rattle.sender.specs.Hear.{hearOf}
+use Rattle.sender.specs.Tick.{tickOf}
+use Rattle.sender.specs.Told as sender
+use Rattle.text.specs.Page.{Page, page, put}
+use Rattle.text.specs.Text.{letterS, letterR, frameLine, emittedText, senderReport, receiverReport, senderText, receiverText}
+use Rattle.transport.proofs.Refusals.{buffer-left}
+use Rattle.transport.specs.Step.{emission, Stepped, unheard, bySender, wasRefused, bufferAfter, byReceiver, Rest, still, dropped, givenForward, givenBack, stepOf}
+use Rattle.transport.specs.World.{World, Call, senderTick, receiverTick, repeatForward, loseForward, repeatBack, loseBack, Given, nobody, toSender, toReceiver}
+
+-- ---- a line after a call
+
+all-frames : (ring : Ring) (bytes : List ℕ) → take 64 (framesIn ring bytes) ≡ framesIn ring bytes
+all-frames ring bytes = take-all 64 (framesIn ring bytes) (frames-limit ring bytes)
+
+pub line-joined : (ring r : Ring) (f : Frame) (emits : Bool) (bytes after : List ℕ)
+    → kept r after ≡ joinOf ring f bytes
+    → length bytes ≡ 576
+    → length (map (λ (v : ℕ). v) (f .bytes)) ≡ 8
+    → emits ≡ true
+    → framesIn r after ≡ take 64 (framesIn ring bytes ++ emission emits f)
+line-joined ring r f emits bytes after e size eight t =
+    rw t
+    (ap (λ (k : Kept). framesIn (k .ring) (k .bytes)) e
+    ∙ frames-joined ring f bytes size (length-unmapped ℕ (f .bytes) 8 eight))
+
+pub line-alone : (ring : Ring) (f : Frame) (emits : Bool) (bytes : List ℕ) → emits ≡ false
+    → framesIn ring bytes ≡ take 64 (framesIn ring bytes ++ emission emits f)
+line-alone ring f emits bytes t = rw (t, append-nil) (sym (all-frames ring bytes))
+
+pub ruleset lines = (line-joined, line-alone)
+
+-- ---- an end's answer
+
+pub sender-answered : (ends : Ends) (r : Ring) (t : sender.Told) (number : ℕ) (bytes after : List ℕ) (p q : Page)
+    → framesIn r after ≡ take 64 (framesIn (ends .forward) bytes ++ emission (t .emits) (t .frame))
+    → q ≡ put p (senderText number t)
+    → (back buffer : List ℕ)
+    → turned (worldOf (record { sender = t .next; receiver = ends .receiver; forward = r; back = ends .back }) after back buffer) q
+    ≡ senderAnswered (worldOf ends bytes back buffer) t number p
+unfolding senderAnswered
+sender-answered ends r t number bytes after p q line text back buffer = rw (line, text) refl
+
+pub receiver-answered : (ends : Ends) (r : Ring) (t : receiver.Told) (number : ℕ) (bytes after : List ℕ) (p q : Page)
+    → framesIn r after ≡ take 64 (framesIn (ends .back) bytes ++ emission (t .emits) (t .frame))
+    → q ≡ put p (receiverText number t)
+    → (forward buffer : List ℕ)
+    → turned (worldOf (record { sender = ends .sender; receiver = t .next; forward = ends .forward; back = r }) forward after buffer) q
+    ≡ receiverAnswered (worldOf ends forward bytes buffer) t number p
+unfolding receiverAnswered
+receiver-answered ends r t number bytes after p q line text forward buffer = rw (line, text) refl
+
+-- ---- a call's step
+
+-- what is printed of a call of one end is what is printed of its answer
+sender-text : (number : ℕ) (t : sender.Told)
+    → framesText number letterS (emission (t .emits) (t .frame)) ++ (senderReport number (t .outcome) ++ receiverReport number receiver.quiet [])
+    ≡ senderText number t
+unfolding senderText framesText emittedText receiverReport
+sender-text number t = go (t .emits)
+  where
+    go : (b : Bool) → framesText number letterS (emission b (t .frame)) ++ (senderReport number (t .outcome) ++ []) ≡ emittedText number letterS b (t .frame) ++ senderReport number (t .outcome)
+    go true = rw (append-nil (frameLine number letterS (t .frame)), append-nil (senderReport number (t .outcome))) refl
+    go false = append-nil (senderReport number (t .outcome))
+
+receiver-text : (number : ℕ) (t : receiver.Told)
+    → framesText number letterR (emission (t .emits) (t .frame)) ++ (senderReport number sender.quiet ++ receiverReport number (t .outcome) (t .bytes))
+    ≡ receiverText number t
+unfolding receiverText framesText emittedText senderReport
+receiver-text number t = go (t .emits)
+  where
+    go : (b : Bool) → framesText number letterR (emission b (t .frame)) ++ receiverReport number (t .outcome) (t .bytes) ≡ emittedText number letterR b (t .frame) ++ receiverReport number (t .outcome) (t .bytes)
+    go true = rw (append-nil (frameLine number letterR (t .frame))) refl
+    go false = refl
+
+-- a step at the player's line
+abbrev atLine : Stepped → Stepped
+atLine s = record { world = capped (s .world); event = s .event }
+
+sender-step : (c : Call) (w : World) (given : Given) (rest : List Frame) (t : sender.Told) (number : ℕ) (p : Page)
+    → letterOf c ≡ letterS
+    → take 64 rest ≡ rest
+    → printed (atLine (bySender c w given rest t)) number p
+    ≡ senderAnswered (record { sender = w .sender; receiver = w .receiver; forward = w .forward; back = rest; buffer = w .buffer }) t number p
+unfolding senderAnswered capped eventText
+sender-step c w given rest t number p letter few = rw (letter, few, sender-text number t) refl
+
+receiver-step : (c : Call) (w : World) (given : Given) (rest : List Frame) (h : receiver.Heard) (number : ℕ) (p : Page)
+    → letterOf c ≡ letterR
+    → take 64 rest ≡ rest
+    → bufferAfter (wasRefused (h .told .outcome)) (w .buffer) (h .buffer) ≡ h .buffer
+    → printed (atLine (byReceiver c w given rest h)) number p
+    ≡ receiverAnswered (record { sender = w .sender; receiver = w .receiver; forward = rest; back = w .back; buffer = h .buffer }) (h .told) number p
+unfolding receiverAnswered capped eventText
+receiver-step c w given rest h number p letter few left = rw (letter, few, left, receiver-text number (h .told)) refl
+
+-- ---- ticks
+
+pub tick-sender : (ends : Ends) (bytes m : List ℕ) (number : ℕ) (p : Page) (t : sender.Told) (X : List ℕ → List ℕ → Turned)
+    → t ≡ tickOf (ends .sender) m
+    → ((back buffer : List ℕ) → X back buffer ≡ senderAnswered (worldOf ends bytes back buffer) t number p)
+    → (back buffer : List ℕ)
+    → X back buffer ≡ printed (playerStep (worldOf ends bytes back buffer) (senderTick m)) number p
+unfolding playerStep stepOf
+tick-sender ends bytes m number p t X e h back buffer =
+    h back buffer
+    ∙ ap (λ (a : sender.Told). senderAnswered (worldOf ends bytes back buffer) a number p) e
+    ∙ sym (sender-step (senderTick m) (worldOf ends bytes back buffer) nobody (framesIn (ends .back) back) (tickOf (ends .sender) m) number p refl (all-frames (ends .back) back))
+
+pub tick-receiver : (ends : Ends) (bytes : List ℕ) (number : ℕ) (p : Page) (t : receiver.Told) (X : List ℕ → List ℕ → Turned)
+    → t ≡ ticking.tickOf (ends .receiver)
+    → ((forward buffer : List ℕ) → X forward buffer ≡ receiverAnswered (worldOf ends forward bytes buffer) t number p)
+    → (forward buffer : List ℕ)
+    → X forward buffer ≡ printed (playerStep (worldOf ends forward bytes buffer) receiverTick) number p
+unfolding playerStep stepOf
+tick-receiver ends bytes number p t X e h forward buffer =
+    h forward buffer
+    ∙ ap (λ (a : receiver.Told). receiverAnswered (worldOf ends forward bytes buffer) a number p) e
+    ∙ sym (receiver-step receiverTick (worldOf ends forward bytes buffer) nobody (framesIn (ends .forward) forward) (receiver.heard (ticking.tickOf (ends .receiver)) buffer) number p refl (all-frames (ends .forward) forward) (left (wasRefused (ticking.tickOf (ends .receiver) .outcome))))
+  where
+    left : (b : Bool) → bufferAfter b buffer buffer ≡ buffer
+    left true = refl
+    left false = refl
+
+-- ---- a frame given to an end
+
+-- an empty line: nothing happens
+quiet-step : (c : Call) (w : World) (number : ℕ) (p : Page)
+    → take 64 (w .forward) ≡ w .forward
+    → take 64 (w .back) ≡ w .back
+    → turned w p ≡ printed (atLine (unheard c w)) number p
+unfolding capped eventText framesText senderReport receiverReport put
+quiet-step c w number p forward back = rw (forward, back) refl
+
+given-none : (k : Rest) (c : Call) (w : World) (fs : List Frame) → fs ≡ [] → givenBack k c w fs ≡ unheard c w
+unfolding givenBack
+given-none k c w fs e = rw e refl
+
+given-none-forward : (k : Rest) (c : Call) (w : World) (buffer : List ℕ) (fs : List Frame) → fs ≡ [] → givenForward k c w buffer fs ≡ unheard c w
+unfolding givenForward
+given-none-forward k c w buffer fs e = rw e refl
+
+pub repeat-back-none : (ends : Ends) (forward back : List ℕ) (number : ℕ) (p : Page) (empty : Bool)
+    → empty ≡ eqb (ends .back .count) 0
+    → empty ≡ true
+    → (buffer : List ℕ)
+    → turned (worldOf ends forward back buffer) p ≡ printed (playerStep (worldOf ends forward back buffer) repeatBack) number p
+unfolding playerStep stepOf
+repeat-back-none ends forward back number p empty e t buffer =
+    let w = worldOf ends forward back buffer in
+    quiet-step repeatBack w number p (all-frames (ends .forward) forward) (all-frames (ends .back) back)
+    ∙ ap (λ (s : Stepped). printed (atLine s) number p)
+    (sym (given-none still repeatBack w (framesIn (ends .back) back) (frames-none (ends .back) back (eqb-true _ 0 (sym e ∙ t)))))
+
+given-first : (c : Call) (w : World) (f : Frame) (rest fs : List Frame) → fs ≡ f ∷ rest
+    → givenBack still c w fs ≡ bySender c w (toSender f) fs (hearOf (w .sender) f)
+unfolding givenBack
+given-first c w f rest fs e = rw e refl
+
+given-first-forward : (c : Call) (w : World) (buffer : List ℕ) (f : Frame) (rest fs : List Frame) → fs ≡ f ∷ rest
+    → givenForward still c w buffer fs ≡ byReceiver c w (toReceiver f) fs (hearing.hearOf (w .receiver) f buffer)
+unfolding givenForward
+given-first-forward c w buffer f rest fs e = rw e refl
+
+pub repeat-back-some : (ends : Ends) (forward back : List ℕ) (number : ℕ) (p : Page) (empty : Bool) (f : Frame) (t : sender.Told)
+    (X : List ℕ → List ℕ → Turned)
+    → empty ≡ eqb (ends .back .count) 0
+    → empty ≡ false
+    → length back ≡ 576
+    → f ≡ headOf (ends .back) back
+    → t ≡ hearOf (ends .sender) f
+    → ((other buffer : List ℕ) → X other buffer ≡ senderAnswered (worldOf ends forward other buffer) t number p)
+    → (buffer : List ℕ)
+    → X back buffer ≡ printed (playerStep (worldOf ends forward back buffer) repeatBack) number p
+unfolding playerStep stepOf
+repeat-back-some ends forward back number p empty f t X e none size head told h buffer =
+    let w = worldOf ends forward back buffer in
+    let fs = framesIn (ends .back) back in
+    let some : fs ≡ f ∷ framesIn (restOf (ends .back)) back = rw head (frames-some (ends .back) back size (eqb-false _ 0 (sym e ∙ none))) in
+    h back buffer
+    ∙ ap (λ (a : sender.Told). senderAnswered w a number p) told
+    ∙ sym (sender-step repeatBack w (toSender f) fs (hearOf (ends .sender) f) number p refl (all-frames (ends .back) back))
+    ∙ ap (λ (s : Stepped). printed (atLine s) number p) (sym (given-first repeatBack w f (framesIn (restOf (ends .back)) back) fs some))
+
+pub repeat-forward-none : (ends : Ends) (forward back buffer : List ℕ) (number : ℕ) (p : Page) (empty : Bool)
+    → empty ≡ eqb (ends .forward .count) 0
+    → empty ≡ true
+    → turned (worldOf ends forward back buffer) p ≡ printed (playerStep (worldOf ends forward back buffer) (repeatForward buffer)) number p
+unfolding playerStep stepOf
+repeat-forward-none ends forward back buffer number p empty e t =
+    let w = worldOf ends forward back buffer in
+    quiet-step (repeatForward buffer) w number p (all-frames (ends .forward) forward) (all-frames (ends .back) back)
+    ∙ ap (λ (s : Stepped). printed (atLine s) number p)
+    (sym (given-none-forward still (repeatForward buffer) w buffer (framesIn (ends .forward) forward) (frames-none (ends .forward) forward (eqb-true _ 0 (sym e ∙ t)))))
+
+pub repeat-forward-some : (ends : Ends) (forward back buffer left : List ℕ) (number : ℕ) (p : Page) (empty : Bool) (f : Frame) (t : receiver.Told)
+    (X : List ℕ → List ℕ → Turned)
+    → empty ≡ eqb (ends .forward .count) 0
+    → empty ≡ false
+    → length forward ≡ 576
+    → f ≡ headOf (ends .forward) forward
+    → receiver.heard t left ≡ hearing.hearOf (ends .receiver) f buffer
+    → ((other lent : List ℕ) → X other lent ≡ receiverAnswered (worldOf ends other back lent) t number p)
+    → X forward left ≡ printed (playerStep (worldOf ends forward back buffer) (repeatForward buffer)) number p
+unfolding playerStep stepOf
+repeat-forward-some ends forward back buffer left number p empty f t X e none size head told h =
+    let w = worldOf ends forward back buffer in
+    let fs = framesIn (ends .forward) forward in
+    let a = hearing.hearOf (ends .receiver) f buffer in
+    let some : fs ≡ f ∷ framesIn (restOf (ends .forward)) forward = rw head (frames-some (ends .forward) forward size (eqb-false _ 0 (sym e ∙ none))) in
+    h forward left
+    ∙ ap (λ (x : receiver.Heard). receiverAnswered (worldOf ends forward back (x .buffer)) (x .told) number p) told
+    ∙ sym (receiver-step (repeatForward buffer) w (toReceiver f) fs a number p refl (all-frames (ends .forward) forward) (buffer-left (ends .receiver) f buffer))
+    ∙ ap (λ (s : Stepped). printed (atLine s) number p)
+    (sym (given-first-forward (repeatForward buffer) w buffer f (framesIn (restOf (ends .forward)) forward) fs some))
+
+-- ---- a loss
+
+lost : (ring : Ring) (bytes : List ℕ) → framesIn (restOf ring) bytes ≡ take 64 (dropped (framesIn ring bytes))
+lost ring bytes = go (eqb (ring .count) 0) refl
+  where
+    go : (b : Bool) → eqb (ring .count) 0 ≡ b → framesIn (restOf ring) bytes ≡ take 64 (dropped (framesIn ring bytes))
+    go true t =
+        let none = eqb-true (ring .count) 0 t in
+        rw (← rest-empty ring none) (rw (frames-none ring bytes none) refl)
+    go false t =
+        rw (rest-frames ring bytes (eqb-false (ring .count) 0 t)) (sym (all-frames (restOf ring) bytes))
+
+pub loses-forward : (ends : Ends) (r : Ring) → r ≡ restOf (ends .forward) → (forward back buffer : List ℕ)
+    → worldOf (record { sender = ends .sender; receiver = ends .receiver; forward = r; back = ends .back }) forward back buffer
+    ≡ playerStep (worldOf ends forward back buffer) loseForward .world
+unfolding playerStep stepOf capped
+loses-forward ends r e forward back buffer = rw (e, lost (ends .forward) forward, all-frames (ends .back) back) refl
+
+pub loses-back : (ends : Ends) (r : Ring) → r ≡ restOf (ends .back) → (forward back buffer : List ℕ)
+    → worldOf (record { sender = ends .sender; receiver = ends .receiver; forward = ends .forward; back = r }) forward back buffer
+    ≡ playerStep (worldOf ends forward back buffer) loseBack .world
+unfolding playerStep stepOf capped
+loses-back ends r e forward back buffer = rw (e, lost (ends .back) back, all-frames (ends .forward) forward) refl

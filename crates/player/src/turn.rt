@@ -1,0 +1,203 @@
+// One event on both ends and the line. Each function answers the ends and the place after what it printed.
+ghost use mathlib.Core.Path.{_≡_};
+ghost use mathlib.Core.List.{List, _++_};
+ghost use Prim.Native.Nat.{ℕ};
+ghost use lib.ListN.{length, take};
+ghost use Rattle.line.specs.Ring.{framesIn};
+ghost use Rattle.player.specs.State.{worldOf, turned, printed, turnOf, senderAnswered, receiverAnswered};
+ghost use Rattle.receiver.specs.Told as receiver-told;
+ghost use Rattle.sender.specs.Told as sender-told;
+ghost use Rattle.player.specs.Step.{playerStep};
+ghost use Rattle.text.specs.Page.{page};
+ghost use Rattle.transport.specs.Step.{emission};
+ghost use Rattle.transport.specs.World.{senderTick, receiverTick, hearForward, repeatForward, loseForward, hearBack, repeatBack, loseBack};
+use crate::Ends;
+use frame::Frame;
+use line::Ring;
+
+pub(crate) struct Turn {
+    pub ends: Ends,
+    pub at: usize,
+}
+
+// A line after a call that emitted a frame or none.
+pub(crate) fn line_after(ring: Ring, emits: bool, f: Frame, bytes: &mut [u8]) -> Ring
+    requires { ⌜ length (now bytes) ≡ 576 ⌝ }
+    ensures { λ r. ⌜ framesIn r (now (bytes .exit)) ≡ take 64 (framesIn ring (now (bytes .entry)) ++ emission emits f) ⌝ }
+{
+    if emits { ring.join(f, bytes) } else { ring }
+}
+
+impl Ends {
+    // The sender has answered: its lines are printed, and its frame joins forward. Whatever back and the buffer hold.
+    fn sender_answered(
+        self,
+        a: sender::Answer,
+        number: u16,
+        forward: &mut [u8],
+        out: &mut [u8],
+        at: usize,
+    ) -> Turn
+        requires { ⌜ length (now forward) ≡ 576 ⌝ }
+        ensures { λ r. ⌜ ((back buffer : List ℕ) →
+            turned (worldOf (r .ends) (now (forward .exit)) back buffer) (page (now (out .exit)) (r .at))
+            ≡ senderAnswered (worldOf self (now (forward .entry)) back buffer) (sender-told.told a) number (page (now (out .entry)) at)) ⌝ }
+    {
+        let next = text::sender_lines(number, a, out, at);
+        let f = a.frame;
+        let line = self.forward;
+        let forward = line_after(line, a.emits, f, forward);
+        let sender = a.next;
+        let receiver = self.receiver;
+        let back = self.back;
+        let ends = Ends {
+            sender,
+            receiver,
+            forward,
+            back,
+        };
+        Turn { ends, at: next }
+    }
+
+    // The receiver has answered: its lines are printed, and its frame joins back. Whatever forward and the
+    // buffer hold.
+    fn receiver_answered(
+        self,
+        a: receiver::Answer,
+        number: u16,
+        back: &mut [u8],
+        out: &mut [u8],
+        at: usize,
+    ) -> Turn
+        requires { ⌜ length (now back) ≡ 576 ⌝ }
+        ensures { λ r. ⌜ ((forward buffer : List ℕ) →
+            turned (worldOf (r .ends) forward (now (back .exit)) buffer) (page (now (out .exit)) (r .at))
+            ≡ receiverAnswered (worldOf self forward (now (back .entry)) buffer) (receiver-told.told a) number (page (now (out .entry)) at)) ⌝ }
+    {
+        let next = text::receiver_lines(number, a, out, at);
+        let f = a.frame;
+        let line = self.back;
+        let back = line_after(line, a.emits, f, back);
+        let sender = self.sender;
+        let receiver = a.next;
+        let forward = self.forward;
+        let ends = Ends {
+            sender,
+            receiver,
+            forward,
+            back,
+        };
+        Turn { ends, at: next }
+    }
+
+    fn tick_sender(
+        self,
+        number: u16,
+        message: &[u8],
+        forward: &mut [u8],
+        out: &mut [u8],
+        at: usize,
+    ) -> Turn
+        requires { ⌜ length (now forward) ≡ 576 ⌝ }
+        ensures { λ r. ⌜ ((back buffer : List ℕ) →
+            turned (worldOf (r .ends) (now (forward .exit)) back buffer) (page (now (out .exit)) (r .at))
+            ≡ printed (playerStep (worldOf self (now (forward .entry)) back buffer) (senderTick (now (message .entry)))) number (page (now (out .entry)) at)) ⌝ }
+    {
+        let s = self.sender;
+        let a = s.tick(message);
+        self.sender_answered(a, number, forward, out, at)
+    }
+
+    fn tick_receiver(self, number: u16, back: &mut [u8], out: &mut [u8], at: usize) -> Turn
+        requires { ⌜ length (now back) ≡ 576 ⌝ }
+        ensures { λ r. ⌜ ((forward buffer : List ℕ) →
+            turned (worldOf (r .ends) forward (now (back .exit)) buffer) (page (now (out .exit)) (r .at))
+            ≡ printed (playerStep (worldOf self forward (now (back .entry)) buffer) receiverTick) number (page (now (out .entry)) at)) ⌝ }
+    {
+        let r = self.receiver;
+        let a = r.tick();
+        self.receiver_answered(a, number, back, out, at)
+    }
+
+    // The first frame of forward is heard, if there is one, and stays where it is.
+    fn repeat_forward(
+        self,
+        number: u16,
+        buffer: &mut [u8],
+        forward: &[u8],
+        back: &mut [u8],
+        out: &mut [u8],
+        at: usize,
+    ) -> Turn
+        requires { ⌜ (length (now forward) ≡ 576) × (length (now back) ≡ 576) ⌝ }
+        ensures { λ r. ⌜ turned (worldOf (r .ends) (now (forward .entry)) (now (back .exit)) (now (buffer .exit))) (page (now (out .exit)) (r .at))
+            ≡ printed (playerStep (worldOf self (now (forward .entry)) (now (back .entry)) (now (buffer .entry))) (repeatForward (now (buffer .entry)))) number (page (now (out .entry)) at) ⌝ }
+    {
+        let line = self.forward;
+        if line.is_empty() {
+            return Turn { ends: self, at };
+        }
+        let f = line.head(forward);
+        let r = self.receiver;
+        let a = r.hear(f, buffer);
+        self.receiver_answered(a, number, back, out, at)
+    }
+
+    // The first frame of back is heard, if there is one, and stays where it is.
+    fn repeat_back(
+        self,
+        number: u16,
+        forward: &mut [u8],
+        back: &[u8],
+        out: &mut [u8],
+        at: usize,
+    ) -> Turn
+        requires { ⌜ (length (now forward) ≡ 576) × (length (now back) ≡ 576) ⌝ }
+        ensures { λ r. ⌜ ((buffer : List ℕ) →
+            turned (worldOf (r .ends) (now (forward .exit)) (now (back .entry)) buffer) (page (now (out .exit)) (r .at))
+            ≡ printed (playerStep (worldOf self (now (forward .entry)) (now (back .entry)) buffer) repeatBack) number (page (now (out .entry)) at)) ⌝ }
+    {
+        let line = self.back;
+        if line.is_empty() {
+            return Turn { ends: self, at };
+        }
+        let f = line.head(back);
+        let s = self.sender;
+        let a = s.hear(f);
+        self.sender_answered(a, number, forward, out, at)
+    }
+
+    fn lose_forward(self) -> Ends
+        ensures { λ r. ⌜ ((forward back buffer : List ℕ) →
+            worldOf r forward back buffer ≡ playerStep (worldOf self forward back buffer) loseForward .world) ⌝ }
+    {
+        let line = self.forward;
+        let forward = line.rest();
+        let sender = self.sender;
+        let receiver = self.receiver;
+        let back = self.back;
+        Ends {
+            sender,
+            receiver,
+            forward,
+            back,
+        }
+    }
+
+    fn lose_back(self) -> Ends
+        ensures { λ r. ⌜ ((forward back buffer : List ℕ) →
+            worldOf r forward back buffer ≡ playerStep (worldOf self forward back buffer) loseBack .world) ⌝ }
+    {
+        let line = self.back;
+        let back = line.rest();
+        let sender = self.sender;
+        let receiver = self.receiver;
+        let forward = self.forward;
+        Ends {
+            sender,
+            receiver,
+            forward,
+            back,
+        }
+    }
+}
