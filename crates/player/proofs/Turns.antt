@@ -1,35 +1,42 @@
 -- A law for each path through the code of one event: what the ends, the printing and the rings promise gives the step that
 -- the definition has. A line that no frame joins is at most 64 long as it is.
 -- Assumes nothing.
-use Prim.Native.Nat.{ℕ}
+use Prim.Native.Nat.{ℕ, _≤_}
 use mathlib.Core.Path.{_≡_, refl, sym, ap, _∙_}
 use mathlib.Core.Bool.{Bool, true, false}
 use mathlib.Core.List.{List, [], _∷_, _++_, map, append-nil}
+use native.Mathlib.Omega.{arith}
 use borrow.Author.Needs.{length-unmapped}
-use borrow.Author.Tests.{eqb-true, eqb-false}
+use borrow.Author.Tests.{eqb-true, eqb-false, ne-eqb}
 use lib.Dec.{eqb}
 use lib.ListN.{length, take}
-use lib.Seq.{take-all}
+use lib.Seq.{take-all, take-take}
+use Rattle.frame.proofs.Choice.{pick-false}
+use Rattle.frame.specs.Choice.{pick}
 use Rattle.frame.specs.declared.Frame.{Frame}
 use Rattle.line.proofs.Frames.{frames-joined, frames-limit, frames-some, frames-none, rest-frames}
 use Rattle.line.proofs.Laws.{rest-empty}
 use Rattle.line.specs.Ring.{framesIn, headOf, restOf, Kept, kept, joinOf}
 use Rattle.line.specs.declared.Ring.{Ring}
 use Rattle.player.specs.State.{worldOf, Turned, turned, printed, turnOf, senderAnswered, receiverAnswered}
-use Rattle.player.specs.Step.{capped, playerStep}
+use Rattle.player.specs.Step.{capped, playerStep, turnFor}
 use Rattle.player.specs.Text.{letterOf, framesText, eventText}
 use Rattle.player.specs.declared.Ends.{Ends}
 use Rattle.receiver.specs.Hear as hearing
 use Rattle.receiver.specs.Tick as ticking
 use Rattle.receiver.specs.Told as receiver
+use Rattle.receiver.specs.declared.Receiver.{Receiver}
+use Rattle.sender.specs.Begin.{beginOf}
 use Rattle.sender.specs.Hear.{hearOf}
 use Rattle.sender.specs.Tick.{tickOf}
 use Rattle.sender.specs.Told as sender
+use Rattle.sender.specs.declared.Sender.{Sender}
 use Rattle.text.specs.Page.{Page, page, put}
 use Rattle.text.specs.Text.{letterS, letterR, frameLine, emittedText, senderReport, receiverReport, senderText, receiverText}
 use Rattle.transport.proofs.Refusals.{buffer-left}
+use Rattle.transport.specs.Example.{callFor}
 use Rattle.transport.specs.Step.{emission, Stepped, unheard, bySender, wasRefused, bufferAfter, byReceiver, Rest, still, dropped, givenForward, givenBack, stepOf}
-use Rattle.transport.specs.World.{World, Call, senderTick, receiverTick, repeatForward, loseForward, repeatBack, loseBack, Given, nobody, toSender, toReceiver}
+use Rattle.transport.specs.World.{World, Call, begin, senderTick, receiverTick, hearForward, repeatForward, loseForward, hearBack, repeatBack, loseBack, Given, nobody, toSender, toReceiver}
 
 -- ---- a line after a call
 
@@ -117,7 +124,18 @@ receiver-step : (c : Call) (w : World) (given : Given) (rest : List Frame) (h : 
 unfolding receiverAnswered capped eventText
 receiver-step c w given rest h number p letter few left = rw (letter, few, left, receiver-text number (h .told)) refl
 
--- ---- ticks
+-- ---- begin and ticks
+
+pub begins : (ends : Ends) (bytes m : List ℕ) (p : Page) (t : sender.Told) (X : List ℕ → List ℕ → Turned)
+    → t ≡ beginOf (ends .sender) m
+    → ((back buffer : List ℕ) → X back buffer ≡ senderAnswered (worldOf ends bytes back buffer) t 0 p)
+    → (back buffer : List ℕ)
+    → X back buffer ≡ printed (playerStep (worldOf ends bytes back buffer) (begin m)) 0 p
+unfolding playerStep stepOf
+begins ends bytes m p t X e h back buffer =
+    h back buffer
+    ∙ ap (λ (a : sender.Told). senderAnswered (worldOf ends bytes back buffer) a 0 p) e
+    ∙ sym (sender-step (begin m) (worldOf ends bytes back buffer) nobody (framesIn (ends .back) back) (beginOf (ends .sender) m) 0 p refl (all-frames (ends .back) back))
 
 pub tick-sender : (ends : Ends) (bytes m : List ℕ) (number : ℕ) (p : Page) (t : sender.Told) (X : List ℕ → List ℕ → Turned)
     → t ≡ tickOf (ends .sender) m
@@ -260,3 +278,109 @@ pub loses-back : (ends : Ends) (r : Ring) → r ≡ restOf (ends .back) → (for
     ≡ playerStep (worldOf ends forward back buffer) loseBack .world
 unfolding playerStep stepOf capped
 loses-back ends r e forward back buffer = rw (e, lost (ends .back) back, all-frames (ends .forward) forward) refl
+
+-- ---- a frame heard and taken away
+
+twice : (fs : List Frame) → take 64 (take 64 fs) ≡ take 64 fs
+twice fs = take-take 64 64 fs (omega arith)
+
+-- hearing is repeating and then losing, at the line and on the page
+hear-forward-step : (s : Sender) (r : Receiver) (fs back : List Frame) (buffer : List ℕ) (number : ℕ) (p : Page)
+    → length fs ≤ 64
+    → (let w : World = record { sender = s; receiver = r; forward = fs; back = back; buffer = buffer } in
+    printed (playerStep w (hearForward buffer)) number p
+    ≡ turned (playerStep (playerStep w (repeatForward buffer) .world) loseForward .world) (put p (eventText number (playerStep w (repeatForward buffer) .event))))
+unfolding playerStep stepOf capped givenForward eventText
+hear-forward-step s r [] back buffer number p few = rw (twice back) refl
+hear-forward-step s r (f ∷ fs) back buffer number p few =
+    let h = hearing.hearOf r f buffer in
+    let all : take 63 fs ≡ fs = take-all 63 fs (omega arith) in
+    rw (all, twice (back ++ emission (h .told .emits) (h .told .frame))) refl
+
+hear-back-step : (s : Sender) (r : Receiver) (forward fs : List Frame) (buffer : List ℕ) (number : ℕ) (p : Page)
+    → length fs ≤ 64
+    → (let w : World = record { sender = s; receiver = r; forward = forward; back = fs; buffer = buffer } in
+    printed (playerStep w hearBack) number p
+    ≡ turned (playerStep (playerStep w repeatBack .world) loseBack .world) (put p (eventText number (playerStep w repeatBack .event))))
+unfolding playerStep stepOf capped givenBack eventText
+hear-back-step s r forward [] buffer number p few = rw (twice forward) refl
+hear-back-step s r forward (f ∷ fs) buffer number p few =
+    let h = hearOf s f in
+    let all : take 63 fs ≡ fs = take-all 63 fs (omega arith) in
+    rw (all, twice (forward ++ emission (h .emits) (h .frame))) refl
+
+pub hears-forward : (ends after last : Ends) (forward back left buffer now : List ℕ) (number : ℕ) (p q : Page)
+    → turned (worldOf after forward left now) q ≡ printed (playerStep (worldOf ends forward back buffer) (repeatForward buffer)) number p
+    → ((f b lent : List ℕ) → worldOf last f b lent ≡ playerStep (worldOf after f b lent) loseForward .world)
+    → turned (worldOf last forward left now) q ≡ printed (playerStep (worldOf ends forward back buffer) (hearForward buffer)) number p
+hears-forward ends after last forward back left buffer now number p q e l =
+    ap (λ (w : World). turned w q) (l forward left now)
+    ∙ ap (λ (t : Turned). turned (playerStep (t .world) loseForward .world) (t .page)) e
+    ∙ sym (hear-forward-step (ends .sender) (ends .receiver) (framesIn (ends .forward) forward) (framesIn (ends .back) back) buffer number p (frames-limit (ends .forward) forward))
+
+pub hears-back : (ends after last : Ends) (forward back left : List ℕ) (number : ℕ) (p q : Page)
+    → ((buffer : List ℕ) → turned (worldOf after left back buffer) q ≡ printed (playerStep (worldOf ends forward back buffer) repeatBack) number p)
+    → ((f b lent : List ℕ) → worldOf last f b lent ≡ playerStep (worldOf after f b lent) loseBack .world)
+    → (buffer : List ℕ)
+    → turned (worldOf last left back buffer) q ≡ printed (playerStep (worldOf ends forward back buffer) hearBack) number p
+hears-back ends after last forward back left number p q e l buffer =
+    ap (λ (w : World). turned w q) (l left back buffer)
+    ∙ ap (λ (t : Turned). turned (playerStep (t .world) loseBack .world) (t .page)) (e buffer)
+    ∙ sym (hear-back-step (ends .sender) (ends .receiver) (framesIn (ends .forward) forward) (framesIn (ends .back) back) buffer number p (frames-limit (ends .back) back))
+
+-- ---- the event's number decides
+
+turns : (w : World) (m : List ℕ) (event number : ℕ) (p : Page) {x : Turned} (c : Call) → callFor w m event ≡ c
+    → x ≡ printed (playerStep w c) number p
+    → x ≡ turnOf w m event number p
+unfolding turnOf turnFor
+turns w m event number p c e h = h ∙ ap (λ (a : Call). printed (playerStep w a) number p) (sym e)
+
+abbrev Answered : World → ℕ → Page → Turned → Call → Type 0
+Answered w number p x c = x ≡ printed (playerStep w c) number p
+
+pub turn-1 : (w : World) (m : List ℕ) (event number : ℕ) (p : Page) {x : Turned} → event ≡ 1 → Answered w number p x (senderTick m) → x ≡ turnOf w m event number p
+unfolding callFor pick
+turn-1 w m event number p k = turns w m event number p (senderTick m) (rw k refl)
+
+pub turn-2 : (w : World) (m : List ℕ) (event number : ℕ) (p : Page) {x : Turned} → event ≡ 2 → Answered w number p x receiverTick → x ≡ turnOf w m event number p
+unfolding callFor pick
+turn-2 w m event number p k = turns w m event number p receiverTick (rw k refl)
+
+pub turn-3 : (w : World) (m : List ℕ) (event number : ℕ) (p : Page) {x : Turned} → event ≡ 3 → Answered w number p x (hearForward (w .buffer)) → x ≡ turnOf w m event number p
+unfolding callFor pick
+turn-3 w m event number p k = turns w m event number p (hearForward (w .buffer)) (rw k refl)
+
+pub turn-4 : (ends last : Ends) (forward back buffer m : List ℕ) (event number : ℕ) (p : Page) → event ≡ 4
+    → ((f b lent : List ℕ) → worldOf last f b lent ≡ playerStep (worldOf ends f b lent) loseForward .world)
+    → turned (worldOf last forward back buffer) p ≡ turnOf (worldOf ends forward back buffer) m event number p
+unfolding callFor pick playerStep stepOf eventText framesText senderReport receiverReport put
+turn-4 ends last forward back buffer m event number p k l =
+    turns (worldOf ends forward back buffer) m event number p loseForward (rw k refl) (ap (λ (w : World). turned w p) (l forward back buffer))
+
+pub turn-5 : (w : World) (m : List ℕ) (event number : ℕ) (p : Page) {x : Turned} → event ≡ 5 → Answered w number p x (repeatForward (w .buffer)) → x ≡ turnOf w m event number p
+unfolding callFor pick
+turn-5 w m event number p k = turns w m event number p (repeatForward (w .buffer)) (rw k refl)
+
+pub turn-6 : (w : World) (m : List ℕ) (event number : ℕ) (p : Page) {x : Turned} → event ≡ 6 → Answered w number p x hearBack → x ≡ turnOf w m event number p
+unfolding callFor pick
+turn-6 w m event number p k = turns w m event number p hearBack (rw k refl)
+
+pub turn-7 : (ends last : Ends) (forward back buffer m : List ℕ) (event number : ℕ) (p : Page) → event ≡ 7
+    → ((f b lent : List ℕ) → worldOf last f b lent ≡ playerStep (worldOf ends f b lent) loseBack .world)
+    → turned (worldOf last forward back buffer) p ≡ turnOf (worldOf ends forward back buffer) m event number p
+unfolding callFor pick playerStep stepOf eventText framesText senderReport receiverReport put
+turn-7 ends last forward back buffer m event number p k l =
+    turns (worldOf ends forward back buffer) m event number p loseBack (rw k refl) (ap (λ (w : World). turned w p) (l forward back buffer))
+
+abbrev Not : ℕ → ℕ → Type 0
+Not event k = event ≡ k → ⊥
+
+pub turn-8 : (w : World) (m : List ℕ) (event number : ℕ) (p : Page) {x : Turned}
+    → ((((((Unit {0} × Not event 1) × Not event 2) × Not event 3) × Not event 4) × Not event 5) × Not event 6) × Not event 7
+    → Answered w number p x repeatBack
+    → x ≡ turnOf w m event number p
+unfolding callFor
+turn-8 w m event number p (((((((_, n1), n2), n3), n4), n5), n6), n7) =
+    turns w m event number p repeatBack
+    (sym (pick-false _ (ne-eqb _ 1 n1) (pick-false _ (ne-eqb _ 2 n2) (pick-false _ (ne-eqb _ 3 n3) (pick-false _ (ne-eqb _ 4 n4) (pick-false _ (ne-eqb _ 5 n5) (pick-false _ (ne-eqb _ 6 n6) (pick-false _ (ne-eqb _ 7 n7) refl))))))))

@@ -2,3 +2,5 @@ pub mod Step
 pub mod Claim
 pub mod Text
 pub mod State
+pub mod Played
+pub mod Calls

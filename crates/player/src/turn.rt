@@ -10,7 +10,7 @@ ghost use Rattle.sender.specs.Told as sender-told;
 ghost use Rattle.player.specs.Step.{playerStep};
 ghost use Rattle.text.specs.Page.{page};
 ghost use Rattle.transport.specs.Step.{emission};
-ghost use Rattle.transport.specs.World.{senderTick, receiverTick, hearForward, repeatForward, loseForward, hearBack, repeatBack, loseBack};
+ghost use Rattle.transport.specs.World.{begin, senderTick, receiverTick, hearForward, repeatForward, loseForward, hearBack, repeatBack, loseBack};
 use crate::Ends;
 use frame::Frame;
 use line::Ring;
@@ -88,6 +88,18 @@ impl Ends {
             back,
         };
         Turn { ends, at: next }
+    }
+
+    // The begin, which is number 0.
+    pub(crate) fn begin(self, message: &[u8], forward: &mut [u8], out: &mut [u8]) -> Turn
+        requires { ⌜ length (now forward) ≡ 576 ⌝ }
+        ensures { λ r. ⌜ ((back buffer : List ℕ) →
+            turned (worldOf (r .ends) (now (forward .exit)) back buffer) (page (now (out .exit)) (r .at))
+            ≡ printed (playerStep (worldOf self (now (forward .entry)) back buffer) (begin (now (message .entry)))) 0 (page (now (out .entry)) 0)) ⌝ }
+    {
+        let s = self.sender;
+        let a = s.begin(message);
+        self.sender_answered(a, 0, forward, out, 0)
     }
 
     fn tick_sender(
@@ -198,6 +210,80 @@ impl Ends {
             receiver,
             forward,
             back,
+        }
+    }
+
+    // The first frame of forward is heard, if there is one, and taken away.
+    fn hear_forward(
+        self,
+        number: u16,
+        buffer: &mut [u8],
+        forward: &[u8],
+        back: &mut [u8],
+        out: &mut [u8],
+        at: usize,
+    ) -> Turn
+        requires { ⌜ (length (now forward) ≡ 576) × (length (now back) ≡ 576) ⌝ }
+        ensures { λ r. ⌜ turned (worldOf (r .ends) (now (forward .entry)) (now (back .exit)) (now (buffer .exit))) (page (now (out .exit)) (r .at))
+            ≡ printed (playerStep (worldOf self (now (forward .entry)) (now (back .entry)) (now (buffer .entry))) (hearForward (now (buffer .entry)))) number (page (now (out .entry)) at) ⌝ }
+    {
+        let turn = self.repeat_forward(number, buffer, forward, back, out, at);
+        let heard = turn.ends;
+        let ends = heard.lose_forward();
+        Turn { ends, at: turn.at }
+    }
+
+    // The first frame of back is heard, if there is one, and taken away.
+    fn hear_back(
+        self,
+        number: u16,
+        forward: &mut [u8],
+        back: &[u8],
+        out: &mut [u8],
+        at: usize,
+    ) -> Turn
+        requires { ⌜ (length (now forward) ≡ 576) × (length (now back) ≡ 576) ⌝ }
+        ensures { λ r. ⌜ ((buffer : List ℕ) →
+            turned (worldOf (r .ends) (now (forward .exit)) (now (back .entry)) buffer) (page (now (out .exit)) (r .at))
+            ≡ printed (playerStep (worldOf self (now (forward .entry)) (now (back .entry)) buffer) hearBack) number (page (now (out .entry)) at)) ⌝ }
+    {
+        let turn = self.repeat_back(number, forward, back, out, at);
+        let heard = turn.ends;
+        let ends = heard.lose_back();
+        Turn { ends, at: turn.at }
+    }
+
+    // Document 01, The player: "1, 2 sender, receiver tick; 3, 4, 5 forward hear, lose, repeat; 6, 7, 8 back".
+    pub(crate) fn turn(
+        self,
+        number: u16,
+        event: u8,
+        message: &[u8],
+        buffer: &mut [u8],
+        forward: &mut [u8],
+        back: &mut [u8],
+        out: &mut [u8],
+        at: usize,
+    ) -> Turn
+        requires { ⌜ (length (now forward) ≡ 576) × (length (now back) ≡ 576) ⌝ }
+        ensures { λ r. ⌜ turned (worldOf (r .ends) (now (forward .exit)) (now (back .exit)) (now (buffer .exit))) (page (now (out .exit)) (r .at))
+            ≡ turnOf (worldOf self (now (forward .entry)) (now (back .entry)) (now (buffer .entry))) (now (message .entry)) event number (page (now (out .entry)) at) ⌝ }
+    {
+        match event {
+            1 => self.tick_sender(number, message, forward, out, at),
+            2 => self.tick_receiver(number, back, out, at),
+            3 => self.hear_forward(number, buffer, forward, back, out, at),
+            4 => Turn {
+                ends: self.lose_forward(),
+                at,
+            },
+            5 => self.repeat_forward(number, buffer, forward, back, out, at),
+            6 => self.hear_back(number, forward, back, out, at),
+            7 => Turn {
+                ends: self.lose_back(),
+                at,
+            },
+            _ => self.repeat_back(number, forward, back, out, at),
         }
     }
 }

@@ -1,0 +1,90 @@
+-- Document 01, The player: the run pack. "one count byte, 3; a contents table of offset from the pack's start and length
+-- (a word each) for each body; then the bodies without gaps to the end, the whole pack at most 65535 bytes. Bodies:
+-- settings .., message, events ... Anything else is 12".
+use Prim.Native.Nat.{ℕ, _+_, _*_}
+use mathlib.Core.Bool.{Bool, true, _&&_}
+use mathlib.Core.List.{List, [], _∷_}
+use lib.Dec.{eqb, leb}
+use lib.ListN.{length, getD, take, drop}
+use Rattle.frame.specs.Choice.{pick}
+use Rattle.frame.specs.Count.{wordOf}
+use Rattle.pack.specs.declared.Bodies.{Bodies}
+use Rattle.pack.specs.declared.Reading.{Reading}
+use Rattle.pack.specs.declared.Reading.the-variants.{Pack, Refused}
+use Rattle.pack.specs.declared.Settings.{Settings}
+
+-- what a pack holds, or a refusal's number
+pub data Contents : Type 0 where
+  held : Bodies → Contents
+  refused : ℕ → Contents
+
+-- document 01's values for each case of the answer
+abbrev pub toldReading : Reading → Contents
+toldReading (Pack bodies) = held bodies
+toldReading (Refused number) = refused number
+
+-- the byte at a place, and the word there, "low byte first"
+abbrev pub byteAt : List ℕ → ℕ → ℕ
+byteAt pack place = getD pack place 0
+
+abbrev pub wordAt : List ℕ → ℕ → ℕ
+wordAt pack place = wordOf (byteAt pack place) (byteAt pack (place + 1))
+
+-- "a contents table of offset from the pack's start and length (a word each) for each body": body 0 is the settings,
+-- body 1 the message, body 2 the events
+abbrev pub offsetOf : List ℕ → ℕ → ℕ
+offsetOf pack body = wordAt pack (1 + 4 * body)
+
+abbrev pub lengthOf : List ℕ → ℕ → ℕ
+lengthOf pack body = wordAt pack (3 + 4 * body)
+
+-- "the whole pack at most 65535 bytes"; a count byte of 3, and after the 13 bytes of count and table "the bodies without
+-- gaps to the end", the first of them ten bytes of settings
+unfoldable pub laidOut : List ℕ → Bool
+laidOut pack =
+    leb 13 (length pack)
+    && leb (length pack) 65535
+    && eqb (byteAt pack 0) 3
+    && eqb (offsetOf pack 0) 13
+    && eqb (lengthOf pack 0) 10
+    && eqb (offsetOf pack 1) (offsetOf pack 0 + lengthOf pack 0)
+    && eqb (offsetOf pack 2) (offsetOf pack 1 + lengthOf pack 1)
+    && eqb (length pack) (offsetOf pack 2 + lengthOf pack 2)
+
+-- "settings (G byte, sender T, M, receiver T words, C byte, K word)", from place 13 on
+unfoldable pub settingsOf : List ℕ → Settings
+settingsOf pack =
+    record {
+      gap = byteAt pack 13;
+      timeout = wordAt pack 14;
+      limit = wordAt pack 16;
+      patience = wordAt pack 18;
+      window = byteAt pack 20;
+      capacity = wordAt pack 21;
+    }
+
+-- the settings, the length of the message and the number of events
+unfoldable pub bodiesIn : List ℕ → Bodies
+bodiesIn pack = record { settings = settingsOf pack; message = lengthOf pack 1; events = lengthOf pack 2 }
+
+-- the message, behind count, table and settings; the events, behind the message
+unfoldable pub messageOf : List ℕ → Bodies → List ℕ
+messageOf pack bodies = take (bodies .message) (drop 23 pack)
+
+unfoldable pub eventsOf : List ℕ → Bodies → List ℕ
+eventsOf pack bodies = drop (23 + bodies .message) pack
+
+-- "events (1, 2 sender, receiver tick; 3, 4, 5 forward hear, lose, repeat; 6, 7, 8 back)"
+abbrev pub isEvent : ℕ → Bool
+isEvent event = leb 1 event && leb event 8
+
+unfoldable pub allEvents : List ℕ → Bool
+allEvents [] = true
+allEvents (event ∷ events) = isEvent event && allEvents events
+
+-- "Anything else is 12"
+unfoldable pub bodiesOf : List ℕ → Contents
+bodiesOf pack =
+    pick (laidOut pack)
+    (pick (allEvents (eventsOf pack (bodiesIn pack))) (held (bodiesIn pack)) (refused 12))
+    (refused 12)

@@ -1,0 +1,300 @@
+-- A law for each path through the code of the player's calls.
+-- Assumes nothing.
+use Prim.Native.Nat.{ℕ, zero, suc, _+_, _-_, _<_, _≤_, min}
+use mathlib.Core.Path.{_≡_, refl, sym, ap, subst, _∙_}
+use mathlib.Core.Bool.{Bool, true, false, _&&_}
+use mathlib.Core.List.{List, [], _∷_, _++_}
+use native.Mathlib.Numerals.{add-one}
+use native.Mathlib.Omega.{arith}
+use borrow.Author.Tests.{eqb-true}
+use lib.Dec.{eqb}
+use lib.ListN.{length, getD, take, drop, length-take, length-drop, drop-of-length-le}
+use lib.Seq.{drop-cons, drop-drop, take-all, take-nil}
+use Rattle.frame.proofs.Choice.{pick-true, pick-false}
+use Rattle.frame.specs.Choice.{pick}
+use Rattle.line.specs.Ring.{emptyOf}
+use Rattle.line.specs.declared.Ring.{Ring}
+use Rattle.pack.specs.Pack.{Contents, held, toldReading, messageOf, eventsOf, bodiesOf}
+use Rattle.pack.specs.declared.Bodies.{Bodies}
+use Rattle.pack.specs.declared.Reading.{Reading}
+use Rattle.pack.specs.declared.Reading.the-variants as reading-variants
+use Rattle.pack.specs.declared.Reading.the-variants.{Pack}
+use Rattle.player.specs.Calls as calls
+use Rattle.player.specs.Calls.{Opened, unready, toldOpening, openedAt, openOf, progressed, playing, nextEvents, playOf}
+use Rattle.player.specs.Played.{startBegin, startEnds, startBodies, startOf}
+use Rattle.player.specs.State.{worldOf, Turned, turned, printed, turnOf}
+use Rattle.player.specs.Step.{playerStep, turnFor, eventsFrom, worldAfter}
+use Rattle.player.specs.Text.{eventText, textOf}
+use Rattle.player.specs.declared.Ends.{Ends}
+use Rattle.player.specs.declared.Opening.the-variants.{Ready}
+use Rattle.player.specs.declared.Player.{Player}
+use Rattle.player.specs.declared.Progress.{Progress}
+use Rattle.receiver.specs.Tick as receiver-making
+use Rattle.receiver.specs.Told as receiver
+use Rattle.receiver.specs.declared.Made as receiver-enum
+use Rattle.receiver.specs.declared.Made.the-variants as receiver-made
+use Rattle.receiver.specs.declared.Receiver.{Receiver}
+use Rattle.sender.specs.Begin as sender-making
+use Rattle.sender.specs.Begin.{beginOf}
+use Rattle.sender.specs.Told as sender
+use Rattle.sender.specs.declared.Answer.{Answer}
+use Rattle.sender.specs.declared.Made as sender-enum
+use Rattle.sender.specs.declared.Made.the-variants as sender-made
+use Rattle.sender.specs.declared.Outcome.{Outcome}
+use Rattle.sender.specs.declared.Outcome.the-variants as outcome-variants
+use Rattle.sender.specs.declared.Outcome.the-variants.{Quiet, Sent, Failed}
+use Rattle.sender.specs.declared.Sender.{Sender}
+use Rattle.text.proofs.Laws.{put-append}
+use Rattle.text.specs.Page.{Page, page, put}
+use Rattle.transport.proofs.Choices.{both-left, both-right}
+use Rattle.transport.specs.World.{World, begin}
+
+-- ---- a part of a pack
+
+pub part-none : (s : List ℕ) (from most : ℕ) → length s ≤ from → [] ≡ take most (drop from s)
+part-none s from most h = rw (drop-of-length-le s h) (sym (take-nil most))
+
+pub part-rest : (s : List ℕ) (from most : ℕ) → length s ≤ from + most → take (length s - from) (drop from s) ≡ take most (drop from s)
+part-rest s from most h =
+    take-all (length s - from) (drop from s) (rw length-drop (omega arith)) ∙ sym (take-all most (drop from s) (rw length-drop (omega arith)))
+
+pub part-most : (s : List ℕ) (from most : ℕ) → take (from + most - from) (drop from s) ≡ take most (drop from s)
+part-most s from most = let same : from + most - from ≡ most = omega arith in ap (λ (n : ℕ). take n (drop from s)) same
+
+pub ruleset parts = (part-none, part-rest, part-most)
+
+-- ---- one event after the other
+
+-- the next event, and those behind it
+plays-next : (w : World) (m events : List ℕ) (i number : ℕ) (p : Page) (x : Turned)
+    → i < length events
+    → x ≡ turnOf w m (getD events i 0) number p
+    → playing (x .world) m (drop (suc i) events) (suc number) (x .page) ≡ playing w m (drop i events) number p
+unfolding playing worldAfter eventsFrom textOf turnOf
+plays-next w m events i number p x h e =
+    let t = turnFor w m (getD events i 0) in
+    let rest = eventsFrom (t .world) m (drop (suc i) events) in
+    rw (e, drop-cons events i 0 h)
+    (ap (turned (worldAfter (t .world) m (drop (suc i) events))) (put-append p (eventText number (t .event)) (textOf (suc number) rest)))
+
+pub plays-one : (w v : World) (m events : List ℕ) (i number : ℕ) (p q : Page) (y : Turned)
+    → i < length events
+    → turned v q ≡ turnOf w m (getD events i 0) (number + 1) p
+    → playing w m (drop i events) (suc number) p ≡ y
+    → playing v m (drop (i + 1) events) (suc (number + 1)) q ≡ y
+plays-one w v m events i number p q y h e before =
+    rw (add-one i, add-one number) (plays-next w m events i (suc number) p (turned v q) h (simp add-one at e)) ∙ before
+
+-- none are left
+pub plays-none : (w : World) (m events : List ℕ) (i number : ℕ) (p : Page) {y : Turned} → length events ≤ i
+    → playing w m (drop i events) number p ≡ y
+    → turned w p ≡ y
+unfolding playing worldAfter eventsFrom textOf put
+plays-none w m events i number p {y} all e = subst (λ (rest : List ℕ). playing w m rest number p ≡ y) (drop-of-length-le events all) e
+
+-- ---- opening a pack
+
+pub made-ready : (s : Sender) (r : Receiver) (b : Bodies) (empty : Ring) → empty ≡ emptyOf
+    → toldOpening (Ready (record { ends = record { sender = s; receiver = r; forward = empty; back = empty }; bodies = b; played = 0 }))
+    ≡ openedAt (startBegin sender.quiet s r b)
+made-ready s r b empty e = rw e refl
+
+-- what the begin's outcome starts
+module _ (bytes m : List ℕ) (b : Bodies) (s : Sender) (r : Receiver) (a : Answer) where
+  outcome-starts : (o : Outcome) (x : Opened)
+      → m ≡ take (b .message) (drop 23 bytes)
+      → sender.told a ≡ beginOf s m
+      → a .outcome ≡ o
+      → x ≡ openedAt (startBegin (sender.toldOutcome o) s r b)
+      → x ≡ openedAt (startEnds bytes b (sender.made s) (receiver.made r))
+  unfolding startEnds messageOf
+  outcome-starts o x part told same h =
+      h
+      ∙ ap (λ (y : sender.Outcome). openedAt (startBegin y s r b)) (ap sender.toldOutcome (sym same) ∙ ap (λ (t : sender.Told). t .outcome) told)
+      ∙ ap (λ (l : List ℕ). openedAt (startBegin (beginOf s l .outcome) s r b)) part
+
+  pub starts-quiet : (x : Opened)
+      → m ≡ take (b .message) (drop 23 bytes)
+      → sender.told a ≡ beginOf s m
+      → a .outcome ≡ Quiet
+      → x ≡ openedAt (startBegin sender.quiet s r b)
+      → x ≡ openedAt (startEnds bytes b (sender.made s) (receiver.made r))
+  starts-quiet = outcome-starts Quiet
+
+  pub starts-refused : (number : ℕ)
+      → m ≡ take (b .message) (drop 23 bytes)
+      → sender.told a ≡ beginOf s m
+      → a .outcome ≡ outcome-variants.Refused number
+      → unready number ≡ openedAt (startEnds bytes b (sender.made s) (receiver.made r))
+  starts-refused number part told same = outcome-starts (outcome-variants.Refused number) (unready number) part told same refl
+
+  pub starts-sent : (x : Opened) (ticks frames : ℕ)
+      → m ≡ take (b .message) (drop 23 bytes)
+      → sender.told a ≡ beginOf s m
+      → a .outcome ≡ Sent ticks frames
+      → x ≡ openedAt (startBegin sender.quiet s r b)
+      → x ≡ openedAt (startEnds bytes b (sender.made s) (receiver.made r))
+  starts-sent x ticks frames = outcome-starts (Sent ticks frames) x
+
+  pub starts-failed : (x : Opened) (cause ticks frames : ℕ)
+      → m ≡ take (b .message) (drop 23 bytes)
+      → sender.told a ≡ beginOf s m
+      → a .outcome ≡ Failed cause ticks frames
+      → x ≡ openedAt (startBegin sender.quiet s r b)
+      → x ≡ openedAt (startEnds bytes b (sender.made s) (receiver.made r))
+  starts-failed x cause ticks frames = outcome-starts (Failed cause ticks frames) x
+
+pub ruleset starts = (starts-quiet, starts-refused, starts-sent, starts-failed)
+
+-- what making the ends starts
+module _ (bytes : List ℕ) (b : Bodies) (made : sender-enum.Made) (answered : receiver-enum.Made)
+    (e : sender.toldMade made ≡ sender-making.makeOf (b .settings .gap) (b .settings .timeout) (b .settings .limit))
+    (d : receiver.toldMade answered ≡ receiver-making.makeOf (b .settings .patience) (b .settings .window) (b .settings .capacity))
+  where
+    made-starts : (x : Opened) → x ≡ openedAt (startEnds bytes b (sender.toldMade made) (receiver.toldMade answered))
+        → x ≡ openedAt (startBodies bytes (held b))
+    unfolding startBodies
+    made-starts x h = h ∙ rw (e, d) refl
+
+    pub made-unmade : (number : ℕ) → made ≡ sender-made.Refused number → unready number ≡ openedAt (startBodies bytes (held b))
+    unfolding startEnds
+    made-unmade number m = made-starts (unready number) (rw m refl)
+
+    pub made-no-receiver : (s : Sender) (number : ℕ) → made ≡ sender-made.End s → answered ≡ receiver-made.Refused number
+        → unready number ≡ openedAt (startBodies bytes (held b))
+    unfolding startEnds
+    made-no-receiver s number m n = made-starts (unready number) (rw (m, n) refl)
+
+    pub made-both : (x : Opened) (s : Sender) (r : Receiver) → made ≡ sender-made.End s → answered ≡ receiver-made.End r
+        → x ≡ openedAt (startEnds bytes b (sender.made s) (receiver.made r))
+        → x ≡ openedAt (startBodies bytes (held b))
+    made-both x s r m n h = made-starts x (rw (m, n) h)
+
+pub ruleset makings = (made-unmade, made-no-receiver, made-both)
+
+-- what reading the pack starts
+pub read-held : (bytes : List ℕ) (reading : Reading) (b : Bodies) (x : Opened)
+    → toldReading reading ≡ bodiesOf bytes
+    → reading ≡ Pack b
+    → x ≡ openedAt (startBodies bytes (held b))
+    → x ≡ openOf bytes
+unfolding openOf startOf
+read-held bytes reading b x e p h = h ∙ ap (λ (c : Contents). openedAt (startBodies bytes c)) (ap toldReading (sym p) ∙ e)
+
+pub read-refused : (bytes : List ℕ) (reading : Reading) (number : ℕ)
+    → toldReading reading ≡ bodiesOf bytes
+    → reading ≡ reading-variants.Refused number
+    → unready number ≡ openOf bytes
+unfolding openOf startOf startBodies
+read-refused bytes reading number e p = ap (λ (c : Contents). openedAt (startBodies bytes c)) (ap toldReading (sym p) ∙ e)
+
+pub ruleset readings = (read-held, read-refused)
+
+-- ---- beginning and playing
+
+-- the lent lengths, of the test that found them right
+pub begins-line : (f o : ℕ) {b : Bool} → b ≡ (eqb f 576 && eqb o 16384) → b ≡ true → f ≡ 576
+begins-line f o e t = eqb-true f 576 (both-left (eqb f 576) (eqb o 16384) (sym e ∙ t))
+
+pub plays-forward : (f k o : ℕ) {b : Bool} → b ≡ (eqb f 576 && eqb k 576 && eqb o 16384) → b ≡ true → f ≡ 576
+plays-forward f k o e t =
+    eqb-true f 576 (both-left (eqb f 576) (eqb k 576) (both-left (eqb f 576 && eqb k 576) (eqb o 16384) (sym e ∙ t)))
+
+pub plays-back : (f k o : ℕ) {b : Bool} → b ≡ (eqb f 576 && eqb k 576 && eqb o 16384) → b ≡ true → k ≡ 576
+plays-back f k o e t =
+    eqb-true k 576 (both-right (eqb f 576) (eqb k 576) (both-left (eqb f 576 && eqb k 576) (eqb o 16384) (sym e ∙ t)))
+
+-- a part is no longer than was asked for
+part-length : (events s : List ℕ) (from most : ℕ) → events ≡ take most (drop from s) → length events ≤ most
+part-length events s from most e = rw (e, length-take) (omega arith)
+
+pub numbers-fit : (events s : List ℕ) (from most played : ℕ) → events ≡ take most (drop from s) → played + most ≤ 65535
+    → played + length events ≤ 65535
+numbers-fit events s from most played e few = let h = part-length events s from most e in omega arith
+
+pub count-fits : (events s : List ℕ) (from most : ℕ) → events ≡ take most (drop from s) → most ≤ 128 → length events < 65536
+count-fits events s from most e few = let h = part-length events s from most e in omega arith
+
+pub number-fits : (events s : List ℕ) (from most played : ℕ) → events ≡ take most (drop from s) → played + most ≤ 65535
+    → played + length events < 65536
+number-fits events s from most played e few = let h = part-length events s from most e in omega arith
+
+-- what a call answers, of its step
+abbrev After : Progress → Ends → ℕ → Bodies → ℕ → Type 0
+After x ends at b played = (x .player .ends ≡ ends) × (x .player .bodies ≡ b) × (x .player .played ≡ played) × (x .written ≡ at)
+
+after-step : (x : Progress) (ends : Ends) (at played : ℕ) (b : Bodies) (forward back buffer out : List ℕ) → After x ends at b played
+    → progressed (turned (worldOf (x .player .ends) forward back buffer) (page out (x .written))) (x .player .bodies) (x .player .played)
+    ≡ progressed (turned (worldOf ends forward back buffer) (page out at)) b played
+after-step x ends at played b forward back buffer out a = rw (a .0, a .1, a .2, a .3) refl
+
+pub begin-there : (bytes m forward forward′ out out′ : List ℕ) (q : Player) (x : Progress) (ends : Ends) (at : ℕ) {fits : Bool}
+    → fits ≡ (eqb (length forward) 576 && eqb (length out) 16384)
+    → fits ≡ true
+    → m ≡ take (q .bodies .message) (drop 23 bytes)
+    → ((back buffer : List ℕ)
+    → turned (worldOf ends forward′ back buffer) (page out′ at)
+    ≡ printed (playerStep (worldOf (q .ends) forward back buffer) (begin m)) 0 (page out 0))
+    → After x ends at (q .bodies) (q .played)
+    → (back buffer : List ℕ)
+    → progressed (turned (worldOf (x .player .ends) forward′ back buffer) (page out′ (x .written))) (x .player .bodies) (x .player .played)
+    ≡ calls.beginOf bytes q forward back buffer out
+unfolding calls.beginOf messageOf
+begin-there bytes m forward forward′ out out′ q x ends at e t part step a back buffer =
+    after-step x ends at (q .played) (q .bodies) forward′ back buffer out′ a
+    ∙ ap (λ (y : Turned). progressed y (q .bodies) (q .played))
+    (pick-true _ (sym e ∙ t) (step back buffer ∙ ap (λ (l : List ℕ). printed (playerStep (worldOf (q .ends) forward back buffer) (begin l)) 0 (page out 0)) part))
+
+abbrev Unchanged : Progress → Player → Type 0
+Unchanged x q = (x .player ≡ q) × (x .written ≡ 0)
+
+pub begin-not : (bytes forward out : List ℕ) (q : Player) (x : Progress) {fits : Bool}
+    → fits ≡ (eqb (length forward) 576 && eqb (length out) 16384)
+    → fits ≡ false
+    → Unchanged x q
+    → (back buffer : List ℕ)
+    → progressed (turned (worldOf (x .player .ends) forward back buffer) (page out (x .written))) (x .player .bodies) (x .player .played)
+    ≡ calls.beginOf bytes q forward back buffer out
+unfolding calls.beginOf
+begin-not bytes forward out q x e t a back buffer =
+    rw (a .0, a .1) (ap (λ (y : Turned). progressed y (q .bodies) (q .played)) (pick-false _ (sym e ∙ t) refl))
+
+-- the events that are lent are the pack's next
+next-are : (bytes events : List ℕ) (q : Player) (from most : ℕ)
+    → from ≡ 23 + q .bodies .message + q .played
+    → most ≡ min 128 (65535 - q .played)
+    → events ≡ take most (drop from bytes)
+    → events ≡ nextEvents bytes q
+unfolding nextEvents eventsOf
+next-are bytes events q from most f n e = e ∙ rw (f, n) (ap (take (min 128 (65535 - q .played))) (sym (drop-drop (q .played) (23 + q .bodies .message) bytes)))
+
+pub play-there : (bytes m events forward forward′ back back′ buffer buffer′ out out′ : List ℕ) (q : Player) (x : Progress) (ends : Ends) (at from most : ℕ)
+    {fits : Bool}
+    → fits ≡ (eqb (length forward) 576 && eqb (length back) 576 && eqb (length out) 16384)
+    → fits ≡ true
+    → m ≡ take (q .bodies .message) (drop 23 bytes)
+    → from ≡ 23 + q .bodies .message + q .played
+    → most ≡ min 128 (65535 - q .played)
+    → events ≡ take most (drop from bytes)
+    → turned (worldOf ends forward′ back′ buffer′) (page out′ at)
+    ≡ playing (worldOf (q .ends) forward back buffer) m events (suc (q .played)) (page out 0)
+    → After x ends at (q .bodies) (q .played + length events)
+    → progressed (turned (worldOf (x .player .ends) forward′ back′ buffer′) (page out′ (x .written))) (x .player .bodies) (x .player .played)
+    ≡ playOf bytes q forward back buffer out
+unfolding playOf messageOf
+play-there bytes m events forward forward′ back back′ buffer buffer′ out out′ q x ends at from most e t part f n es step a =
+    let w = worldOf (q .ends) forward back buffer in
+    after-step x ends at (q .played + length events) (q .bodies) forward′ back′ buffer′ out′ a
+    ∙ pick-true _ (sym e ∙ t)
+    (ap (λ (y : Turned). progressed y (q .bodies) (q .played + length events)) step
+    ∙ ap (λ (l : List ℕ). progressed (playing w l events (suc (q .played)) (page out 0)) (q .bodies) (q .played + length events)) part
+    ∙ ap (λ (l : List ℕ). progressed (playing w (take (q .bodies .message) (drop 23 bytes)) l (suc (q .played)) (page out 0)) (q .bodies) (q .played + length l)) (next-are bytes events q from most f n es))
+
+pub play-not : (bytes forward back buffer out : List ℕ) (q : Player) (x : Progress) {fits : Bool}
+    → fits ≡ (eqb (length forward) 576 && eqb (length back) 576 && eqb (length out) 16384)
+    → fits ≡ false
+    → Unchanged x q
+    → progressed (turned (worldOf (x .player .ends) forward back buffer) (page out (x .written))) (x .player .bodies) (x .player .played)
+    ≡ playOf bytes q forward back buffer out
+unfolding playOf
+play-not bytes forward back buffer out q x e t a = rw (a .0, a .1) (pick-false _ (sym e ∙ t) refl)

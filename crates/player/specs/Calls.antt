@@ -1,0 +1,98 @@
+-- What the player's calls answer. A pack is opened; its message is begun; its events are played, at most 128 in a call; what
+-- is printed stands in a lent page of 16384 bytes, from its first place on.
+use Prim.Native.Nat.{ℕ, suc, _+_, _-_, min}
+use mathlib.Core.Bool.{Bool, true, false, _&&_}
+use mathlib.Core.List.{List}
+use lib.Dec.{eqb, leb}
+use lib.ListN.{length, take, drop}
+use Rattle.frame.specs.Choice.{pick}
+use Rattle.line.specs.Ring.{emptyOf}
+use Rattle.pack.specs.Pack.{messageOf, eventsOf}
+use Rattle.pack.specs.declared.Bodies.{Bodies}
+use Rattle.player.specs.Played.{Start, refused, begun, startOf}
+use Rattle.player.specs.State.{worldOf, Turned, turned, printed}
+use Rattle.player.specs.Step.{playerStep, eventsFrom, worldAfter}
+use Rattle.player.specs.Text.{textOf}
+use Rattle.player.specs.declared.Opening as opening
+use Rattle.player.specs.declared.Opening.the-variants as variants
+use Rattle.player.specs.declared.Player.{Player}
+use Rattle.receiver.specs.declared.Receiver.{Receiver}
+use Rattle.sender.specs.declared.Sender.{Sender}
+use Rattle.text.specs.Page.{Page, page, put}
+use Rattle.transport.specs.World.{World, begin}
+
+-- ---- opening a pack
+
+pub data Opened : Type 0 where
+  ready : Player → Opened
+  unready : ℕ → Opened
+
+-- document 01's value for each case of the answer
+abbrev pub toldOpening : opening.Opening → Opened
+toldOpening (variants.Ready player) = ready player
+toldOpening (variants.Refused number) = unready number
+
+-- "two ends just made ..., forward and back empty"; nothing played
+abbrev pub playerFor : Sender → Receiver → Bodies → Player
+playerFor s r b =
+    record {
+      ends = record { sender = s; receiver = r; forward = emptyOf; back = emptyOf };
+      bodies = b;
+      played = 0;
+    }
+
+abbrev pub openedAt : Start → Opened
+openedAt (refused number) = unready number
+openedAt (begun s r b) = ready (playerFor s r b)
+
+unfoldable pub openOf : List ℕ → Opened
+openOf bytes = openedAt (startOf bytes)
+
+-- ---- beginning and playing
+
+-- the world, the bodies, the number of events played, and the page
+pub record Progressed : Type 0 where
+  pub world : World
+  pub bodies : Bodies
+  pub played : ℕ
+  pub page : Page
+
+abbrev pub progressed : Turned → Bodies → ℕ → Progressed
+progressed t b played = record { world = t .world; bodies = b; played = played; page = t .page }
+
+-- the lent lengths: 576 for a line, 16384 for the page; lent anything else, nothing happens
+abbrev pub beginsOn : List ℕ → List ℕ → Bool
+beginsOn forward out = eqb (length forward) 576 && eqb (length out) 16384
+
+abbrev pub playsOn : List ℕ → List ℕ → List ℕ → Bool
+playsOn forward back out = eqb (length forward) 576 && eqb (length back) 576 && eqb (length out) 16384
+
+-- "0 is begin"
+unfoldable pub beginOf : List ℕ → Player → List ℕ → List ℕ → List ℕ → List ℕ → Progressed
+beginOf bytes q forward back buffer out =
+    progressed
+    (pick (beginsOn forward out)
+    (printed (playerStep (worldOf (q .ends) forward back buffer) (begin (messageOf bytes (q .bodies)))) 0 (page out 0))
+    (turned (worldOf (q .ends) forward back buffer) (page out 0)))
+    (q .bodies) (q .played)
+
+-- events one after the other, numbered from here
+unfoldable pub playing : World → List ℕ → List ℕ → ℕ → Page → Turned
+playing w message events number p =
+    turned (worldAfter w message events) (put p (textOf number (eventsFrom w message events)))
+
+-- the next events of a pack: 128 of them, or as many as there are (a pack has fewer than 65535)
+unfoldable pub nextEvents : List ℕ → Player → List ℕ
+nextEvents bytes q = take (min 128 (65535 - q .played)) (drop (q .played) (eventsOf bytes (q .bodies)))
+
+unfoldable pub playOf : List ℕ → Player → List ℕ → List ℕ → List ℕ → List ℕ → Progressed
+playOf bytes q forward back buffer out =
+    pick (playsOn forward back out)
+    (progressed
+    (playing (worldOf (q .ends) forward back buffer) (messageOf bytes (q .bodies)) (nextEvents bytes q) (suc (q .played)) (page out 0))
+    (q .bodies) (q .played + length (nextEvents bytes q)))
+    (progressed (turned (worldOf (q .ends) forward back buffer) (page out 0)) (q .bodies) (q .played))
+
+-- every event has been played
+abbrev pub isFinished : Player → Bool
+isFinished q = leb (q .bodies .events) (q .played)
