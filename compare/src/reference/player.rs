@@ -38,7 +38,7 @@ pub struct Run {
 
 /// The call of an event: "events (1, 2 sender, receiver tick; 3, 4, 5 forward hear, lose, repeat;
 /// 6, 7, 8 back)".
-fn event(number: u8) -> Option<Call> {
+pub fn event(number: u8) -> Option<Call> {
     Some(match number {
         1 => Call::SenderTick,
         2 => Call::ReceiverTick,
@@ -132,14 +132,26 @@ pub fn build(settings: &Settings, message: &[u8], events: &[u8]) -> Vec<u8> {
 
 /// What the player prints for this pack.
 pub fn play(pack: &[u8]) -> String {
-    match run(pack) {
+    play_with(pack, Bench::call)
+}
+
+/// The same with `step` in place of the bench's own call: for tests that need a player with a
+/// mistake.
+pub fn play_with<S>(pack: &[u8], step: S) -> String
+where
+    S: FnMut(&mut Bench, Call, &[u8], &mut [u8]) -> Result<Outcome, Refused>,
+{
+    match run(pack, step) {
         Ok(lines) => lines,
         // "It prints `refused n` alone"
         Err(Refused(number)) => format!("refused {number}\n"),
     }
 }
 
-fn run(pack: &[u8]) -> Result<String, Refused> {
+fn run<S>(pack: &[u8], mut step: S) -> Result<String, Refused>
+where
+    S: FnMut(&mut Bench, Call, &[u8], &mut [u8]) -> Result<Outcome, Refused>,
+{
     let Run {
         settings,
         message,
@@ -163,7 +175,7 @@ fn run(pack: &[u8]) -> Result<String, Refused> {
     // "event number (0 is begin)"
     let calls = std::iter::once(Call::Begin).chain(events);
     for (number, call) in calls.enumerate() {
-        let outcome = bench.call(call, &message, &mut buffer)?;
+        let outcome = step(&mut bench, call, &message, &mut buffer)?;
         print(&mut lines, number, outcome);
     }
     Ok(lines)
