@@ -1,3 +1,5 @@
 pub mod Demand
 pub mod Turns
 pub mod Calls
+pub mod Bounds
+pub mod Whole

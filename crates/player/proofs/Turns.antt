@@ -83,7 +83,7 @@ receiver-answered ends r t number bytes after p q line text forward buffer = rw 
 -- ---- a call's step
 
 -- what is printed of a call of one end is what is printed of its answer
-sender-text : (number : ℕ) (t : sender.Told)
+pub sender-text : (number : ℕ) (t : sender.Told)
     → framesText number letterS (emission (t .emits) (t .frame)) ++ (senderReport number (t .outcome) ++ receiverReport number receiver.quiet [])
     ≡ senderText number t
 unfolding senderText framesText emittedText receiverReport
@@ -93,7 +93,7 @@ sender-text number t = go (t .emits)
     go true = rw (append-nil (frameLine number letterS (t .frame)), append-nil (senderReport number (t .outcome))) refl
     go false = append-nil (senderReport number (t .outcome))
 
-receiver-text : (number : ℕ) (t : receiver.Told)
+pub receiver-text : (number : ℕ) (t : receiver.Told)
     → framesText number letterR (emission (t .emits) (t .frame)) ++ (senderReport number sender.quiet ++ receiverReport number (t .outcome) (t .bytes))
     ≡ receiverText number t
 unfolding receiverText framesText emittedText senderReport

@@ -4,3 +4,4 @@ pub mod Text
 pub mod State
 pub mod Played
 pub mod Calls
+pub mod Whole

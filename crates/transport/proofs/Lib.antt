@@ -11,3 +11,4 @@ pub mod Theorem
 pub mod Example
 pub mod Across
 pub mod Refusals
+pub mod Eight

@@ -1,0 +1,163 @@
+-- What the calls print, joined, is what `played` says. A list of events is played part by part; each part's text fits the
+-- page, so the page holds it whole.
+-- Assumes nothing.
+use Prim.Native.Nat.{ℕ, zero, suc, _+_, _-_, _*_, _<_, _≤_, min}
+use mathlib.Core.Path.{_≡_, refl, sym, ap, subst, _∙_}
+use mathlib.Core.Bool.{Bool, true, false, _&&_}
+use mathlib.Core.List.{List, [], _∷_, _++_, append-assoc}
+use native.Mathlib.Nat.{add-zero}
+use native.Mathlib.Omega.{arith}
+use borrow.Author.Tests.{eq-eqb, leb-true, leb-false}
+use lib.Dec.{eqb}
+use lib.ListN.{length, take, drop, length-take, length-drop, drop-of-length-le, take-append-drop}
+use lib.Seq.{take-at, drop-drop}
+use Rattle.frame.proofs.Choice.{pick-true}
+use Rattle.line.proofs.Frames.{frames-none}
+use Rattle.line.specs.Ring.{emptyOf, frameAt, framesFrom, framesIn}
+use Rattle.line.specs.declared.Ring.{Ring}
+use Rattle.pack.proofs.Laws.{length-events, read-most, read-whole}
+use Rattle.pack.specs.Pack.{held, bodiesOf, messageOf, eventsOf}
+use Rattle.pack.specs.declared.Bodies.{Bodies}
+use Rattle.player.proofs.Bounds.{AllEight, Whole, little, text-fits}
+use Rattle.player.specs.Calls.{playerFor, Progressed, progressed, beginOf, playing, nextEvents, playOf, isFinished}
+use Rattle.player.specs.Claim.{runFrom}
+use Rattle.player.specs.Played.{begun, startOf, zeros, playedStart, played}
+use Rattle.player.specs.State.{worldOf, Turned, turned, printed}
+use Rattle.player.specs.Step.{capped, playerStep, turnFor, eventsFrom, worldAfter}
+use Rattle.player.specs.Text.{eventText, textOf}
+use Rattle.player.specs.Whole.{shown, leftOf, leftAfter, BeginPrints, PlayPrints, FinishedIsAll, PlayGoesOn}
+use Rattle.player.specs.declared.Player.{Player}
+use Rattle.text.proofs.Laws.{put-fits}
+use Rattle.text.specs.Page.{Page, page, put}
+use Rattle.transport.specs.Step.{stepOf}
+use Rattle.transport.specs.World as transport
+use Rattle.transport.specs.World.{World, Call, Event, begin}
+
+-- ---- part by part
+
+events-parts : (w : World) (m xs ys : List ℕ) → eventsFrom w m (xs ++ ys) ≡ eventsFrom w m xs ++ eventsFrom (worldAfter w m xs) m ys
+unfolding eventsFrom worldAfter
+events-parts w m [] ys = refl
+events-parts w m (x ∷ xs) ys = ap (λ (l : List Event). turnFor w m x .event ∷ l) (events-parts (turnFor w m x .world) m xs ys)
+
+length-events-from : (w : World) (m xs : List ℕ) → length (eventsFrom w m xs) ≡ length xs
+unfolding eventsFrom
+length-events-from w m [] = refl
+length-events-from w m (x ∷ xs) = ap suc (length-events-from (turnFor w m x .world) m xs)
+
+text-parts : (number : ℕ) (es fs : List Event) → textOf number (es ++ fs) ≡ textOf number es ++ textOf (number + length es) fs
+unfolding textOf
+text-parts number [] fs = ap (λ (k : ℕ). textOf k fs) (sym (add-zero number))
+text-parts number (e ∷ es) fs =
+    let same : suc number + length es ≡ number + suc (length es) = omega arith in
+    ap (λ (l : List ℕ). eventText number e ++ l) (text-parts (suc number) es fs)
+    ∙ sym (append-assoc (eventText number e) (textOf (suc number) es) (textOf (suc number + length es) fs))
+    ∙ ap (λ (k : ℕ). (eventText number e ++ textOf (suc number) es) ++ textOf k fs) same
+
+played-parts : (w : World) (m xs ys : List ℕ) (number : ℕ)
+    → textOf number (eventsFrom w m (xs ++ ys))
+    ≡ textOf number (eventsFrom w m xs) ++ textOf (number + length xs) (eventsFrom (worldAfter w m xs) m ys)
+played-parts w m xs ys number =
+    ap (textOf number) (events-parts w m xs ys)
+    ∙ text-parts number (eventsFrom w m xs) (eventsFrom (worldAfter w m xs) m ys)
+    ∙ ap (λ (k : ℕ). textOf number (eventsFrom w m xs) ++ textOf (number + k) (eventsFrom (worldAfter w m xs) m ys)) (length-events-from w m xs)
+
+-- what is behind the first n
+behind : (n : ℕ) (xs : List ℕ) → drop (length (take n xs)) xs ≡ drop n xs
+behind zero xs = refl
+behind (suc n) [] = refl
+behind (suc n) (x ∷ xs) = behind n xs
+
+-- ---- a page that has room
+
+-- from its first place on, a text that fits is what is shown
+page-shows : (out text : List ℕ) → length text ≤ length out → take (put (page out 0) text .place) (put (page out 0) text .bytes) ≡ text
+page-shows out text fits =
+    let room : 0 + length text ≤ length out = omega arith in
+    let same : 0 + length text ≡ length text = omega arith in
+    rw (put-fits (page out 0) text room) (take-at text (drop (0 + length text) out) (0 + length text) (sym same))
+
+-- the frames of a ring have eight bytes
+frames-eight : (bytes : List ℕ) (n p : ℕ) → AllEight (framesFrom bytes p n)
+unfolding framesFrom frameAt
+frames-eight bytes zero p = tt
+frames-eight bytes (suc n) p = (refl, frames-eight bytes n (suc p))
+
+whole-world : (q : Player) (forward back buffer : List ℕ) → Whole (worldOf (q .ends) forward back buffer)
+unfolding framesIn
+whole-world q forward back buffer = record { forward = frames-eight forward _ _; back = frames-eight back _ _ }
+
+-- ---- the calls
+
+-- the lent lengths pass the test
+lent : (f b o : ℕ) → f ≡ 576 → b ≡ 576 → o ≡ 16384 → (eqb f 576 && eqb b 576 && eqb o 16384) ≡ true
+lent f b o e d c = rw (e, d, c) refl
+
+little-of : (w : World) (c : Call) → Whole w → length (eventText 0 (playerStep w c .event)) ≤ 128
+unfolding playerStep
+little-of w c a = little w c a .short 0
+
+pub play-prints : PlayPrints
+unfolding playOf playing leftOf nextEvents
+play-prints bytes q forward back buffer out lf lb lo =
+    let w = worldOf (q .ends) forward back buffer in
+    let m = messageOf bytes (q .bodies) in
+    let rest = drop (q .played) (eventsOf bytes (q .bodies)) in
+    let n = min 128 (65535 - q .played) in
+    let few : length (take n rest) ≤ 128 = rw length-take (omega arith) in
+    let fits : length (textOf (suc (q .played)) (eventsFrom w m (take n rest))) ≤ length out = omega (arith, text-fits w m (take n rest) (suc (q .played)) (whole-world q forward back buffer), few) in
+    let all : playOf bytes q forward back buffer out ≡ progressed (playing w m (nextEvents bytes q) (suc (q .played)) (page out 0)) (q .bodies) (q .played + length (nextEvents bytes q)) = sym (pick-true _ (lent (length forward) (length back) (length out) lf lb lo) refl) in
+    rw all
+    (ap (λ (l : List ℕ). textOf (suc (q .played)) (eventsFrom w m l)) (sym (take-append-drop n rest))
+    ∙ played-parts w m (take n rest) (drop n rest) (suc (q .played))
+    ∙ ap (λ (l : List ℕ). l ++ textOf (suc (q .played) + length (take n rest)) (eventsFrom (worldAfter w m (take n rest)) m (drop n rest)))
+    (sym (page-shows out (textOf (suc (q .played)) (eventsFrom w m (take n rest))) fits))
+    ∙ ap (λ (l : List ℕ). shown (progressed (playing w m (take n rest) (suc (q .played)) (page out 0)) (q .bodies) (q .played)) ++ textOf (suc (q .played) + length (take n rest)) (eventsFrom (worldAfter w m (take n rest)) m l))
+    (sym (behind n rest) ∙ drop-drop (length (take n rest)) (q .played) (eventsOf bytes (q .bodies)))
+    ∙ ap (λ (k : ℕ). shown (progressed (playing w m (take n rest) (suc (q .played)) (page out 0)) (q .bodies) (q .played)) ++ textOf k (eventsFrom (worldAfter w m (take n rest)) m (drop (q .played + length (take n rest)) (eventsOf bytes (q .bodies)))))
+    (suc-first (q .played) (length (take n rest))))
+  where
+    suc-first : (a k : ℕ) → suc a + k ≡ suc (a + k)
+    suc-first a k = omega arith
+
+pub begin-prints : BeginPrints
+unfolding beginOf leftOf played playedStart runFrom textOf framesIn framesFrom
+begin-prints bytes s r b started forward back out lf lo =
+    let w : World = transport.startOf s r zeros in
+    let m = messageOf bytes b in
+    let step = playerStep w (begin m) in
+    let none : Whole w = record { forward = tt; back = tt } in
+    let q = playerFor s r b in
+    let fits : length (eventText 0 (step .event)) ≤ length out = omega (arith, short (begin m) w none) in
+    let same : worldOf (q .ends) forward back zeros ≡ w = empty-world forward back in
+    rw started
+    (ap (λ (l : List ℕ). l ++ textOf 1 (eventsFrom (step .world) m (eventsOf bytes b))) (sym (page-shows out (eventText 0 (step .event)) fits))
+    ∙ ap (λ (t : Turned). take (t .page .place) (t .page .bytes) ++ textOf 1 (eventsFrom (t .world) m (eventsOf bytes b)))
+    (pick-true _ (lengths (length forward) (length out) lf lo) (ap (λ (v : World). printed (playerStep v (begin m)) 0 (page out 0)) (sym same))))
+  where
+    lengths : (f o : ℕ) → f ≡ 576 → o ≡ 16384 → (eqb f 576 && eqb o 16384) ≡ true
+    lengths f o e c = rw (e, c) refl
+
+    short : (c : Call) (w : World) → Whole w → length (eventText 0 (playerStep w c .event)) ≤ 128
+    short c w a = little-of w c a
+
+    empty-world : (f k : List ℕ) → worldOf (playerFor s r b .ends) f k zeros ≡ transport.startOf s r zeros
+    empty-world f k = refl
+
+pub finished-is-all : FinishedIsAll
+unfolding leftOf eventsFrom textOf
+finished-is-all bytes q w read done =
+    let l = leb-true (q .bodies .events) (q .played) done in
+    let n = length-events bytes (q .bodies) read in
+    let past : length (eventsOf bytes (q .bodies)) ≤ q .played = omega (arith, l, n) in
+    rw (drop-of-length-le (eventsOf bytes (q .bodies)) past) refl
+
+pub play-goes-on : PlayGoesOn
+unfolding playOf nextEvents
+play-goes-on bytes q forward back buffer out lf lb lo read going =
+    let l = leb-false (q .bodies .events) (q .played) going in
+    let n = length-events bytes (q .bodies) read in
+    let most = read-most bytes (q .bodies) read in
+    let whole = read-whole bytes (q .bodies) read in
+    let all : playOf bytes q forward back buffer out .played ≡ q .played + length (nextEvents bytes q) = sym (ap (λ (g : Progressed). g .played) (pick-true _ (lent (length forward) (length back) (length out) lf lb lo) refl)) in
+    rw (all, length-take, length-drop) (omega (arith, l, n, most, whole))

@@ -1,0 +1,69 @@
+-- The calls of the player, one after the other, print what `played` says: the begin prints its first bytes, each call of
+-- play the next ones, and once the player is finished nothing is left.
+use Prim.Native.Nat.{ℕ, suc, _<_}
+use mathlib.Core.Bool.{Bool, true, false}
+use mathlib.Core.List.{List, [], _++_}
+use mathlib.Core.Path.{_≡_}
+use lib.ListN.{length, take, drop}
+use Rattle.pack.specs.Pack.{held, bodiesOf, messageOf, eventsOf}
+use Rattle.pack.specs.declared.Bodies.{Bodies}
+use Rattle.player.specs.Calls.{playerFor, Progressed, beginOf, playOf, isFinished}
+use Rattle.player.specs.Played.{begun, startOf, zeros, played}
+use Rattle.player.specs.State.{worldOf}
+use Rattle.player.specs.Step.{eventsFrom}
+use Rattle.player.specs.Text.{textOf}
+use Rattle.player.specs.declared.Player.{Player}
+use Rattle.receiver.specs.declared.Receiver.{Receiver}
+use Rattle.sender.specs.declared.Sender.{Sender}
+use Rattle.transport.specs.World.{World}
+
+-- what a call prints: the written part of its page
+abbrev pub shown : Progressed → List ℕ
+shown g = take (g .page .place) (g .page .bytes)
+
+-- what is still to be printed of a pack, from a world in which so many events have been played
+unfoldable pub leftOf : List ℕ → World → Bodies → ℕ → List ℕ
+leftOf bytes w b played = textOf (suc played) (eventsFrom w (messageOf bytes b) (drop played (eventsOf bytes b)))
+
+abbrev pub leftAfter : List ℕ → Progressed → List ℕ
+leftAfter bytes g = leftOf bytes (g .world) (g .bodies) (g .played)
+
+-- the begin, on a buffer of zeros
+abbrev pub BeginPrints : Type 0
+BeginPrints =
+    (bytes : List ℕ) (s : Sender) (r : Receiver) (b : Bodies)
+    → startOf bytes ≡ begun s r b
+    → (forward back out : List ℕ)
+    → length forward ≡ 576
+    → length out ≡ 16384
+    → played bytes
+    ≡ shown (beginOf bytes (playerFor s r b) forward back zeros out) ++ leftAfter bytes (beginOf bytes (playerFor s r b) forward back zeros out)
+
+-- a call of play
+abbrev pub PlayPrints : Type 0
+PlayPrints =
+    (bytes : List ℕ) (q : Player) (forward back buffer out : List ℕ)
+    → length forward ≡ 576
+    → length back ≡ 576
+    → length out ≡ 16384
+    → leftOf bytes (worldOf (q .ends) forward back buffer) (q .bodies) (q .played)
+    ≡ shown (playOf bytes q forward back buffer out) ++ leftAfter bytes (playOf bytes q forward back buffer out)
+
+-- a finished player has nothing left to print of its pack
+abbrev pub FinishedIsAll : Type 0
+FinishedIsAll =
+    (bytes : List ℕ) (q : Player) (w : World)
+    → bodiesOf bytes ≡ held (q .bodies)
+    → isFinished q ≡ true
+    → leftOf bytes w (q .bodies) (q .played) ≡ []
+
+-- one that is not finished plays at least one event more
+abbrev pub PlayGoesOn : Type 0
+PlayGoesOn =
+    (bytes : List ℕ) (q : Player) (forward back buffer out : List ℕ)
+    → length forward ≡ 576
+    → length back ≡ 576
+    → length out ≡ 16384
+    → bodiesOf bytes ≡ held (q .bodies)
+    → isFinished q ≡ false
+    → q .played < playOf bytes q forward back buffer out .played
