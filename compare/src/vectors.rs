@@ -53,13 +53,23 @@ pub enum Vector {
     Said,
 }
 
-/// The vectors as the test program reads them: for each a tag, a length, and so many bytes.
+/// What a vector prints: its words, and what was answered. Ticks have no words, and a line for each message.
+pub struct Printed {
+    pub words: String,
+    pub answer: String,
+}
+
+/// The vectors as the test program reads them: for each a tag; its words and its bytes, each a length and so many bytes.
 pub fn input(vectors: &[Vector]) -> Vec<u8> {
+    let length = |bytes: &[u8]| u8::try_from(bytes.len()).expect("at most 255 bytes");
     let mut out = Vec::new();
-    for vector in vectors {
+    for (vector, printed) in vectors.iter().zip(run(vectors)) {
         let (tag, payload) = record(vector);
+        let words = printed.words.as_bytes();
         out.push(tag);
-        out.push(u8::try_from(payload.len()).expect("a payload of at most 255 bytes"));
+        out.push(length(words));
+        out.extend(words);
+        out.push(length(&payload));
         out.extend(payload);
     }
     out
@@ -96,69 +106,73 @@ fn record(vector: &Vector) -> (u8, Vec<u8>) {
         Vector::Functions(whose) => (14, vec![side(whose)]),
         Vector::Hear(whose) => (15, vec![side(whose)]),
         Vector::HearBytes(whose, bytes) => {
-            let mut payload = bytes.to_vec();
-            payload.push(side(whose));
+            let mut payload = vec![side(whose)];
+            payload.extend(bytes);
             (16, payload)
         }
-        Vector::Tick(count) => (17, count.to_le_bytes().to_vec()),
-        Vector::Wait(count) => (18, count.to_le_bytes().to_vec()),
-        Vector::Said => (19, vec![]),
+        Vector::Tick(count) => (20, count.to_le_bytes().to_vec()),
+        Vector::Wait(count) => (21, count.to_le_bytes().to_vec()),
+        Vector::Said => (17, vec![]),
     }
 }
 
 /// The lines that the vectors print.
 pub fn output(vectors: &[Vector]) -> String {
-    let mut talk = Talk::new();
-    let mut out = String::new();
-    for vector in vectors {
-        out.push_str(&match single(vector) {
-            Some(line) => line + "\n",
-            None => talk.step(vector),
-        });
-    }
-    out
+    run(vectors).map(|printed| printed.words + &printed.answer).collect()
 }
 
-/// The line of a vector that is one call.
-fn single(vector: &Vector) -> Option<String> {
+fn run(vectors: &[Vector]) -> impl Iterator<Item = Printed> + '_ {
+    let mut talk = Talk::new();
+    vectors.iter().map(move |vector| single(vector).unwrap_or_else(|| talk.step(vector)))
+}
+
+fn printed(words: String, answer: String) -> Printed {
+    Printed { words, answer: answer + "\n" }
+}
+
+/// What a vector that is one call prints.
+fn single(vector: &Vector) -> Option<Printed> {
     Some(match vector {
-        Vector::Title(words) => format!("# {words}"),
-        Vector::Find(code) => format!("find {code:02X}:{}", told(groups_row(*code))),
+        Vector::Title(words) => printed(format!("# {words}"), String::new()),
+        Vector::Find(code) => printed(format!("find {code:02X}:"), told(groups_row(*code))),
         Vector::Read(lent) => {
             let answer = groups::read(lent).map(|group| told_group(lent[0], raw(group)));
-            format!("read{}:{}", hex(lent), told(answer))
+            printed(format!("read{}:", hex(lent)), told(answer))
         }
         Vector::Write(code, values, lent) => {
             let mut after = lent.clone();
             let answer = write(*code, *values, &mut after).map(|()| " done".into());
-            let group = told_group(*code, *values);
-            format!("write{group} into{}:{}{}", hex(lent), told(answer), hex(&after))
+            let words = format!("write{} into{}:", told_group(*code, *values), hex(lent));
+            printed(words, told(answer) + &hex(&after))
         }
         Vector::Join(parts) => {
             let [p, edp, dp, pf, ps, sa] = *parts;
             let answer = identifier::build(Parts { p, edp, dp, pf, ps, sa }).map(|n| long(&[n]));
-            format!("join{}:{}", long(parts), told(answer))
+            printed(format!("join{}:", long(parts)), told(answer))
         }
         Vector::Part(number) => {
             let answer = identifier::read(*number).map(|x| long(&[x.p, x.edp, x.dp, x.pf, x.ps, x.sa]));
-            format!("part{}:{}", long(&[*number]), told(answer))
+            printed(format!("part{}:", long(&[*number])), told(answer))
         }
         Vector::Named => {
             let [charger, vehicle] = [(0x38, EVCC, SECC), (0x36, SECC, EVCC)].map(version_message);
-            format!("named:{}", long(&[SECC.into(), EVCC.into(), charger, vehicle]))
+            printed("named:".into(), long(&[SECC.into(), EVCC.into(), charger, vehicle]))
         }
-        Vector::List(lent) => match versions(lent) {
-            Ok(list) => format!("list{}: {}{}", hex(lent), list.len(), places(&list)),
-            Err(Refused(n)) => format!("list{}: refused {n} 0{}", hex(lent), places(&[])),
-        },
+        Vector::List(lent) => {
+            let answer = match versions(lent) {
+                Ok(list) => format!(" {}{}", list.len(), places(&list)),
+                Err(Refused(number)) => format!(" refused {number} 0{}", places(&[])),
+            };
+            printed(format!("list{}:", hex(lent)), answer)
+        }
         Vector::ReadMessage(bytes) => {
             let answer = version::read(*bytes).map(|m| told_message(m.outcome, m.version, bytes[5]));
-            format!("message{}:{}", hex(bytes), told(answer))
+            printed(format!("message{}:", hex(bytes)), told(answer))
         }
         Vector::WriteMessage(outcome, version, pilot) => {
             let message = Message { outcome: *outcome, version: *version };
-            let line = told_message(*outcome, *version, *pilot);
-            format!("say{line}:{}", hex(&version::build(message, *pilot)))
+            let words = format!("say{}:", told_message(*outcome, *version, *pilot));
+            printed(words, hex(&version::build(message, *pilot)))
         }
         _ => return None,
     })

@@ -21,7 +21,7 @@ fn check(title: &str, expected: &[impl AsRef<str>]) {
 fn sections() {
     let printed = output(&vectors());
     assert_eq!(printed.lines().filter(|line| line.starts_with('#')).count(), 27);
-    assert!(input(&vectors()).len() < 16384, "the test program reads no more");
+    assert!(input(&vectors()).len() < 32768, "the test program reads no more");
 }
 
 fn read(bytes: &str, group: &str) -> String {
@@ -442,8 +442,9 @@ fn messages() {
     );
 }
 
-// Talks. A line: the clock, the side, the call, then state, result (0 continue, 1 success, 2 failure) and version at Ns
-// after it, the message that went out, the report. Both sides tick at once, the charger first.
+// Talks. A line: the clock, the side, the call (none at a tick), then state, result (0 continue, 1 success, 2 failure) and version at Ns
+// after it, the message that went out, the report; or how many messages charger and vehicle have sent. Both sides tick at
+// once, the charger first.
 
 #[test]
 fn talk_same_list() {
@@ -461,19 +462,19 @@ fn talk_same_list() {
             "60 V hear: S1 1 00020000",
             "60 C hear: S1 1 00020000",
             // 49 ticks bring nothing, the 50th both messages.
-            "110 C tick: S1 1 00020000 says 00 01 02 00 00 01 01 FF",
-            "110 V tick: S1 1 00020000 says 00 01 02 00 00 02 01 FF",
+            "110 C: S1 1 00020000 says 00 01 02 00 00 01 01 FF",
+            "110 V: S1 1 00020000 says 00 01 02 00 00 02 01 FF",
             // Success, consistent, not below 2.0.0: S3, and its message.
             "110 V hear: S3 1 00020000 says 00 01 02 00 00 02 01 FF agreed 00020000",
             "110 C hear: S3 1 00020000 says 00 01 02 00 00 01 01 FF agreed 00020000",
             // The vehicle goes on 50 ms after its entry; the charger's S3 is silent.
-            "160 V tick: S3 1 00020000 says 00 01 02 00 00 02 01 FF",
+            "160 V: S3 1 00020000 says 00 01 02 00 00 02 01 FF",
             "160 C functions: S3 1 00020000",
-            "210 V tick: S3 1 00020000 says 00 01 02 00 00 02 01 FF",
+            "210 V: S3 1 00020000 says 00 01 02 00 00 02 01 FF",
             // T1 is closed.
             "210 V functions: S3 1 00020000",
             // Connect, 110 and the entry; the vehicle's 160 and 210 besides.
-            "310 said: C 3 V 5",
+            "310 said: 3 5",
         ],
     );
 }
@@ -491,18 +492,18 @@ fn talk_one_in_common() {
             "0 V hear: S1 0 00020100",
             // 2.1.0 is not in the list, 2.2.0 is higher: the highest below 2.1.0 is 2.0.0.
             "0 C hear: S1 0 00020000",
-            "50 C tick: S1 0 00020000 says 00 00 02 00 00 01 01 FF",
-            "50 V tick: S1 0 00020100 says 00 00 02 01 00 01 01 FF",
+            "50 C: S1 0 00020000 says 00 00 02 00 00 01 01 FF",
+            "50 V: S1 0 00020100 says 00 00 02 01 00 01 01 FF",
             // 2.0.0 is in the list.
             "50 V hear: S1 1 00020000",
             // 2.1.0 again: now the own 2.0.0 is lower.
             "50 C hear: S1 0 00020000",
-            "100 C tick: S1 0 00020000 says 00 00 02 00 00 01 01 FF",
-            "100 V tick: S1 1 00020000 says 00 01 02 00 00 01 01 FF",
+            "100 C: S1 0 00020000 says 00 00 02 00 00 01 01 FF",
+            "100 V: S1 1 00020000 says 00 01 02 00 00 01 01 FF",
             "100 C hear: S3 1 00020000 says 00 01 02 00 00 01 01 FF agreed 00020000",
             "100 V hear: S3 1 00020000 says 00 01 02 00 00 01 01 FF agreed 00020000",
-            "150 V tick: S3 1 00020000 says 00 01 02 00 00 01 01 FF",
-            "150 said: C 4 V 5",
+            "150 V: S3 1 00020000 says 00 01 02 00 00 01 01 FF",
+            "150 said: 4 5",
         ],
     );
 }
@@ -519,16 +520,16 @@ fn talk_below_2() {
             "0 V hear: S1 0 00020000",
             // The highest below 2.0.0 is 1.1.0.
             "0 C hear: S1 0 00010100",
-            "50 C tick: S1 0 00010100 says 00 00 01 01 00 01 01 FF",
-            "50 V tick: S1 0 00020000 says 00 00 02 00 00 01 01 FF",
+            "50 C: S1 0 00010100 says 00 00 01 01 00 01 01 FF",
+            "50 V: S1 0 00020000 says 00 00 02 00 00 01 01 FF",
             "50 V hear: S1 1 00010100",
             "50 C hear: S1 0 00010100",
-            "100 C tick: S1 0 00010100 says 00 00 01 01 00 01 01 FF",
-            "100 V tick: S1 1 00010100 says 00 01 01 01 00 01 01 FF",
+            "100 C: S1 0 00010100 says 00 00 01 01 00 01 01 FF",
+            "100 V: S1 1 00010100 says 00 01 01 01 00 01 01 FF",
             // Below 2.0.0: S2, which closes both timers on both sides.
             "100 C hear: S2 1 00010100 says 00 01 01 01 00 01 01 FF agreed 00010100",
             "100 V hear: S2 1 00010100 says 00 01 01 01 00 01 01 FF agreed 00010100",
-            "200 said: C 4 V 4",
+            "200 said: 4 4",
         ],
     );
 }
@@ -550,7 +551,7 @@ fn talk_none_in_common() {
             // S4 does nothing any more.
             "100 C connect: S4 2 00020100",
             "100 C hear: S4 2 00020100",
-            "100 said: C 2 V 2",
+            "100 said: 2 2",
         ],
     );
 }
@@ -565,26 +566,26 @@ fn talk_lost() {
             "0 C connect: S1 0 00020000 says 00 00 02 00 00 01 01 FF",
             "20 V connect: S1 0 00020000 says 00 00 02 00 00 01 01 FF",
             // The charger's T1 comes at 50, 100, 150, the vehicle's at 70, 120, 170, 220.
-            "50 C tick: S1 0 00020000 says 00 00 02 00 00 01 01 FF",
-            "70 V tick: S1 0 00020000 says 00 00 02 00 00 01 01 FF",
-            "100 C tick: S1 0 00020000 says 00 00 02 00 00 01 01 FF",
-            "120 V tick: S1 0 00020000 says 00 00 02 00 00 01 01 FF",
-            "150 C tick: S1 0 00020000 says 00 00 02 00 00 01 01 FF",
+            "50 C: S1 0 00020000 says 00 00 02 00 00 01 01 FF",
+            "70 V: S1 0 00020000 says 00 00 02 00 00 01 01 FF",
+            "100 C: S1 0 00020000 says 00 00 02 00 00 01 01 FF",
+            "120 V: S1 0 00020000 says 00 00 02 00 00 01 01 FF",
+            "150 C: S1 0 00020000 says 00 00 02 00 00 01 01 FF",
             // The first message that is heard; a hearing does not restart T1.
             "150 V hear: S1 1 00020000",
-            "170 V tick: S1 1 00020000 says 00 01 02 00 00 01 01 FF",
-            "200 C tick: S1 0 00020000 says 00 00 02 00 00 01 01 FF",
-            "220 V tick: S1 1 00020000 says 00 01 02 00 00 01 01 FF",
+            "170 V: S1 1 00020000 says 00 01 02 00 00 01 01 FF",
+            "200 C: S1 0 00020000 says 00 00 02 00 00 01 01 FF",
+            "220 V: S1 1 00020000 says 00 01 02 00 00 01 01 FF",
             // Success with the own version: S3.
             "221 C hear: S3 1 00020000 says 00 01 02 00 00 01 01 FF agreed 00020000",
             "221 V hear: S3 1 00020000 says 00 01 02 00 00 01 01 FF agreed 00020000",
             // 30 ticks bring nothing; what comes again in S3 does nothing, and does not restart T1.
             "251 V hear: S3 1 00020000",
-            "271 V tick: S3 1 00020000 says 00 01 02 00 00 01 01 FF",
+            "271 V: S3 1 00020000 says 00 01 02 00 00 01 01 FF",
             "281 C hear: S3 1 00020000",
-            "321 V tick: S3 1 00020000 says 00 01 02 00 00 01 01 FF",
+            "321 V: S3 1 00020000 says 00 01 02 00 00 01 01 FF",
             // Charger: 0, 50, 100, 150, 200, 221. Vehicle: 20, 70, 120, 170, 220, 221, 271, 321.
-            "330 said: C 6 V 8",
+            "330 said: 6 8",
         ],
     );
 }
@@ -597,13 +598,13 @@ fn talk_limit() {
             "make C 01 with 01 01 00 02 00 00: S0 0 00020000",
             "make V 01 with 02 00 00: S0 0 00020000",
             "0 C connect: S1 0 00020000 says 00 00 02 00 00 01 01 FF",
-            "50 C tick: S1 0 00020000 says 00 00 02 00 00 01 01 FF",
-            "100 C tick: S1 0 00020000 says 00 00 02 00 00 01 01 FF",
+            "50 C: S1 0 00020000 says 00 00 02 00 00 01 01 FF",
+            "100 C: S1 0 00020000 says 00 00 02 00 00 01 01 FF",
             // At 0, 50, .., 14950: 300 messages.
-            "14999 said: C 300 V 0",
+            "14999 said: 300 0",
             // T1 is due too, but the limit goes before it.
-            "15000 C tick: S4 2 00020000 says 00 02 FF FF FF 01 01 FF failed",
-            "15000 said: C 301 V 0",
+            "15000 C: S4 2 00020000 says 00 02 FF FF FF 01 01 FF failed",
+            "15000 said: 301 0",
             "15100 C hear: S4 2 00020000",
         ],
     );
@@ -619,12 +620,12 @@ fn talk_limit_of_the_vehicle() {
             "10 V connect: S1 0 00020000 says 00 00 02 00 00 02 01 FF",
             "10 V hear: S1 1 00010100",
             // T1 at 60, 110, .., 14960.
-            "14960 V tick: S1 1 00010100 says 00 01 01 01 00 02 01 FF",
+            "14960 V: S1 1 00010100 says 00 01 01 01 00 02 01 FF",
             // At 10, 60, .., 14960: 300 messages.
-            "15009 said: C 0 V 300",
+            "15009 said: 0 300",
             // 15000 ticks after its first message.
-            "15010 V tick: S4 2 00010100 says 00 02 FF FF FF 02 01 FF failed",
-            "15110 said: C 0 V 301",
+            "15010 V: S4 2 00010100 says 00 02 FF FF FF 02 01 FF failed",
+            "15110 said: 0 301",
         ],
     );
 }
@@ -670,7 +671,7 @@ fn talk_stop() {
             "0 V hear: S5 1 00020000",
             "0 V greet: S5 1 00020000",
             "0 V functions: S5 1 00020000",
-            "100 said: C 1 V 1",
+            "100 said: 1 1",
         ],
     );
 }
@@ -691,13 +692,13 @@ fn talk_success_goes_on() {
             "0 V stop: S3 1 00020000",
             "0 V greet: S3 1 00020000",
             "0 V hear: S3 1 00020000",
-            "50 V tick: S3 1 00020000 says 00 01 02 00 00 02 01 FF",
+            "50 V: S3 1 00020000 says 00 01 02 00 00 02 01 FF",
             // Two at 0, then 50, 100, .., 14950, which are 299.
-            "14999 said: C 0 V 301",
-            "15000 V tick: S3 1 00020000 says 00 01 02 00 00 02 01 FF",
-            "15050 V tick: S3 1 00020000 says 00 01 02 00 00 02 01 FF",
+            "14999 said: 0 301",
+            "15000 V: S3 1 00020000 says 00 01 02 00 00 02 01 FF",
+            "15050 V: S3 1 00020000 says 00 01 02 00 00 02 01 FF",
             "15050 V functions: S3 1 00020000",
-            "15250 said: C 0 V 303",
+            "15250 said: 0 303",
         ],
     );
 }
@@ -732,7 +733,7 @@ fn talk_places() {
             "0 C hear: S1 1 00010100",
             // Success 2.0.0, which is in the list, but not at Ns.
             "0 C hear: S1 0 00010100",
-            "50 C tick: S1 0 00010100 says 00 00 01 01 00 01 01 FF",
+            "50 C: S1 0 00010100 says 00 00 01 01 00 01 01 FF",
             // Continue 2.0.0: success, and Ns moves up.
             "50 C hear: S1 1 00020000",
             // Continue 1.0.255: no version is lower.
@@ -759,7 +760,7 @@ fn talk_refused() {
             "49 V hear: S3 1 00020000 says 00 01 02 00 00 02 01 FF agreed 00020000",
             "49 V hear: S3 1 00020000 refused 10",
             // The entry restarted T1.
-            "99 V tick: S3 1 00020000 says 00 01 02 00 00 02 01 FF",
+            "99 V: S3 1 00020000 says 00 01 02 00 00 02 01 FF",
         ],
     );
 }

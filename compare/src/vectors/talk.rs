@@ -1,6 +1,6 @@
 //! A talk between a charger and a vehicle, and its lines.
 
-use super::{hex, long, number, versions, Vector};
+use super::{hex, long, number, printed, versions, Printed, Vector};
 use crate::reference::version::{Side, State, Talker};
 use crate::reference::Refused;
 
@@ -90,8 +90,8 @@ impl Talk {
         }
     }
 
-    /// The lines of a vector.
-    pub fn step(&mut self, vector: &Vector) -> String {
+    /// What a vector prints.
+    pub fn step(&mut self, vector: &Vector) -> Printed {
         match vector {
             Vector::Make(side, pilot, lent) => self.make(*side, *pilot, lent),
             Vector::Connect(side) => self.called(*side, "connect", |t| Ok(t.connect())),
@@ -109,29 +109,28 @@ impl Talk {
                 self.called(*side, "hear", |t| t.hear(bytes))
             }
             Vector::HearBytes(side, bytes) => self.called(*side, "hear", |t| t.hear(*bytes)),
-            Vector::Tick(count) => self.ticks(*count),
+            Vector::Tick(count) => Printed { words: String::new(), answer: self.ticks(*count) },
             Vector::Wait(count) => {
                 self.ticks(*count);
-                String::new()
+                Printed { words: String::new(), answer: String::new() }
             }
-            _ => format!("{} said: C {} V {}\n", self.clock, self.charger.count, self.vehicle.count),
+            _ => {
+                let counts = format!(" {} {}", self.charger.count, self.vehicle.count);
+                printed(format!("{} said:", self.clock), counts)
+            }
         }
     }
 
-    fn make(&mut self, side: Side, pilot: u8, lent: &[u8]) -> String {
-        let start = format!("make {} {pilot:02X} with{}:", letter(side), hex(lent));
+    fn make(&mut self, side: Side, pilot: u8, lent: &[u8]) -> Printed {
+        let words = format!("make {} {pilot:02X} with{}:", letter(side), hex(lent));
         let made = versions(lent).and_then(|list| Talker::make(side, &list, pilot));
         match made {
-            Err(Refused(number)) => format!("{start} refused {number}\n"),
+            Err(Refused(number)) => printed(words, format!(" refused {number}")),
             Ok(talker) => {
-                let line = told(&talker);
+                let answer = told(&talker);
                 *self.speaker(side) = Speaker::new(talker);
                 self.clock = 0;
-                for other in [&mut self.charger, &mut self.vehicle] {
-                    other.last = NOTHING;
-                    other.count = 0;
-                }
-                format!("{start}{line}\n")
+                printed(words, answer)
             }
         }
     }
@@ -141,9 +140,9 @@ impl Talk {
         side: Side,
         name: &str,
         act: impl FnOnce(&mut Talker) -> Result<Option<[u8; 8]>, Refused>,
-    ) -> String {
+    ) -> Printed {
         let called = self.speaker(side).call(act);
-        format!("{} {} {name}:{}\n", self.clock, letter(side), called.line)
+        printed(format!("{} {} {name}:", self.clock, letter(side)), called.line)
     }
 
     /// Ticks of both sides, the charger's first; a line for each message.
@@ -154,7 +153,7 @@ impl Talk {
             for side in [Side::Charger, Side::Vehicle] {
                 let called = self.speaker(side).call(|t| Ok(t.tick()));
                 if called.said {
-                    lines += &format!("{} {} tick:{}\n", self.clock, letter(side), called.line);
+                    lines += &format!("{} {}:{}\n", self.clock, letter(side), called.line);
                 }
             }
         }

@@ -20,26 +20,30 @@ use version::MessageReading;
 use version::Verdict;
 use version::Versions;
 
-// A row: the group's length, its sender, and whether it is reliable.
-fn row(r: Row) {
-    print::number((r.length % 256) as u16);
-    let sender = r.sender;
-    match sender {
+fn sender(s: Sender) {
+    match s {
         Sender::Charger => print::text(b" charger"),
         Sender::Vehicle => print::text(b" vehicle"),
     }
-    if r.reliable {
+}
+
+fn reliable(yes: bool) {
+    if yes {
         print::text(b" reliable");
     }
 }
 
+// A row: the group's length, its sender, and whether it is reliable.
+fn row(r: Row) {
+    let s = r.sender;
+    print::number((r.length % 256) as u16);
+    sender(s);
+    reliable(r.reliable);
+}
+
 // A code.
 fn find(payload: &[u8]) {
-    let code = byte(payload, 0);
-    print::text(b"find");
-    print::hex(code);
-    print::text(b":");
-    match groups::find(code) {
+    match groups::find(byte(payload, 0)) {
         Finding::Row(r) => row(r),
         Finding::Refused(number) => print::refused(number),
     }
@@ -56,9 +60,6 @@ fn group(g: Group) {
 
 // Lent bytes.
 fn read(payload: &[u8]) {
-    print::text(b"read");
-    print::bytes(payload);
-    print::text(b":");
     match groups::read::read(payload) {
         Reading::Group(g) => group(g),
         Reading::Refused(number) => print::refused(number),
@@ -100,13 +101,7 @@ fn write(payload: &[u8]) {
         third,
         fourth,
     };
-    print::text(b"write");
-    group(g);
-    print::text(b" into");
-    let from = rest(payload, 9);
-    print::bytes(from);
-    print::text(b":");
-    lend(g, from);
+    lend(g, rest(payload, 9));
 }
 
 // The group is written to lent bytes, which are printed as they are then.
@@ -150,9 +145,6 @@ fn join(payload: &[u8]) {
         ps,
         sa,
     };
-    print::text(b"join");
-    parts(x);
-    print::text(b":");
     match identifier::join(x) {
         Joined::Identifier(number) => print::long(number),
         Joined::Refused(number) => print::refused(number),
@@ -161,11 +153,7 @@ fn join(payload: &[u8]) {
 
 // An identifier.
 fn part(payload: &[u8]) {
-    let number = long(payload, 0);
-    print::text(b"part");
-    print::long(number);
-    print::text(b":");
-    match identifier::part(number) {
+    match identifier::part(long(payload, 0)) {
         Parted::Into(x) => parts(x),
         Parted::Refused(number) => print::refused(number),
     }
@@ -173,11 +161,12 @@ fn part(payload: &[u8]) {
 
 // The named numbers.
 fn named() {
-    print::text(b"named:");
-    print::long(identifier::charger_address());
-    print::long(identifier::vehicle_address());
-    print::long(identifier::charger_version());
-    print::long(identifier::vehicle_version());
+    let charger = identifier::charger_address();
+    let vehicle = identifier::vehicle_address();
+    let charger_version = identifier::charger_version();
+    let vehicle_version = identifier::vehicle_version();
+    let four = [charger, vehicle, charger_version, vehicle_version];
+    print::longs(&four);
 }
 
 // How many versions stand, and the eight places.
@@ -189,9 +178,6 @@ fn places(v: Versions) {
 
 // Versions, three bytes for each.
 fn list(payload: &[u8]) {
-    print::text(b"list");
-    print::bytes(payload);
-    print::text(b":");
     let listed = version::list::list(payload);
     let outcome = listed.outcome;
     match outcome {
@@ -203,28 +189,24 @@ fn list(payload: &[u8]) {
 }
 
 // The number of a result.
-pub(crate) fn verdict(v: Verdict) {
+pub(crate) fn verdict(v: Verdict) -> u16 {
     match v {
-        Verdict::Continue => print::number(0),
-        Verdict::Success => print::number(1),
-        Verdict::Failure => print::number(2),
+        Verdict::Continue => 0,
+        Verdict::Success => 1,
+        Verdict::Failure => 2,
     }
 }
 
 fn message(m: Message) {
     let v = m.verdict;
-    verdict(v);
+    print::number(verdict(v));
     print::long(m.version);
     print::hex(m.control);
 }
 
 // The eight bytes of a message.
 fn read_message(payload: &[u8]) {
-    let bytes = eight(payload);
-    print::text(b"message");
-    print::bytes(&bytes);
-    print::text(b":");
-    match version::wire::read(bytes) {
+    match version::wire::read(eight(payload)) {
         MessageReading::Message(m) => message(m),
         MessageReading::Refused(number) => print::refused(number),
     }
@@ -246,22 +228,14 @@ fn write_message(payload: &[u8]) {
         version: long(payload, 2),
         control: byte(payload, 1),
     };
-    print::text(b"say");
-    message(m);
-    print::text(b":");
     let bytes = version::wire::write(m);
     print::bytes(&bytes);
 }
 
-fn title(payload: &[u8]) {
-    print::text(b"# ");
-    print::text(payload);
-}
-
-// A vector's line, but for its end.
-pub(crate) fn line(tag: u8, payload: &[u8]) {
+// What a vector of one call answers; a heading (0) has no answer.
+pub(crate) fn answer(tag: u8, payload: &[u8]) {
     match tag {
-        0 => title(payload),
+        0 => {}
         1 => find(payload),
         2 => read(payload),
         3 => write(payload),

@@ -22,10 +22,10 @@ pub(crate) struct Speaker {
     pub count: u16,
 }
 
+// Side 0 is the charger, side 1 the vehicle.
 pub(crate) struct Talk {
     pub clock: u16,
-    pub charger: Speaker,
-    pub vehicle: Speaker,
+    pub sides: [Speaker; 2],
 }
 
 fn silent(talker: Talker) -> Speaker {
@@ -37,34 +37,26 @@ fn silent(talker: Talker) -> Speaker {
     }
 }
 
-// A talk of these two; nothing is said yet.
-fn talk_of(c: Talker, v: Talker) -> Talk {
-    let charger = silent(c);
-    let vehicle = silent(v);
-    Talk {
-        clock: 0,
-        charger,
-        vehicle,
-    }
-}
-
-// Two talkers with version 0.0.0 alone.
+// Two talkers of version 0.0.0 alone, until others are made.
 pub(crate) fn start() -> Talk {
     let numbers = [0u32; 8];
     let versions = Versions { count: 1, numbers };
-    let charger = Talker::make(Side::Charger, versions, 0);
-    let vehicle = Talker::make(Side::Vehicle, versions, 0);
-    talk_of(charger, vehicle)
+    let none = silent(Talker::make(Side::Charger, versions, 0));
+    Talk {
+        clock: 0,
+        sides: [none; 2],
+    }
 }
 
-fn state(s: State) {
+// The number of a state.
+fn state(s: State) -> u16 {
     match s {
-        State::S0 => print::text(b" S0"),
-        State::S1 => print::text(b" S1"),
-        State::S2 => print::text(b" S2"),
-        State::S3 => print::text(b" S3"),
-        State::S4 => print::text(b" S4"),
-        State::S5 => print::text(b" S5"),
+        State::S0 => 0,
+        State::S1 => 1,
+        State::S2 => 2,
+        State::S3 => 3,
+        State::S4 => 4,
+        State::S5 => 5,
     }
 }
 
@@ -81,10 +73,11 @@ fn version_at(v: Versions, place: u8) -> u32 {
 // A talker: state, result, and the version at Ns.
 fn talker(t: Talker) {
     let s = t.state;
-    state(s);
     let v = t.verdict;
-    verdict(v);
     let versions = t.versions;
+    print::text(b" S");
+    print::decimal(state(s));
+    print::number(verdict(v));
     print::long(version_at(versions, t.place));
 }
 
@@ -109,49 +102,37 @@ fn message(emits: bool, bytes: [u8; 8]) {
     }
 }
 
-fn side_letter(side: u8) {
-    match side {
-        0 => print::text(b" C"),
-        _ => print::text(b" V"),
-    }
-}
-
-// The name of a call.
-fn call_name(tag: u8) {
-    match tag {
-        11 => print::text(b" connect:"),
-        12 => print::text(b" stop:"),
-        13 => print::text(b" greet:"),
-        14 => print::text(b" functions:"),
-        17 => print::text(b" tick:"),
-        _ => print::text(b" hear:"),
-    }
-}
-
 // What a call answered: the talker after it, its message and its report.
 fn answer(a: Answer) {
     let next = a.next;
-    talker(next);
     let bytes = a.bytes;
-    message(a.emits, bytes);
     let o = a.outcome;
+    talker(next);
+    message(a.emits, bytes);
     outcome(o);
+}
+
+fn letter(side: u8) -> u8 {
+    match side {
+        0 => 67,
+        _ => 86,
+    }
+}
+
+// The line of a tick: the clock, the side, and what it answered.
+fn line(clock: u16, side: u8, a: Answer) {
+    let start = [32, letter(side), 58];
+    print::decimal(clock);
+    print::text(&start);
+    answer(a);
     print::text(b"\n");
 }
 
-// A call's line: the clock, the side, the call and its answer.
-fn line(clock: u16, side: u8, tag: u8, a: Answer) {
-    print::decimal(clock);
-    side_letter(side);
-    call_name(tag);
-    answer(a);
-}
-
-// A tick's line, where a message goes out.
+// A tick has a line where a message goes out.
 fn tick_line(shown: bool, clock: u16, side: u8, a: Answer) {
     if shown {
         if a.emits {
-            line(clock, side, 17, a);
+            line(clock, side, a);
         }
     }
 }
@@ -198,68 +179,73 @@ impl Speaker {
     }
 }
 
-// A new talker of a side.
-fn made(side: u8, versions: Versions, control: u8) -> Talker {
+fn side_of(side: u8) -> Side {
     match side {
-        0 => Talker::make(Side::Charger, versions, control),
-        _ => Talker::make(Side::Vehicle, versions, control),
+        0 => Side::Charger,
+        _ => Side::Vehicle,
     }
+}
+
+// Whether a list was taken, and the talker that has it.
+fn make_line(o: ListOutcome, t: Talker) {
+    match o {
+        ListOutcome::Accepted => talker(t),
+        ListOutcome::Refused(number) => print::refused(number),
+    }
+}
+
+// A side, its control-pilot byte and its versions: a new talker.
+fn made(payload: &[u8]) -> Talker {
+    let listed = version::list::list(rest(payload, 2));
+    let o = listed.outcome;
+    let versions = listed.versions;
+    let side = side_of(byte(payload, 0));
+    let t = Talker::make(side, versions, byte(payload, 1));
+    make_line(o, t);
+    t
 }
 
 impl Talk {
     fn speaker(self, side: u8) -> Speaker {
-        match side {
-            0 => self.charger,
-            _ => self.vehicle,
-        }
+        let sides = self.sides;
+        sides[(side % 2) as usize]
     }
 
-    fn with(self, side: u8, s: Speaker) -> Talk {
-        let clock = self.clock;
-        let charger = self.charger;
-        let vehicle = self.vehicle;
-        match side {
-            0 => Talk {
-                clock,
-                charger: s,
-                vehicle,
-            },
-            _ => Talk {
-                clock,
-                charger,
-                vehicle: s,
-            },
-        }
+    fn with(self, clock: u16, side: u8, s: Speaker) -> Talk {
+        let mut sides = self.sides;
+        sides[(side % 2) as usize] = s;
+        Talk { clock, sides }
     }
 
-    // A call of a side, printed.
+    // A call of a side.
     fn call(self, tag: u8, side: u8, bytes: [u8; 8]) -> Talk {
         let s = self.speaker(side);
         let t = s.talker;
         let a = act(t, tag, bytes);
-        line(self.clock, side, tag, a);
-        self.with(side, s.after(a))
+        answer(a);
+        self.with(self.clock, side, s.after(a))
     }
 
-    // A side hears what the other said last.
-    fn hear(self, side: u8) -> Talk {
-        let other = self.speaker(1 - side % 2);
-        let bytes = other.last;
-        self.call(15, side % 2, bytes)
+    // What a side hears: what the other side said last (15), or the bytes after its own.
+    fn heard(self, tag: u8, payload: &[u8]) -> [u8; 8] {
+        if tag == 15 {
+            let other = self.speaker(1 - byte(payload, 0) % 2);
+            other.last
+        } else {
+            eight(rest(payload, 1))
+        }
+    }
+
+    fn tick_side(self, shown: bool, clock: u16, side: u8) -> Talk {
+        let s = self.speaker(side);
+        self.with(clock, side, s.tick(shown, clock, side))
     }
 
     // One tick of both sides, the charger's first.
     fn tick(self, shown: bool) -> Talk {
         let clock = increment(self.clock);
-        let c = self.charger;
-        let v = self.vehicle;
-        let charger = c.tick(shown, clock, 0);
-        let vehicle = v.tick(shown, clock, 1);
-        Talk {
-            clock,
-            charger,
-            vehicle,
-        }
+        let t = self.tick_side(shown, clock, 0);
+        t.tick_side(shown, clock, 1)
     }
 
     fn ticks(self, count: u16, shown: bool) -> Talk {
@@ -272,73 +258,28 @@ impl Talk {
         t
     }
 
-    // A new talk in which this side has this list.
-    fn begun(self, side: u8, versions: Versions, control: u8) -> Talk {
-        let t = made(side, versions, control);
-        talker(t);
-        let c = self.charger;
-        let v = self.vehicle;
-        match side {
-            0 => talk_of(t, v.talker),
-            _ => talk_of(c.talker, t),
-        }
-    }
-
-    // The list is judged.
-    fn listed(self, side: u8, control: u8, lent: &[u8]) -> Talk {
-        let listed = version::list::list(lent);
-        let outcome = listed.outcome;
-        let versions = listed.versions;
-        match outcome {
-            ListOutcome::Accepted => self.begun(side, versions, control),
-            ListOutcome::Refused(number) => {
-                print::refused(number);
-                self
-            }
-        }
-    }
-
-    // A side, its control-pilot byte and its versions.
+    // A new talker of a side, at a new clock.
     fn make(self, payload: &[u8]) -> Talk {
-        let side = byte(payload, 0);
-        let control = byte(payload, 1);
-        let lent = rest(payload, 2);
-        print::text(b"make");
-        side_letter(side);
-        print::hex(control);
-        print::text(b" with");
-        print::bytes(lent);
-        print::text(b":");
-        let next = self.listed(side, control, lent);
-        print::text(b"\n");
-        next
+        let t = made(payload);
+        self.with(0, byte(payload, 0), silent(t))
     }
 
     // How many messages each side has sent.
-    fn counts(self) {
-        let c = self.charger;
-        let v = self.vehicle;
-        print::decimal(self.clock);
-        print::text(b" said: C");
+    fn said(self) -> Talk {
+        let c = self.speaker(0);
+        let v = self.speaker(1);
         print::number(c.count);
-        print::text(b" V");
         print::number(v.count);
-        print::text(b"\n");
+        self
     }
 
-    // A vector of a talk: 11 to 14 and 16 are calls. A heard message's side stands after its eight bytes.
+    // A vector of a talk.
     pub(crate) fn step(self, tag: u8, payload: &[u8]) -> Talk {
         match tag {
             10 => self.make(payload),
-            11..=14 => self.call(tag, byte(payload, 0), eight(payload)),
-            15 => self.hear(byte(payload, 0)),
-            16 => self.call(tag, byte(payload, 8), eight(payload)),
-            17 => self.ticks(word(payload, 0), true),
-            18 => self.ticks(word(payload, 0), false),
-            _ => {
-                self.counts();
-                self
-            }
+            11..=16 => self.call(tag, byte(payload, 0), self.heard(tag, payload)),
+            17 => self.said(),
+            _ => self.ticks(word(payload, 0), tag == 20),
         }
     }
 }
