@@ -1,7 +1,7 @@
 // Runs vectors of identifiers, parameter groups and version talk, and prints a line for each: its words and what was
 // answered. The vectors are read from standard input, one after the other: a tag; the words and the bytes, each a length and
 // so many bytes.
-ghost use Prim.Native.Nat.{_≤_};
+ghost use Prim.Native.Nat.{_≤_, _<_};
 
 mod input;
 mod print;
@@ -28,32 +28,27 @@ fn end(tag: u8) {
 }
 
 // The vector at a place of the input.
-fn vector(t: Talk, input: &[u8], at: usize) -> Talk {
-    if at < 32768 {
-        let tag = input::byte(input, at);
-        let words = input::byte(input, at + 1) as usize;
-        let from = at + 2 + words;
-        let count = input::byte(input, from) as usize;
-        print::text(input::part(input, at + 2, words));
-        let next = step(t, tag, input::part(input, from + 1, count));
-        end(tag);
-        next
-    } else {
-        t
-    }
+fn vector(t: Talk, input: &[u8], at: usize) -> Talk
+    requires { ⌜ at < 32768 ⌝ }
+{
+    let tag = input::byte(input, at);
+    let words = input::byte(input, at + 1) as usize;
+    let from = at + 2 + words;
+    let count = input::byte(input, from) as usize;
+    print::text(input::part(input, at + 2, words));
+    let next = step(t, tag, input::part(input, from + 1, count));
+    end(tag);
+    next
 }
 
 // How many bytes it has.
 fn size(input: &[u8], at: usize) -> usize
+    requires { ⌜ at < 32768 ⌝ }
     ensures { λ r. ⌜ (3 ≤ r) × (r ≤ 513) ⌝ }
 {
-    if at < 32768 {
-        let words = input::byte(input, at + 1) as usize;
-        let count = input::byte(input, at + 2 + words) as usize;
-        3 + words + count
-    } else {
-        3
-    }
+    let words = input::byte(input, at + 1) as usize;
+    let count = input::byte(input, at + 2 + words) as usize;
+    3 + words + count
 }
 
 fn main() {
