@@ -83,9 +83,18 @@ fn record(vector: &Vector) -> (u8, Vec<u8>) {
         Vector::Read(lent) => (2, lent.clone()),
         Vector::Write(code, values, lent) => {
             let words = values.iter().flat_map(|value| value.to_le_bytes());
-            (3, std::iter::once(*code).chain(words).chain(lent.iter().copied()).collect())
+            (
+                3,
+                std::iter::once(*code)
+                    .chain(words)
+                    .chain(lent.iter().copied())
+                    .collect(),
+            )
         }
-        Vector::Join(parts) => (4, parts.iter().flat_map(|part| part.to_le_bytes()).collect()),
+        Vector::Join(parts) => (
+            4,
+            parts.iter().flat_map(|part| part.to_le_bytes()).collect(),
+        ),
         Vector::Part(number) => (5, number.to_le_bytes().to_vec()),
         Vector::Named => (6, vec![]),
         Vector::List(lent) => (7, lent.clone()),
@@ -118,16 +127,23 @@ fn record(vector: &Vector) -> (u8, Vec<u8>) {
 
 /// The lines that the vectors print.
 pub fn output(vectors: &[Vector]) -> String {
-    run(vectors).map(|printed| printed.words + &printed.answer).collect()
+    run(vectors)
+        .map(|printed| printed.words + &printed.answer)
+        .collect()
 }
 
 fn run(vectors: &[Vector]) -> impl Iterator<Item = Printed> + '_ {
     let mut talk = Talk::new();
-    vectors.iter().map(move |vector| single(vector).unwrap_or_else(|| talk.step(vector)))
+    vectors
+        .iter()
+        .map(move |vector| single(vector).unwrap_or_else(|| talk.step(vector)))
 }
 
 fn printed(words: String, answer: String) -> Printed {
-    Printed { words, answer: answer + "\n" }
+    Printed {
+        words,
+        answer: answer + "\n",
+    }
 }
 
 /// What a vector that is one call prints.
@@ -147,16 +163,28 @@ fn single(vector: &Vector) -> Option<Printed> {
         }
         Vector::Join(parts) => {
             let [p, edp, dp, pf, ps, sa] = *parts;
-            let answer = identifier::build(Parts { p, edp, dp, pf, ps, sa }).map(|n| long(&[n]));
+            let answer = identifier::build(Parts {
+                p,
+                edp,
+                dp,
+                pf,
+                ps,
+                sa,
+            })
+            .map(|n| long(&[n]));
             printed(format!("join{}:", long(parts)), told(answer))
         }
         Vector::Part(number) => {
-            let answer = identifier::read(*number).map(|x| long(&[x.p, x.edp, x.dp, x.pf, x.ps, x.sa]));
+            let answer =
+                identifier::read(*number).map(|x| long(&[x.p, x.edp, x.dp, x.pf, x.ps, x.sa]));
             printed(format!("part{}:", long(&[*number])), told(answer))
         }
         Vector::Named => {
             let [charger, vehicle] = [(0x38, EVCC, SECC), (0x36, SECC, EVCC)].map(version_message);
-            printed("named:".into(), long(&[SECC.into(), EVCC.into(), charger, vehicle]))
+            printed(
+                "named:".into(),
+                long(&[SECC.into(), EVCC.into(), charger, vehicle]),
+            )
         }
         Vector::List(lent) => {
             let answer = match versions(lent) {
@@ -166,11 +194,15 @@ fn single(vector: &Vector) -> Option<Printed> {
             printed(format!("list{}:", hex(lent)), answer)
         }
         Vector::ReadMessage(bytes) => {
-            let answer = version::read(*bytes).map(|m| told_message(m.outcome, m.version, bytes[5]));
+            let answer =
+                version::read(*bytes).map(|m| told_message(m.outcome, m.version, bytes[5]));
             printed(format!("message{}:", hex(bytes)), told(answer))
         }
         Vector::WriteMessage(outcome, version, pilot) => {
-            let message = Message { outcome: *outcome, version: *version };
+            let message = Message {
+                outcome: *outcome,
+                version: *version,
+            };
             let words = format!("say{}:", told_message(*outcome, *version, *pilot));
             printed(words, hex(&version::build(message, *pilot)))
         }
@@ -188,7 +220,10 @@ fn hex(bytes: &[u8]) -> String {
 }
 
 fn long(numbers: &[u32]) -> String {
-    numbers.iter().map(|number| format!(" {number:08X}")).collect()
+    numbers
+        .iter()
+        .map(|number| format!(" {number:08X}"))
+        .collect()
 }
 
 fn number([major, minor, temporary]: Version) -> u32 {
@@ -197,13 +232,24 @@ fn number([major, minor, temporary]: Version) -> u32 {
 
 /// Tables 4 and 5: P 0x03, EDP 0, DP 0.
 fn version_message((pf, ps, sa): (u32, u8, u8)) -> u32 {
-    let parts = Parts { p: 3, edp: 0, dp: 0, pf, ps: ps.into(), sa: sa.into() };
+    let parts = Parts {
+        p: 3,
+        edp: 0,
+        dp: 0,
+        pf,
+        ps: ps.into(),
+        sa: sa.into(),
+    };
     identifier::build(parts).expect("the parts of table 4 or 5")
 }
 
 fn groups_row(code: u8) -> Result<String, Refused> {
     let row = groups::row_of(code).ok_or(refusal::GROUP)?;
-    let sender = if row.from_vehicle { "vehicle" } else { "charger" };
+    let sender = if row.from_vehicle {
+        "vehicle"
+    } else {
+        "charger"
+    };
     let reliable = if row.reliable { " reliable" } else { "" };
     Ok(format!(" {} {sender}{reliable}", row.length))
 }
@@ -214,7 +260,11 @@ fn told_group(code: u8, values: [u16; 4]) -> String {
 }
 
 fn told_message(outcome: Outcome, version: Version, pilot: u8) -> String {
-    format!(" {}{} {pilot:02X}", outcome.number(), long(&[number(version)]))
+    format!(
+        " {}{} {pilot:02X}",
+        outcome.number(),
+        long(&[number(version)])
+    )
 }
 
 /// A group's fields as they stand in its bytes, 0 where it has none.
@@ -222,11 +272,20 @@ fn raw(group: Group) -> [u16; 4] {
     match group {
         Group::ChargerReady { ready } => [ready.into(), 0, 0, 0],
         Group::VehicleReady { ready, voltage } => [ready.into(), voltage, 0, 0],
-        Group::Demand { voltage, current, mode } => [voltage, current, mode.into(), 0],
+        Group::Demand {
+            voltage,
+            current,
+            mode,
+        } => [voltage, current, mode.into(), 0],
         Group::VehicleInformation { charge, minutes } => [charge, minutes, 0, 0],
         Group::Ability { current, reason } => [current, reason.into(), 0, 0],
         Group::ChargerInformation { voltage, current } => [voltage, current, 0, 0],
-        Group::Battery { highest_voltage, lowest_voltage, highest_temperature, lowest_temperature } => [
+        Group::Battery {
+            highest_voltage,
+            lowest_voltage,
+            highest_temperature,
+            lowest_temperature,
+        } => [
             cell(highest_voltage),
             cell(lowest_voltage),
             temperature(highest_temperature),
@@ -264,11 +323,23 @@ fn write(code: u8, values: [u16; 4], lent: &mut [u8]) -> Result<(), Refused> {
 fn group_of(code: u8, values: [u16; 4]) -> Option<Group> {
     let byte = |value: u16| u8::try_from(value).ok();
     Some(match (code, values) {
-        (0x71, [ready, 0, 0, 0]) => Group::ChargerReady { ready: byte(ready)? },
-        (0x72, [ready, voltage, 0, 0]) => Group::VehicleReady { ready: byte(ready)?, voltage },
-        (0x73, [voltage, current, mode, 0]) => Group::Demand { voltage, current, mode: byte(mode)? },
+        (0x71, [ready, 0, 0, 0]) => Group::ChargerReady {
+            ready: byte(ready)?,
+        },
+        (0x72, [ready, voltage, 0, 0]) => Group::VehicleReady {
+            ready: byte(ready)?,
+            voltage,
+        },
+        (0x73, [voltage, current, mode, 0]) => Group::Demand {
+            voltage,
+            current,
+            mode: byte(mode)?,
+        },
         (0x74, [charge, minutes, 0, 0]) => Group::VehicleInformation { charge, minutes },
-        (0x75, [current, reason, 0, 0]) => Group::Ability { current, reason: byte(reason)? },
+        (0x75, [current, reason, 0, 0]) => Group::Ability {
+            current,
+            reason: byte(reason)?,
+        },
         (0x76, [voltage, current, 0, 0]) => Group::ChargerInformation { voltage, current },
         (0x77, [highest, lowest, hottest, coldest]) => Group::Battery {
             highest_voltage: cell_of(highest),
@@ -276,8 +347,12 @@ fn group_of(code: u8, values: [u16; 4]) -> Option<Group> {
             highest_temperature: temperature_of(byte(hottest)?),
             lowest_temperature: temperature_of(byte(coldest)?),
         },
-        (0x78, [status, 0, 0, 0]) => Group::ChargerPause { status: byte(status)? },
-        (0x79, [status, 0, 0, 0]) => Group::VehiclePause { status: byte(status)? },
+        (0x78, [status, 0, 0, 0]) => Group::ChargerPause {
+            status: byte(status)?,
+        },
+        (0x79, [status, 0, 0, 0]) => Group::VehiclePause {
+            status: byte(status)?,
+        },
         _ => return None,
     })
 }

@@ -6,11 +6,15 @@ use compare::vectors::{input, output, vectors};
 /// The lines of a section are these.
 fn check(title: &str, expected: &[impl AsRef<str>]) {
     let printed = output(&vectors());
-    let mut lines = printed.lines().skip_while(|line| *line != format!("# {title}"));
+    let mut lines = printed
+        .lines()
+        .skip_while(|line| *line != format!("# {title}"));
     lines.next().expect("a section of that title");
     let mut expected = expected.iter();
     for line in lines.take_while(|line| !line.starts_with('#')) {
-        let hand = expected.next().unwrap_or_else(|| panic!("{title}: not expected: {line}"));
+        let hand = expected
+            .next()
+            .unwrap_or_else(|| panic!("{title}: not expected: {line}"));
         assert_eq!(line, hand.as_ref(), "{title}");
     }
     assert_eq!(expected.len(), 0, "{title}: lines are missing");
@@ -20,8 +24,14 @@ fn check(title: &str, expected: &[impl AsRef<str>]) {
 #[test]
 fn sections() {
     let printed = output(&vectors());
-    assert_eq!(printed.lines().filter(|line| line.starts_with('#')).count(), 27);
-    assert!(input(&vectors()).len() < 32768, "the test program reads no more");
+    assert_eq!(
+        printed.lines().filter(|line| line.starts_with('#')).count(),
+        27
+    );
+    assert!(
+        input(&vectors()).len() < 32768,
+        "the test program reads no more"
+    );
 }
 
 fn read(bytes: &str, group: &str) -> String {
@@ -392,7 +402,8 @@ fn parted() {
 /// "11 not 1 to 8 strictly rising versions". A refused list holds none.
 #[test]
 fn lists() {
-    let none = "refused 11 0 00000000 00000000 00000000 00000000 00000000 00000000 00000000 00000000";
+    let none =
+        "refused 11 0 00000000 00000000 00000000 00000000 00000000 00000000 00000000 00000000";
     let six = "00000000 00000000 00000000 00000000 00000000 00000000";
     let eight = "00010000 00020000 00030000 00040000 00050000 00060000 00070000 00080000";
     check(
@@ -442,9 +453,9 @@ fn messages() {
     );
 }
 
-// Talks. A line: the clock, the side, the call (none at a tick), then state, result (0 continue, 1 success, 2 failure) and version at Ns
-// after it, the message that went out, the report; or how many messages charger and vehicle have sent. Both sides tick at
-// once, the charger first.
+// Talks. A line: the clock, the side, the call (none at a tick), then state, result (0 continue, 1 success, 2 failure) and
+// version at Ns after it, the message that went out, the report; or how many messages charger and vehicle have sent. Both
+// sides tick at once, the charger first.
 
 #[test]
 fn talk_same_list() {

@@ -23,11 +23,18 @@ pub struct Talk {
 
 impl Speaker {
     fn new(talker: Talker) -> Speaker {
-        Speaker { talker, last: NOTHING, count: 0 }
+        Speaker {
+            talker,
+            last: NOTHING,
+            count: 0,
+        }
     }
 
     /// A call's part of the line: the talker after it, its message, and its report, which is the state that it entered.
-    fn call(&mut self, act: impl FnOnce(&mut Talker) -> Result<Option<[u8; 8]>, Refused>) -> Called {
+    fn call(
+        &mut self,
+        act: impl FnOnce(&mut Talker) -> Result<Option<[u8; 8]>, Refused>,
+    ) -> Called {
         let before = self.talker.state;
         let answer = act(&mut self.talker);
         let mut line = told(&self.talker);
@@ -40,12 +47,17 @@ impl Speaker {
         line += &match (answer, self.talker.state) {
             (Err(Refused(number)), _) => format!(" refused {number}"),
             (_, now) if now == before => String::new(),
-            (_, State::S2 | State::S3) => format!(" agreed{}", long(&[number(self.talker.at_ns())])),
+            (_, State::S2 | State::S3) => {
+                format!(" agreed{}", long(&[number(self.talker.at_ns())]))
+            }
             (_, State::S4) => " failed".into(),
             (_, State::S5) => " left".into(),
             _ => String::new(),
         };
-        Called { line, said: said.is_some() }
+        Called {
+            line,
+            said: said.is_some(),
+        }
     }
 }
 
@@ -57,7 +69,12 @@ struct Called {
 /// State, result, and the version at Ns.
 fn told(talker: &Talker) -> String {
     let version = number(talker.at_ns());
-    format!(" {:?} {}{}", talker.state, talker.outcome.number(), long(&[version]))
+    format!(
+        " {:?} {}{}",
+        talker.state,
+        talker.outcome.number(),
+        long(&[version])
+    )
 }
 
 fn letter(side: Side) -> char {
@@ -70,9 +87,14 @@ fn letter(side: Side) -> char {
 impl Talk {
     /// Two sides with version 0.0.0 alone.
     pub fn new() -> Talk {
-        let [charger, vehicle] = [Side::Charger, Side::Vehicle]
-            .map(|side| Speaker::new(Talker::make(side, &[[0, 0, 0]], 0).expect("a list of one version")));
-        Talk { charger, vehicle, clock: 0 }
+        let [charger, vehicle] = [Side::Charger, Side::Vehicle].map(|side| {
+            Speaker::new(Talker::make(side, &[[0, 0, 0]], 0).expect("a list of one version"))
+        });
+        Talk {
+            charger,
+            vehicle,
+            clock: 0,
+        }
     }
 
     fn speaker(&mut self, side: Side) -> &mut Speaker {
@@ -109,10 +131,16 @@ impl Talk {
                 self.called(*side, "hear", |t| t.hear(bytes))
             }
             Vector::HearBytes(side, bytes) => self.called(*side, "hear", |t| t.hear(*bytes)),
-            Vector::Tick(count) => Printed { words: String::new(), answer: self.ticks(*count) },
+            Vector::Tick(count) => Printed {
+                words: String::new(),
+                answer: self.ticks(*count),
+            },
             Vector::Wait(count) => {
                 self.ticks(*count);
-                Printed { words: String::new(), answer: String::new() }
+                Printed {
+                    words: String::new(),
+                    answer: String::new(),
+                }
             }
             _ => {
                 let counts = format!(" {} {}", self.charger.count, self.vehicle.count);
@@ -142,7 +170,10 @@ impl Talk {
         act: impl FnOnce(&mut Talker) -> Result<Option<[u8; 8]>, Refused>,
     ) -> Printed {
         let called = self.speaker(side).call(act);
-        printed(format!("{} {} {name}:", self.clock, letter(side)), called.line)
+        printed(
+            format!("{} {} {name}:", self.clock, letter(side)),
+            called.line,
+        )
     }
 
     /// Ticks of both sides, the charger's first; a line for each message.

@@ -27,28 +27,34 @@ fn end(tag: u8) {
     }
 }
 
-// The vector at a place of the input.
-fn vector(t: Talk, input: &[u8], at: usize) -> Talk
+// How many bytes the words of the vector at a place have.
+fn words(input: &[u8], at: usize) -> usize
     requires { ⌜ at < 32768 ⌝ }
+    ensures { λ r. ⌜ r ≤ 255 ⌝ }
 {
-    let tag = input::byte(input, at);
-    let words = input::byte(input, at + 1) as usize;
-    let from = at + 2 + words;
-    let count = input::byte(input, from) as usize;
-    print::text(input::part(input, at + 2, words));
-    let next = step(t, tag, input::part(input, from + 1, count));
-    end(tag);
-    next
+    input::byte(input, at + 1) as usize
 }
 
-// How many bytes it has.
-fn size(input: &[u8], at: usize) -> usize
+// How many bytes it has besides.
+fn count(input: &[u8], at: usize) -> usize
     requires { ⌜ at < 32768 ⌝ }
-    ensures { λ r. ⌜ (3 ≤ r) × (r ≤ 513) ⌝ }
+    ensures { λ r. ⌜ r ≤ 255 ⌝ }
 {
-    let words = input::byte(input, at + 1) as usize;
-    let count = input::byte(input, at + 2 + words) as usize;
-    3 + words + count
+    input::byte(input, at + 2 + words(input, at)) as usize
+}
+
+fn payload(input: &[u8], at: usize) -> &[u8]
+    requires { ⌜ at < 32768 ⌝ }
+{
+    let from = at + 3 + words(input, at);
+    input::part(input, from, count(input, at))
+}
+
+// The words are printed.
+fn print_words(input: &[u8], at: usize)
+    requires { ⌜ at < 32768 ⌝ }
+{
+    print::text(input::part(input, at + 2, words(input, at)));
 }
 
 fn main() {
@@ -60,7 +66,10 @@ fn main() {
         if given <= at {
             return;
         }
-        t = vector(t, &input, at);
-        at += size(&input, at);
+        let tag = input::byte(&input, at);
+        print_words(&input, at);
+        t = step(t, tag, payload(&input, at));
+        end(tag);
+        at += 3 + words(&input, at) + count(&input, at);
     }
 }

@@ -217,15 +217,6 @@ impl Talk {
         Talk { clock, sides }
     }
 
-    // A call of a side.
-    fn call(self, tag: u8, side: u8, bytes: [u8; 8]) -> Talk {
-        let s = self.speaker(side);
-        let t = s.talker;
-        let a = act(t, tag, bytes);
-        answer(a);
-        self.with(self.clock, side, s.after(a))
-    }
-
     // What a side hears: what the other side said last (15), or the bytes after its own.
     fn heard(self, tag: u8, payload: &[u8]) -> [u8; 8] {
         if tag == 15 {
@@ -234,6 +225,15 @@ impl Talk {
         } else {
             eight(rest(payload, 1))
         }
+    }
+
+    // A call of a side.
+    fn call(self, tag: u8, payload: &[u8]) -> Talk {
+        let side = byte(payload, 0);
+        let s = self.speaker(side);
+        let a = act(s.talker, tag, self.heard(tag, payload));
+        answer(a);
+        self.with(self.clock, side, s.after(a))
     }
 
     fn tick_side(self, shown: bool, clock: u16, side: u8) -> Talk {
@@ -277,7 +277,7 @@ impl Talk {
     pub(crate) fn step(self, tag: u8, payload: &[u8]) -> Talk {
         match tag {
             10 => self.make(payload),
-            11..=16 => self.call(tag, byte(payload, 0), self.heard(tag, payload)),
+            11..=16 => self.call(tag, payload),
             17 => self.said(),
             _ => self.ticks(word(payload, 0), tag == 20),
         }

@@ -1,71 +1,82 @@
+-- `vectors::main` is safe and ends: each vector has three bytes at the least, and 513 at the most.
+-- Assumes nothing.
+use Prim.Native.Nat.{_-_, _≤_}
 use borrow.Author.Needs.{needs}
-use Prim.Native.Nat.{ℕ, _+_, _-_, _≤_, _<_}
-use mathlib.Core.Path.{_≡_}
-use lib.ListN.{length}
 use Rattle.vectors.proofs.main.Statement.{statement}
 use Rattle.vectors.proofs.main.Tie as tie
-use Rattle.vectors.proofs.main.Reads as reads
-use Rattle.vectors.proofs.main.Lts as lts
-use Rattle.io.proofs.read_full.Reads as read-full-reads
-use Rattle.vectors.proofs.size.Reads as size-reads
-use Rattle.vectors.proofs.talk.start.Reads as start-reads
-use Rattle.vectors.proofs.vector.Reads as vector-reads
 
 abbrev Inv-loop : tie.InvT-loop
-Inv-loop input given t₀ at₀ t at = (at ≤ 33280)
+Inv-loop input given t₀ at₀ t at = at ≤ 33280
 
 abbrev μ-loop : tie.MeasureT-loop
 μ-loop input given t₀ at₀ t at = 32768 - at
 
--- src/main.rt:61:34
 slice-aggregate-read-full : tie.Need-slice-aggregate-read-full Inv-loop μ-loop
 slice-aggregate-read-full c = search needs
 
--- src/main.rt:61:9
 read-full-requires : tie.Need-read-full-requires Inv-loop μ-loop
 read-full-requires c κs = search needs
 
--- src/main.rt:62:9
 start-requires : tie.Need-start-requires Inv-loop μ-loop
 start-requires c κs = search needs
 
--- src/main.rt:64:5
 loop-holds : tie.Need-loop-holds Inv-loop μ-loop
 loop-holds c = search needs
 
--- src/main.rt:66:13
 returns : tie.Need-returns Inv-loop μ-loop
 returns c = search needs
 
--- src/main.rt:68:23
-slice-aggregate-vector : tie.Need-slice-aggregate-vector Inv-loop μ-loop
-slice-aggregate-vector c = search needs
+slice-aggregate-byte : tie.Need-slice-aggregate-byte Inv-loop μ-loop
+slice-aggregate-byte c = search needs
 
--- src/main.rt:68:9
-vector-requires : tie.Need-vector-requires Inv-loop μ-loop
-vector-requires c κs = search needs
+byte-requires : tie.Need-byte-requires Inv-loop μ-loop
+byte-requires c κs = search needs
 
--- src/main.rt:69:20
-slice-aggregate-size : tie.Need-slice-aggregate-size Inv-loop μ-loop
-slice-aggregate-size c = search needs
+slice-aggregate-print-words : tie.Need-slice-aggregate-print-words Inv-loop μ-loop
+slice-aggregate-print-words c = search needs
 
--- src/main.rt:69:15
-size-requires : tie.Need-size-requires Inv-loop μ-loop
-size-requires c κs = search needs
+print-words-requires : tie.Need-print-words-requires Inv-loop μ-loop
+print-words-requires c κs = search needs
 
--- src/main.rt:69:9
+slice-aggregate-payload : tie.Need-slice-aggregate-payload Inv-loop μ-loop
+slice-aggregate-payload c = search needs
+
+payload-requires : tie.Need-payload-requires Inv-loop μ-loop
+payload-requires c κs = search needs
+
+step-requires : tie.Need-step-requires Inv-loop μ-loop
+step-requires c κs = search needs
+
+end-requires : tie.Need-end-requires Inv-loop μ-loop
+end-requires c κs = search needs
+
+slice-aggregate-words : tie.Need-slice-aggregate-words Inv-loop μ-loop
+slice-aggregate-words c = search needs
+
+words-requires : tie.Need-words-requires Inv-loop μ-loop
+words-requires c κs = search needs
+
 add-at : tie.Need-add-at Inv-loop μ-loop
 add-at c = search needs
 
--- src/main.rt:64:5
+slice-aggregate-count : tie.Need-slice-aggregate-count Inv-loop μ-loop
+slice-aggregate-count c = search needs
+
+count-requires : tie.Need-count-requires Inv-loop μ-loop
+count-requires c κs = search needs
+
+add-at-2 : tie.Need-add-at-2 Inv-loop μ-loop
+add-at-2 c = search needs
+
+add-at-3 : tie.Need-add-at-3 Inv-loop μ-loop
+add-at-3 c = search needs
+
 loop-less : tie.Need-loop-less Inv-loop μ-loop
 loop-less c = search needs
 
--- src/main.rt:64:5
 loop-again : tie.Need-loop-again Inv-loop μ-loop
 loop-again c = search needs
 
--- src/main.rt:59:1
 returns-2 : tie.Need-returns-2 Inv-loop μ-loop
 returns-2 c = search needs
 
@@ -80,11 +91,21 @@ main-spec =
     start-requires
     loop-holds
     returns
-    slice-aggregate-vector
-    vector-requires
-    slice-aggregate-size
-    size-requires
+    slice-aggregate-byte
+    byte-requires
+    slice-aggregate-print-words
+    print-words-requires
+    slice-aggregate-payload
+    payload-requires
+    step-requires
+    end-requires
+    slice-aggregate-words
+    words-requires
     add-at
+    slice-aggregate-count
+    count-requires
+    add-at-2
+    add-at-3
     loop-less
     loop-again
     returns-2)

@@ -1,12 +1,11 @@
-use borrow.Author.Needs.{needs}
-use Prim.Native.Nat.{ℕ, _+_, _-_, _≤_, _<_}
+-- `vectors::single::sixteen` is safe and ends: the loop goes over the sixteen places.
+-- Assumes nothing.
+use Prim.Native.Nat.{_-_, _≤_}
 use mathlib.Core.Path.{_≡_}
+use borrow.Author.Needs.{needs}
 use lib.ListN.{length}
 use Rattle.vectors.proofs.single.sixteen.Statement.{statement}
 use Rattle.vectors.proofs.single.sixteen.Tie as tie
-use Rattle.vectors.proofs.single.sixteen.Reads as reads
-use Rattle.vectors.proofs.single.sixteen.Lts as lts
-use Rattle.vectors.proofs.input.byte.Reads as byte-reads
 
 abbrev Inv-loop : tie.InvT-loop
 Inv-loop from out₀ i₀ out i = (i ≤ 16) × (length out ≡ 16)
@@ -14,31 +13,24 @@ Inv-loop from out₀ i₀ out i = (i ≤ 16) × (length out ≡ 16)
 abbrev μ-loop : tie.MeasureT-loop
 μ-loop from out₀ i₀ out i = 16 - i
 
--- src/single.rt:72:5
 loop-holds : tie.Need-loop-holds Inv-loop μ-loop
 loop-holds c = search needs
 
--- src/single.rt:73:18
 byte-requires : tie.Need-byte-requires Inv-loop μ-loop
 byte-requires c κs = search needs
 
--- src/single.rt:73:9
 array-write-out : tie.Need-array-write-out Inv-loop μ-loop
 array-write-out c = search needs
 
--- src/single.rt:74:9
 add-i : tie.Need-add-i Inv-loop μ-loop
 add-i c = search needs
 
--- src/single.rt:72:5
 loop-less : tie.Need-loop-less Inv-loop μ-loop
 loop-less c = search needs
 
--- src/single.rt:72:5
 loop-again : tie.Need-loop-again Inv-loop μ-loop
 loop-again c = search needs
 
--- src/single.rt:69:1
 returns : tie.Need-returns Inv-loop μ-loop
 returns c = search needs
 
