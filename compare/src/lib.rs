@@ -4,3 +4,4 @@
 pub mod packs;
 pub mod reference;
 pub mod sessions;
+pub mod vectors;

@@ -1,10 +1,12 @@
-//! Plays random run packs with a player program and with the reference, and compares the texts.
+//! Plays the sessions and random run packs with a player program and with the reference, and compares the texts.
 //! Exit status: 0 all alike, 1 a difference, 2 bad usage or a program that cannot be run.
 
 use std::io::Write;
 use std::process::{Command, ExitCode, Stdio};
 
 use compare::packs::differences::{first_difference, Tally};
+use compare::reference::player::play;
+use compare::sessions::SESSIONS;
 
 const USAGE: &str = "usage: packs [--player PATH] [--count N] [--seed S]
     --player PATH   the program (default target/bin/play)
@@ -60,11 +62,33 @@ fn run(program: &str, pack: &[u8]) -> Result<String, String> {
     Ok(text)
 }
 
+/// The first session that the program plays otherwise than the reference, by its name.
+fn other_session(program: &str) -> Result<Option<&'static str>, String> {
+    for session in &SESSIONS {
+        let pack = session.pack();
+        if run(program, &pack)? != play(&pack) {
+            return Ok(Some(session.name));
+        }
+    }
+    Ok(None)
+}
+
 fn main() -> ExitCode {
     let Some(options) = options(std::env::args().skip(1)) else {
         eprintln!("{USAGE}");
         return ExitCode::from(2);
     };
+    match other_session(&options.player) {
+        Err(problem) => {
+            eprintln!("packs: {problem}");
+            return ExitCode::from(2);
+        }
+        Ok(Some(name)) => {
+            println!("packs: session {name}: DIFFERENT");
+            return ExitCode::from(1);
+        }
+        Ok(None) => println!("packs: {} sessions alike", SESSIONS.len()),
+    }
     let mut tally = Tally::new();
     let player = |pack: &[u8]| run(&options.player, pack);
     match first_difference(&player, options.seed, options.count, &mut tally) {

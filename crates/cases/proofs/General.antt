@@ -12,9 +12,11 @@ use Rattle.frame.specs.Frames.{lmAckOf}
 use Rattle.sender.specs.Begin.{makeOf, beginLong}
 use Rattle.sender.specs.Hear.{hearOf}
 use Rattle.sender.specs.Told.{Told}
-use Rattle.cases.specs.Answer.{answerOf, ofSender, shownHearing, zeros}
+use Rattle.identifier.specs.Answer.{joinOf}
+use Rattle.identifier.specs.declared.Parts.{Parts}
+use Rattle.cases.specs.Answer.{answerOf, ofSender, shownHearing, shownJoined, zeros}
 use Rattle.cases.specs.Claim.{Claim, opening}
-use Rattle.cases.specs.Row.{Question, begun, acknowledged, senderSilence, receiverSilence}
+use Rattle.cases.specs.Row.{Question, begun, acknowledged, senderSilence, receiverSilence, joined}
 use Rattle.cases.proofs.Acknowledge.{ackNumbers, ack-shows}
 use Rattle.cases.proofs.Begin.{beginNumbers, begin-shows, begins-long}
 use Rattle.cases.proofs.ReceiverSilence.{receiver-shows}
@@ -46,6 +48,18 @@ acknowledged-computed frames start count low high =
     ∙ ack-shows _ _ (opening _) start count
     ∙ ap (λ (n : ℕ). ackNumbers n start count) (ap frameCountOf long ∙ count-back frames)
 
+-- parts are told by their fields
+parts-are : (x : Parts) {p edp dp pf ps sa : ℕ}
+    → x .p ≡ p
+    → x .edp ≡ edp
+    → x .dp ≡ dp
+    → x .pf ≡ pf
+    → x .ps ≡ ps
+    → x .sa ≡ sa
+    → x ≡ record { p = p; edp = edp; dp = dp; pf = pf; ps = ps; sa = sa }
+parts-are x hp hedp hdp hpf hps hsa =
+    let fields : x ≡ record { p = x .p; edp = x .edp; dp = x .dp; pf = x .pf; ps = x .ps; sa = x .sa } = refl in cc
+
 pub every-answer : (q : Question) → Claim q (answerOf q)
 unfolding answerOf
 every-answer (begun l) =
@@ -64,3 +78,5 @@ every-answer (receiverSilence timeout frames ticks) =
     ∙ sym
     (receiver-shows timeout 255 1785 frames (7 * frames) (zeros 1785) ticks
     (lit≤ tt) (lit≤ tt) (omega arith) (omega arith) (lit≤ tt) (sym (count-back frames)) refl)
+every-answer (joined p pf ps sa) =
+    λ x hp hedp hdp hpf hps hsa. ap (λ (y : Parts). shownJoined (joinOf y)) (parts-are x hp hedp hdp hpf hps hsa)

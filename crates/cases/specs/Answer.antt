@@ -16,7 +16,9 @@ use Rattle.receiver.specs.Hear as receiver-hear
 use Rattle.receiver.specs.Tick as receiver-tick
 use Rattle.receiver.specs.Told as receiver
 use Rattle.receiver.specs.declared.Receiver.{Receiver}
-use Rattle.cases.specs.Row.{Question, begun, acknowledged, senderSilence, receiverSilence, refusal, short, announces, at}
+use Rattle.identifier.specs.Answer as parts
+use Rattle.identifier.specs.declared.Parts.{Parts}
+use Rattle.cases.specs.Row.{Question, begun, acknowledged, senderSilence, receiverSilence, joined, refusal, identifier, short, announces, at}
 
 -- a frame by its kind and its d0: an information frame's number, LM_ACK's start, LM_NACK's cause
 abbrev pub brief : Frame → List ℕ
@@ -82,6 +84,11 @@ unfoldable pub ofReceiver : receiver.Made → (Receiver → List ℕ) → List �
 ofReceiver (receiver.made r) shows = shows r
 ofReceiver (receiver.unmade number) shows = refusal number
 
+-- what joining parts shows: the identifier, or the number of the refusal
+unfoldable pub shownJoined : parts.Answer ℕ → List ℕ
+shownJoined (parts.given number) = identifier number
+shownJoined (parts.refused number) = refusal number
+
 -- a message or a buffer of this length: zeros
 abbrev pub zeros : ℕ → List ℕ
 zeros length = replicate length 0
@@ -99,3 +106,5 @@ answerOf (senderSilence timeout limit ticks) =
     ofSender (sender-begin.makeOf 1 timeout limit) (λ s. senderInSilence s (zeros 9) ticks)
 answerOf (receiverSilence timeout frames ticks) =
     ofReceiver (receiver-tick.makeOf timeout 255 1785) (λ r. receiverInSilence r frames (7 * frames) (zeros 1785) ticks)
+answerOf (joined p pf ps sa) =
+    shownJoined (parts.joinOf (record { p = p; edp = 0; dp = 0; pf = pf; ps = ps; sa = sa }))

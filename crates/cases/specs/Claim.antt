@@ -15,8 +15,10 @@ use Rattle.sender.specs.declared.Sender.{Sender}
 use Rattle.sender.specs.declared.Streamed.{Streamed}
 use Rattle.sender.specs.declared.Transfer.{Transfer}
 use Rattle.receiver.specs.Tick as receiver-tick
-use Rattle.cases.specs.Answer.{shownBegin, shownHearing, senderInSilence, receiverInSilence, ofSender, ofReceiver}
-use Rattle.cases.specs.Row.{Question, begun, acknowledged, senderSilence, receiverSilence}
+use Rattle.identifier.specs.Answer.{joinOf}
+use Rattle.identifier.specs.declared.Parts.{Parts}
+use Rattle.cases.specs.Answer.{shownBegin, shownHearing, senderInSilence, receiverInSilence, ofSender, ofReceiver, shownJoined}
+use Rattle.cases.specs.Row.{Question, begun, acknowledged, senderSilence, receiverSilence, joined}
 
 -- "LM_ACK in Opening, Sending or Waiting": the phases of a long transfer
 pub data Long : Phase → Transfer → Type 0 where
@@ -29,6 +31,7 @@ pub data Long : Phase → Transfer → Type 0 where
 -- A sender in silence: any "gap G 1 to 10", any long message.
 -- A receiver in silence: any "window C 1 to 255", any L from 9 that N fits, any capacity K from L to 1785, any buffer of
 -- 1785 bytes.
+-- An identifier: any parts of which P, PF, PS and SA are these and EDP and DP are 0.
 abbrev pub Claim : Question → List ℕ → Type 0
 Claim (begun l) answer =
     (s : Sender) (message : List ℕ)
@@ -59,3 +62,12 @@ Claim (receiverSilence timeout frames ticks) answer =
     → frames ≡ frameCountOf l
     → length buffer ≡ 1785
     → ofReceiver (receiver-tick.makeOf timeout window capacity) (λ r. receiverInSilence r frames l buffer ticks) ≡ answer
+Claim (joined p pf ps sa) answer =
+    (x : Parts)
+    → x .p ≡ p
+    → x .edp ≡ 0
+    → x .dp ≡ 0
+    → x .pf ≡ pf
+    → x .ps ≡ ps
+    → x .sa ≡ sa
+    → shownJoined (joinOf x) ≡ answer

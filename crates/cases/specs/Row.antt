@@ -1,4 +1,4 @@
--- A row of the table of cases: a question to an end and the numbers that document 01, Edge cases, gives as its answer.
+-- A row of the table of cases: a question to an end, or to the identifier, and the numbers that document 01, Edge cases, gives as its answer.
 use Prim.Native.Nat.{ℕ}
 use mathlib.Core.List.{List, [], _∷_}
 
@@ -12,6 +12,8 @@ pub data Question : Type 0 where
   senderSilence : (timeout limit ticks : ℕ) → Question
   -- a receiver with this T opens for this N and then hears nothing for so many ticks: "Receiver T 3, N 2, silence"
   receiverSilence : (timeout frames ticks : ℕ) → Question
+  -- parts are joined, EDP and DP 0: "Identifier P 3, PF 0x38, PS 0xF4, SA 0x56"
+  joined : (p pf ps sa : ℕ) → Question
 
 pub record Row : Type 0 where
   pub question : Question
@@ -20,6 +22,10 @@ pub record Row : Type 0 where
 -- "refused 2": 0, which is no kind, and the refusal's number
 abbrev pub refusal : ℕ → List ℕ
 refusal number = 0 ∷ number ∷ []
+
+-- "0x0C38F456": the identifier alone
+abbrev pub identifier : ℕ → List ℕ
+identifier number = number ∷ []
 
 -- "short": the kind of SM_RM; its bytes are the message's
 abbrev pub short : List ℕ

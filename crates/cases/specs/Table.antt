@@ -1,10 +1,9 @@
--- Document 01, Edge cases: the cases marked *, in its order, each under its words. (The identifier's case is not among
--- them yet.) An announcement's d1 is N, and its d2 d3 are L. Silence is watched for 20 ticks, so that the rows also say that
--- nothing goes out after the last frame that they name.
+-- Document 01, Edge cases: the cases marked *, in its order, each under its words. An announcement's d1 is N, and its d2 d3 are
+-- L. Silence is watched for 20 ticks, so that the rows also say that nothing goes out after the last frame that they name.
 use Prim.Native.Nat.{ℕ}
 use mathlib.Core.List.{List, [], _∷_, _++_}
 use lib.ListN.{getD}
-use Rattle.cases.specs.Row.{Row, Question, begun, acknowledged, senderSilence, receiverSilence, refusal, short, announces, frame0, lmAck, nack, at}
+use Rattle.cases.specs.Row.{Row, Question, begun, acknowledged, senderSilence, receiverSilence, joined, refusal, identifier, short, announces, frame0, lmAck, nack, at}
 
 abbrev pub row : Question → List ℕ → Row
 row question answer = record { question = question; answer = answer }
@@ -32,6 +31,8 @@ table =
     ∷ row (senderSilence 3 9 20) (at 0 frame0 ++ at 3 frame0 ++ at 6 frame0 ++ at 9 (nack 3))
     -- "*Receiver T 3, N 2, silence: LM_ACK at 3, 6, NACK 2 at 9"
     ∷ row (receiverSilence 3 2 20) (at 3 lmAck ++ at 6 lmAck ++ at 9 (nack 2))
+    -- "*Identifier P 3, PF 0x38, PS 0xF4, SA 0x56: 0x0C38F456"
+    ∷ row (joined 3 0x38 0xF4 0x56) (identifier 0x0C38F456)
     ∷ []
 
 -- the row at a place of the table, counted from 0; the first row stands past its end

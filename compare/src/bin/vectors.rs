@@ -1,0 +1,7 @@
+//! Prints the line of every vector.
+
+use compare::vectors::{output, vectors};
+
+fn main() {
+    print!("{}", output(&vectors()));
+}

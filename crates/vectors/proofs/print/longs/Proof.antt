@@ -1,0 +1,52 @@
+-- `vectors::print::longs` is safe and ends: the loop goes over the numbers.
+-- Assumes nothing.
+use Prim.Native.Nat.{_-_, _≤_}
+use borrow.Author.Needs.{needs}
+use lib.ListN.{length}
+use Rattle.vectors.proofs.print.longs.Statement.{statement}
+use Rattle.vectors.proofs.print.longs.Tie as tie
+
+abbrev Inv-loop : tie.InvT-loop
+Inv-loop s i₀ i = i ≤ length s
+
+abbrev μ-loop : tie.MeasureT-loop
+μ-loop s i₀ i = length s - i
+
+loop-holds : tie.Need-loop-holds Inv-loop μ-loop
+loop-holds c = search needs
+
+mul-long : tie.Need-mul-long Inv-loop μ-loop
+mul-long c = search needs
+
+shared-slice-read-long : tie.Need-shared-slice-read-long Inv-loop μ-loop
+shared-slice-read-long c = search needs
+
+long-requires : tie.Need-long-requires Inv-loop μ-loop
+long-requires c κs = search needs
+
+add-i : tie.Need-add-i Inv-loop μ-loop
+add-i c = search needs
+
+loop-less : tie.Need-loop-less Inv-loop μ-loop
+loop-less c = search needs
+
+loop-again : tie.Need-loop-again Inv-loop μ-loop
+loop-again c = search needs
+
+returns : tie.Need-returns Inv-loop μ-loop
+returns c = search needs
+
+pub longs-spec : {M : Type 1} → statement M
+longs-spec =
+    tie.close
+    (tie.spec
+    Inv-loop
+    μ-loop
+    loop-holds
+    mul-long
+    shared-slice-read-long
+    long-requires
+    add-i
+    loop-less
+    loop-again
+    returns)
