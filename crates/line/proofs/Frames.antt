@@ -4,19 +4,17 @@
 use Prim.Native.Nat.{ℕ, zero, suc, _+_, _-_, _*_, _%_, _<_, _≤_, min}
 use mathlib.Core.Path.{_≡_, refl, sym, ap, _∙_}
 use mathlib.Core.Bool.{Bool, true, false}
-use mathlib.Core.Logic.{_⊎_, inl, inr}
 use mathlib.Core.List.{List, [], _∷_, _++_}
 use native.Mathlib.Numerals.{unary-clauses}
 use native.Mathlib.Omega.{arith}
-use borrow.Author.Tests.{le-leb, lt-leb, ne-eqb, eq-eqb, leb-true, leb-false, eqb-true, eqb-false}
+use borrow.Author.Tests.{leb-true, leb-false, eqb-true, eqb-false}
 use lib.Dec.{eqb, leb}
 use lib.ListN.{length, getD, set, take, length-set, length-append}
 use lib.Seq.{sets, getD-set-same, getD-set-other, take-all, take-append-le}
-use Rattle.frame.specs.Choice.{pick}
 use Rattle.frame.proofs.Choice.{pick-elim}
 use Rattle.frame.specs.declared.Frame.{Frame}
 use Rattle.line.proofs.Laws.{listed, head-there}
-use Rattle.line.specs.Ring.{frameAt, stored, framesFrom, framesIn, headOf, restOf, Kept, kept, joinOf}
+use Rattle.line.specs.Ring.{frameAt, stored, framesFrom, framesIn, headOf, restOf, Kept, joinOf}
 use Rattle.line.specs.declared.Ring.{Ring}
 
 abbrev frameOf : ℕ → List ℕ → Frame

@@ -1,22 +1,19 @@
 -- Laws on the ring: what the functions leave is what the definitions say, and what the ring then holds is document 01's
 -- list.
 -- Assumes nothing.
-use Prim.Native.Nat.{ℕ, zero, suc, _+_, _-_, _*_, _%_, _<_, _≤_, min}
+use Prim.Native.Nat.{ℕ, zero, suc, _+_, _-_, _*_, _%_, _<_, _≤_}
 use mathlib.Core.Path.{_≡_, refl, sym, ap, _∙_}
-use mathlib.Core.Bool.{Bool, true, false}
-use mathlib.Core.List.{List, [], _∷_, _++_, map}
+use mathlib.Core.List.{List, [], _∷_, map}
 use native.Mathlib.Numerals.{unary-clauses}
 use native.Mathlib.Omega.{arith}
 use borrow.Author.Needs.{length-unmapped}
 use borrow.Author.Tests.{le-leb, lt-leb, ne-eqb, eq-eqb}
-use lib.Dec.{eqb, leb}
-use lib.ListN.{length, getD, set, take}
-use lib.Seq.{sets, getD-set-same, getD-set-other, length-sets}
-use Rattle.frame.specs.Choice.{pick}
+use lib.ListN.{length, getD, set}
+use lib.Seq.{sets}
 use Rattle.frame.proofs.Choice.{pick-true, pick-false}
 use Rattle.frame.specs.Frames.{blankOf}
 use Rattle.frame.specs.declared.Frame.{Frame}
-use Rattle.line.specs.Ring.{frameAt, stored, framesFrom, framesIn, headOf, restOf, Kept, kept, joinOf}
+use Rattle.line.specs.Ring.{frameAt, stored, headOf, restOf, kept, joinOf}
 use Rattle.line.specs.declared.Ring.{Ring}
 
 abbrev ringOf : ℕ → ℕ → Ring

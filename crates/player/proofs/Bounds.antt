@@ -2,14 +2,14 @@
 -- eight bytes, and stays so.
 -- Assumes nothing.
 use Prim.Native.Nat.{ℕ, zero, suc, _+_, _*_, _≤_}
-use mathlib.Core.Path.{_≡_, refl, sym, ap, subst, _∙_}
+use mathlib.Core.Path.{_≡_, refl}
 use mathlib.Core.Bool.{Bool, true, false}
 use mathlib.Core.List.{List, [], _∷_, _++_}
 use native.Mathlib.Omega.{arith}
 use lib.ListN.{length, take, length-append}
 use Rattle.frame.specs.declared.Frame.{Frame}
 use Rattle.player.proofs.Turns.{sender-text, receiver-text}
-use Rattle.player.specs.Step.{capped, playerStep, turnFor, eventsFrom, worldAfter}
+use Rattle.player.specs.Step.{capped, playerStep, turnFor, eventsFrom}
 use Rattle.player.specs.Text.{letterOf, framesText, eventText, textOf}
 use Rattle.receiver.specs.Hear as hearing
 use Rattle.receiver.specs.Tick as ticking
@@ -19,11 +19,11 @@ use Rattle.sender.specs.Hear.{hearOf}
 use Rattle.sender.specs.Tick.{tickOf}
 use Rattle.sender.specs.Told as sender
 use Rattle.text.proofs.Laws.{sender-text-length, receiver-text-length}
-use Rattle.text.specs.Text.{letterS, letterR, senderReport, receiverReport, senderText, receiverText}
+use Rattle.text.specs.Text.{letterS, letterR, senderReport, receiverReport}
 use Rattle.transport.proofs.Eight.{Eight, begin-eight, tick-eight, hear-eight, Eights, receiver-tick-eight, receiver-hear-eight}
 use Rattle.transport.specs.Example.{callFor}
 use Rattle.transport.specs.Step.{emission, Stepped, unheard, bySender, byReceiver, Rest, gone, still, leaving, dropped, givenForward, givenBack, stepOf}
-use Rattle.transport.specs.World.{World, Call, begin, senderTick, receiverTick, hearForward, repeatForward, loseForward, hearBack, repeatBack, loseBack, Given, nobody, toSender, toReceiver, Event}
+use Rattle.transport.specs.World.{World, Call, begin, senderTick, receiverTick, hearForward, repeatForward, loseForward, hearBack, repeatBack, loseBack, Given, nobody, toSender, toReceiver}
 
 -- ---- lines of frames of eight bytes
 

@@ -1,9 +1,9 @@
 -- A law for each path through the code of the player's calls.
 -- Assumes nothing.
-use Prim.Native.Nat.{ℕ, zero, suc, _+_, _-_, _<_, _≤_, min}
+use Prim.Native.Nat.{ℕ, suc, _+_, _-_, _<_, _≤_, min}
 use mathlib.Core.Path.{_≡_, refl, sym, ap, subst, _∙_}
 use mathlib.Core.Bool.{Bool, true, false, _&&_}
-use mathlib.Core.List.{List, [], _∷_, _++_}
+use mathlib.Core.List.{List, []}
 use native.Mathlib.Numerals.{add-one}
 use native.Mathlib.Omega.{arith}
 use borrow.Author.Tests.{eqb-true}
@@ -11,7 +11,6 @@ use lib.Dec.{eqb}
 use lib.ListN.{length, getD, take, drop, length-take, length-drop, drop-of-length-le}
 use lib.Seq.{drop-cons, drop-drop, take-all, take-nil}
 use Rattle.frame.proofs.Choice.{pick-true, pick-false}
-use Rattle.frame.specs.Choice.{pick}
 use Rattle.line.specs.Ring.{emptyOf}
 use Rattle.line.specs.declared.Ring.{Ring}
 use Rattle.pack.specs.Pack.{Contents, held, toldReading, messageOf, eventsOf, bodiesOf}

@@ -2,8 +2,8 @@
 -- those that the player's line of 64 dropped; such a frame is lost once it is the first. So before a call that takes the
 -- first frame, the dropped ones in front of it are lost, and then both lines give the same frame.
 -- Assumes nothing.
-use Prim.Native.Nat.{ℕ, zero, suc, _+_, _≤_, _<_}
-use mathlib.Core.Path.{_≡_, refl, sym, ap, subst, _∙_}
+use Prim.Native.Nat.{ℕ, _+_, _≤_, _<_}
+use mathlib.Core.Path.{_≡_, refl, ap, _∙_}
 use mathlib.Core.Bool.{Bool, true, false}
 use mathlib.Core.List.{List, [], _∷_, _++_, append-nil}
 use native.Mathlib.Nat.{add-zero}
@@ -14,8 +14,8 @@ use lib.ListN.{length, take, length-append}
 use lib.Seq.{take-all, take-append-le}
 use Rattle.frame.proofs.Choice.{pick-elim}
 use Rattle.frame.specs.declared.Frame.{Frame}
-use Rattle.player.specs.Claim.{runFrom, newestFirst, loss, Losses, none, lostForward, lostBack, Among, start, follows, Run, PlayerRuns, PlayerKeeps}
-use Rattle.player.specs.Step.{capped, playerStep, turnFor, eventsFrom, worldAfter}
+use Rattle.player.specs.Claim.{runFrom, newestFirst, loss, Losses, none, lostForward, lostBack, Among, start, follows, PlayerRuns, PlayerKeeps}
+use Rattle.player.specs.Step.{capped, playerStep, turnFor, eventsFrom}
 use Rattle.receiver.specs.Hear as hearing
 use Rattle.receiver.specs.Tick as ticking
 use Rattle.receiver.specs.Told as receiver
@@ -32,7 +32,7 @@ use Rattle.transport.specs.Example.{callFor}
 use Rattle.frame.specs.Choice.{pick}
 use Rattle.transport.specs.Seen
 use Rattle.transport.specs.Seen.{taken, further, Begun, Opened, begunIn, begunAfter, openedIn, openedAfter, sortOf}
-use Rattle.transport.specs.Step.{emission, Stepped, Rest, gone, still, leaving, dropped, givenForward, givenBack, stepOf, Past, next, runOf}
+use Rattle.transport.specs.Step.{emission, givenForward, givenBack, stepOf, Past, next, runOf}
 use Rattle.transport.specs.World.{World, Call, begin, senderTick, receiverTick, hearForward, repeatForward, loseForward, hearBack, repeatBack, loseBack, Event, startOf}
 
 -- ---- a list and the same with frames more

@@ -1,35 +1,31 @@
 -- What the calls print, joined, is what `played` says. A list of events is played part by part; each part's text fits the
 -- page, so the page holds it whole.
 -- Assumes nothing.
-use Prim.Native.Nat.{ℕ, zero, suc, _+_, _-_, _*_, _<_, _≤_, min}
-use mathlib.Core.Path.{_≡_, refl, sym, ap, subst, _∙_}
-use mathlib.Core.Bool.{Bool, true, false, _&&_}
+use Prim.Native.Nat.{ℕ, zero, suc, _+_, _-_, _≤_, min}
+use mathlib.Core.Path.{_≡_, refl, sym, ap, _∙_}
+use mathlib.Core.Bool.{true, _&&_}
 use mathlib.Core.List.{List, [], _∷_, _++_, append-assoc}
 use native.Mathlib.Nat.{add-zero}
 use native.Mathlib.Omega.{arith}
-use borrow.Author.Tests.{eq-eqb, leb-true, leb-false}
+use borrow.Author.Tests.{leb-true, leb-false}
 use lib.Dec.{eqb}
 use lib.ListN.{length, take, drop, length-take, length-drop, drop-of-length-le, take-append-drop}
 use lib.Seq.{take-at, drop-drop}
 use Rattle.frame.proofs.Choice.{pick-true}
-use Rattle.line.proofs.Frames.{frames-none}
-use Rattle.line.specs.Ring.{emptyOf, frameAt, framesFrom, framesIn}
-use Rattle.line.specs.declared.Ring.{Ring}
+use Rattle.line.specs.Ring.{frameAt, framesFrom, framesIn}
 use Rattle.pack.proofs.Laws.{length-events, read-most, read-whole}
-use Rattle.pack.specs.Pack.{held, bodiesOf, messageOf, eventsOf}
-use Rattle.pack.specs.declared.Bodies.{Bodies}
+use Rattle.pack.specs.Pack.{messageOf, eventsOf}
 use Rattle.player.proofs.Bounds.{AllEight, Whole, little, text-fits}
-use Rattle.player.specs.Calls.{playerFor, Progressed, progressed, beginOf, playing, nextEvents, playOf, isFinished}
+use Rattle.player.specs.Calls.{playerFor, Progressed, progressed, beginOf, playing, nextEvents, playOf}
 use Rattle.player.specs.Claim.{runFrom}
-use Rattle.player.specs.Played.{begun, startOf, zeros, playedStart, played}
-use Rattle.player.specs.State.{worldOf, Turned, turned, printed}
-use Rattle.player.specs.Step.{capped, playerStep, turnFor, eventsFrom, worldAfter}
+use Rattle.player.specs.Played.{startOf, zeros, playedStart, played}
+use Rattle.player.specs.State.{worldOf, Turned, printed}
+use Rattle.player.specs.Step.{playerStep, turnFor, eventsFrom, worldAfter}
 use Rattle.player.specs.Text.{eventText, textOf}
-use Rattle.player.specs.Whole.{shown, leftOf, leftAfter, BeginPrints, PlayPrints, FinishedIsAll, PlayGoesOn}
+use Rattle.player.specs.Whole.{shown, leftOf, BeginPrints, PlayPrints, FinishedIsAll, PlayGoesOn}
 use Rattle.player.specs.declared.Player.{Player}
 use Rattle.text.proofs.Laws.{put-fits}
-use Rattle.text.specs.Page.{Page, page, put}
-use Rattle.transport.specs.Step.{stepOf}
+use Rattle.text.specs.Page.{page, put}
 use Rattle.transport.specs.World as transport
 use Rattle.transport.specs.World.{World, Call, Event, begin}
 

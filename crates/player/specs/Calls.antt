@@ -1,7 +1,7 @@
 -- What the player's calls answer. A pack is opened; its message is begun; its events are played, at most 128 in a call; what
 -- is printed stands in a lent page of 16384 bytes, from its first place on.
 use Prim.Native.Nat.{ℕ, suc, _+_, _-_, min}
-use mathlib.Core.Bool.{Bool, true, false, _&&_}
+use mathlib.Core.Bool.{Bool, _&&_}
 use mathlib.Core.List.{List}
 use lib.Dec.{eqb, leb}
 use lib.ListN.{length, take, drop}

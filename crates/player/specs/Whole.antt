@@ -1,7 +1,7 @@
 -- The calls of the player, one after the other, print what `played` says: the begin prints its first bytes, each call of
 -- play the next ones, and once the player is finished nothing is left.
 use Prim.Native.Nat.{ℕ, suc, _<_}
-use mathlib.Core.Bool.{Bool, true, false}
+use mathlib.Core.Bool.{true, false}
 use mathlib.Core.List.{List, [], _++_}
 use mathlib.Core.Path.{_≡_}
 use lib.ListN.{length, take, drop}

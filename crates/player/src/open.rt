@@ -1,10 +1,8 @@
 // Opening a run pack: its bodies are read, the ends made, and the begin tried.
 ghost use mathlib.Core.Path.{_≡_};
-ghost use Prim.Native.Nat.{_≤_};
 ghost use Rattle.player.specs.Calls.{toldOpening, openedAt, openOf};
 ghost use Rattle.player.specs.Played.{startBodies, startEnds, startBegin};
-ghost use Rattle.pack.specs.Pack.{held, messageOf};
-ghost use Rattle.sender.specs.Begin as sender-making;
+ghost use Rattle.pack.specs.Pack.{held};
 ghost use Rattle.sender.specs.Told as sender-told;
 ghost use Rattle.receiver.specs.Told as receiver-told;
 use crate::Ends;

@@ -1,83 +1,64 @@
+-- `line::frame_at` meets its contract. Nine reads inside the 576 bytes are the frame of the definition.
+-- Assumes nothing.
 use borrow.Author.Needs.{needs}
 use Rattle.line.specs.Ring.{frameAt}
 use Rattle.line.proofs.frame_at.Statement.{statement}
 use Rattle.line.proofs.frame_at.Tie as tie
-use Rattle.line.proofs.frame_at.Reads as reads
-use Rattle.line.proofs.frame_at.Lts as lts
 
--- src/lib.rt:23:14
 mul-at : tie.Need-mul-at
 mul-at c = search needs
 
--- src/lib.rt:25:15
 shared-slice-read-t6 : tie.Need-shared-slice-read-t6
 shared-slice-read-t6 c = search needs
 
--- src/lib.rt:27:19
 add-t4 : tie.Need-add-t4
 add-t4 c = search needs
 
--- src/lib.rt:27:13
 shared-slice-read-t8 : tie.Need-shared-slice-read-t8
 shared-slice-read-t8 c = search needs
 
--- src/lib.rt:28:19
 add-t9 : tie.Need-add-t9
 add-t9 c = search needs
 
--- src/lib.rt:28:13
 shared-slice-read-t11 : tie.Need-shared-slice-read-t11
 shared-slice-read-t11 c = search needs
 
--- src/lib.rt:29:19
 add-t12 : tie.Need-add-t12
 add-t12 c = search needs
 
--- src/lib.rt:29:13
 shared-slice-read-t14 : tie.Need-shared-slice-read-t14
 shared-slice-read-t14 c = search needs
 
--- src/lib.rt:30:19
 add-t15 : tie.Need-add-t15
 add-t15 c = search needs
 
--- src/lib.rt:30:13
 shared-slice-read-t17 : tie.Need-shared-slice-read-t17
 shared-slice-read-t17 c = search needs
 
--- src/lib.rt:31:19
 add-t18 : tie.Need-add-t18
 add-t18 c = search needs
 
--- src/lib.rt:31:13
 shared-slice-read-t20 : tie.Need-shared-slice-read-t20
 shared-slice-read-t20 c = search needs
 
--- src/lib.rt:32:19
 add-t21 : tie.Need-add-t21
 add-t21 c = search needs
 
--- src/lib.rt:32:13
 shared-slice-read-t23 : tie.Need-shared-slice-read-t23
 shared-slice-read-t23 c = search needs
 
--- src/lib.rt:33:19
 add-t24 : tie.Need-add-t24
 add-t24 c = search needs
 
--- src/lib.rt:33:13
 shared-slice-read-t26 : tie.Need-shared-slice-read-t26
 shared-slice-read-t26 c = search needs
 
--- src/lib.rt:34:19
 add-t27 : tie.Need-add-t27
 add-t27 c = search needs
 
--- src/lib.rt:34:13
 shared-slice-read-t29 : tie.Need-shared-slice-read-t29
 shared-slice-read-t29 c = search needs
 
--- src/lib.rt:19:1
 returns : tie.Need-returns
 unfolding frameAt
 returns c = search needs

@@ -6,11 +6,6 @@ use borrow.Author.Needs.{needs}
 use lib.ListN.{length}
 use Rattle.play.proofs.play_events.Statement.{statement}
 use Rattle.play.proofs.play_events.Tie as tie
-use Rattle.play.proofs.play_events.Reads as reads
-use Rattle.play.proofs.play_events.Lts as lts
-use Rattle.play.proofs.show.Reads as show-reads
-use Rattle.player.proofs.Player.is_finished.Reads as is-finished-reads
-use Rattle.player.proofs.Player.play.Reads as play-reads
 
 abbrev Inv-loop : tie.InvT-loop
 Inv-loop pack buffer₀ forward₀ back₀ page₀ player₀ calls₀ buffer forward back page player calls =
@@ -23,71 +18,54 @@ Inv-loop pack buffer₀ forward₀ back₀ page₀ player₀ calls₀ buffer for
 abbrev μ-loop : tie.MeasureT-loop
 μ-loop pack buffer₀ forward₀ back₀ page₀ player₀ calls₀ buffer forward back page player calls = 512 - calls
 
--- src/main.rt:16:5
 loop-holds : tie.Need-loop-holds Inv-loop μ-loop
 loop-holds c = search needs
 
--- src/main.rt:17:12
 is-finished-requires : tie.Need-is-finished-requires Inv-loop μ-loop
 is-finished-requires c κs = search needs
 
--- src/main.rt:18:13
 same-length : tie.Need-same-length Inv-loop μ-loop
 same-length c = search needs
 
--- src/main.rt:18:13
 same-length-2 : tie.Need-same-length-2 Inv-loop μ-loop
 same-length-2 c = search needs
 
--- src/main.rt:18:13
 same-length-3 : tie.Need-same-length-3 Inv-loop μ-loop
 same-length-3 c = search needs
 
--- src/main.rt:18:13
 same-length-4 : tie.Need-same-length-4 Inv-loop μ-loop
 same-length-4 c = search needs
 
--- src/main.rt:18:13
 returns : tie.Need-returns Inv-loop μ-loop
 returns c = search needs
 
--- src/main.rt:20:13
 play-requires : tie.Need-play-requires Inv-loop μ-loop
 play-requires c κs = search needs
 
--- src/main.rt:21:9
 show-requires : tie.Need-show-requires Inv-loop μ-loop
 show-requires c κs = search needs
 
--- src/main.rt:23:9
 add-calls : tie.Need-add-calls Inv-loop μ-loop
 add-calls c = search needs
 
--- src/main.rt:16:5
 loop-less : tie.Need-loop-less Inv-loop μ-loop
 loop-less c = search needs
 
--- src/main.rt:16:5
 loop-again : tie.Need-loop-again Inv-loop μ-loop
 loop-again c = search needs
 
--- src/main.rt:13:1
 same-length-5 : tie.Need-same-length-5 Inv-loop μ-loop
 same-length-5 c = search needs
 
--- src/main.rt:13:1
 same-length-6 : tie.Need-same-length-6 Inv-loop μ-loop
 same-length-6 c = search needs
 
--- src/main.rt:13:1
 same-length-7 : tie.Need-same-length-7 Inv-loop μ-loop
 same-length-7 c = search needs
 
--- src/main.rt:13:1
 same-length-8 : tie.Need-same-length-8 Inv-loop μ-loop
 same-length-8 c = search needs
 
--- src/main.rt:13:1
 returns-2 : tie.Need-returns-2 Inv-loop μ-loop
 returns-2 c = search needs
 

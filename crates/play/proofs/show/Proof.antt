@@ -5,23 +5,16 @@ use borrow.Author.Needs.{needs}
 use lib.ListN.{length-take}
 use Rattle.play.proofs.show.Statement.{statement}
 use Rattle.play.proofs.show.Tie as tie
-use Rattle.play.proofs.show.Reads as reads
-use Rattle.play.proofs.show.Lts as lts
-use Rattle.io.proofs.write_all.Reads as write-all-reads
 
--- src/main.rt:8:26
 slice-aggregate-write-all : tie.Need-slice-aggregate-write-all
 slice-aggregate-write-all c = rw length-take (omega arith)
 
--- src/main.rt:8:9
 write-all-requires : tie.Need-write-all-requires
 write-all-requires c κs = search needs
 
--- src/main.rt:6:1
 returns : tie.Need-returns
 returns c = search needs
 
--- src/main.rt:6:1
 returns-2 : tie.Need-returns-2
 returns-2 c = search needs
 

@@ -1,29 +1,22 @@
+-- `player::Ends::hear_back` meets its contract. Hearing is repeating and then losing.
+-- Assumes nothing.
 use borrow.Author.Needs.{needs}
 use Rattle.player.proofs.Turns.{hears-back}
 use Rattle.player.proofs.Ends.hear_back.Statement.{statement}
 use Rattle.player.proofs.Ends.hear_back.Tie as tie
-use Rattle.player.proofs.Ends.hear_back.Reads as reads
-use Rattle.player.proofs.Ends.hear_back.Lts as lts
-use Rattle.player.proofs.Ends.lose_back.Reads as lose-back-reads
-use Rattle.player.proofs.Ends.repeat_back.Reads as repeat-back-reads
 
--- src/turn.rt:223:13
 repeat-back-requires : tie.Need-repeat-back-requires
 repeat-back-requires c κs = search needs
 
--- src/turn.rt:225:13
 lose-back-requires : tie.Need-lose-back-requires
 lose-back-requires c κs = search needs
 
--- src/turn.rt:217:5
 same-length : tie.Need-same-length
 same-length c = search needs
 
--- src/turn.rt:217:5
 same-length-2 : tie.Need-same-length-2
 same-length-2 c = search needs
 
--- src/turn.rt:217:5
 returns : tie.Need-returns
 returns c = hears-back _ _ _ _ _ _ _ _ _ (c .before .before .before .before .before .before .repeat-back .ensures) (c .lose-back .ensures)
 

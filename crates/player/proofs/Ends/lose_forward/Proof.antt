@@ -1,16 +1,13 @@
+-- `player::Ends::lose_forward` meets its contract. The ring's rest is the list without its first frame.
+-- Assumes nothing.
 use borrow.Author.Needs.{needs}
 use Rattle.player.proofs.Turns.{loses-forward}
 use Rattle.player.proofs.Ends.lose_forward.Statement.{statement}
 use Rattle.player.proofs.Ends.lose_forward.Tie as tie
-use Rattle.player.proofs.Ends.lose_forward.Reads as reads
-use Rattle.player.proofs.Ends.lose_forward.Lts as lts
-use Rattle.line.proofs.Ring.rest.Reads as rest-reads
 
--- src/turn.rt:175:13
 rest-requires : tie.Need-rest-requires
 rest-requires c κs = search needs
 
--- src/turn.rt:170:5
 returns : tie.Need-returns
 returns c = loses-forward _ _ (search needs)
 

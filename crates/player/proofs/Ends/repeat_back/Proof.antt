@@ -1,43 +1,32 @@
+-- `player::Ends::repeat_back` meets its contract. An empty line: nothing happens. Else its first frame, the sender's
+-- promise, and what was made of its answer.
+-- Assumes nothing.
 use borrow.Author.Needs.{needs}
 use Rattle.player.proofs.Turns.{repeat-back-none, repeat-back-some}
 use Rattle.player.proofs.Ends.repeat_back.Statement.{statement}
 use Rattle.player.proofs.Ends.repeat_back.Tie as tie
-use Rattle.player.proofs.Ends.repeat_back.Reads as reads
-use Rattle.player.proofs.Ends.repeat_back.Lts as lts
-use Rattle.line.proofs.Ring.head.Reads as head-reads
-use Rattle.line.proofs.Ring.is_empty.Reads as is-empty-reads
-use Rattle.player.proofs.Ends.sender_answered.Reads as sender-answered-reads
-use Rattle.sender.proofs.Sender.hear.Reads as hear-reads
 
--- src/turn.rt:161:12
 is-empty-requires : tie.Need-is-empty-requires
 is-empty-requires c κs = search needs
 
--- src/turn.rt:162:13
 returns : tie.Need-returns
 returns c = repeat-back-none _ _ _ _ _ _ (c .before .is-empty .ensures) (c .if1 .taken)
 
--- src/turn.rt:164:13
 head-requires : tie.Need-head-requires
 head-requires c κs = search needs
 
--- src/turn.rt:166:13
 hear-requires : tie.Need-hear-requires
 hear-requires c κs = search needs
 
--- src/turn.rt:167:9
 sender-answered-requires : tie.Need-sender-answered-requires
 sender-answered-requires c κs = search needs
 
--- src/turn.rt:147:5
 same-length : tie.Need-same-length
 same-length c = search needs
 
--- src/turn.rt:147:5
 same-length-2 : tie.Need-same-length-2
 same-length-2 c = search needs
 
--- src/turn.rt:147:5
 returns-2 : tie.Need-returns-2
 returns-2 c =
     let answered = c .before .before .before .before in

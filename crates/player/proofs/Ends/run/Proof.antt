@@ -1,5 +1,8 @@
+-- `player::Ends::run` meets its contract. The invariant: playing the events that are left, from here, gives what
+-- playing all gives from the start. The measure is the events that are left.
+-- Assumes nothing.
 use Prim.Native.Nat.{suc, _+_, _-_, _≤_}
-use mathlib.Core.Path.{_≡_, refl}
+use mathlib.Core.Path.{_≡_}
 use native.Mathlib.Omega.{arith}
 use borrow.Author.Needs.{needs}
 use lib.ListN.{length, drop}
@@ -9,9 +12,6 @@ use Rattle.text.specs.Page.{page}
 use Rattle.player.proofs.Calls.{plays-one, plays-none}
 use Rattle.player.proofs.Ends.run.Statement.{statement}
 use Rattle.player.proofs.Ends.run.Tie as tie
-use Rattle.player.proofs.Ends.run.Reads as reads
-use Rattle.player.proofs.Ends.run.Lts as lts
-use Rattle.player.proofs.Ends.turn.Reads as turn-reads
 
 abbrev Inv-loop : tie.InvT-loop
 Inv-loop played message events buffer₀ forward₀ back₀ out₀ turn₀ number₀ i₀ buffer forward back out turn number i =
@@ -27,33 +27,26 @@ Inv-loop played message events buffer₀ forward₀ back₀ out₀ turn₀ numbe
 abbrev μ-loop : tie.MeasureT-loop
 μ-loop played message events buffer₀ forward₀ back₀ out₀ turn₀ number₀ i₀ buffer forward back out turn number i = length events - i
 
--- src/run.rt:21:9
 loop-holds : tie.Need-loop-holds Inv-loop μ-loop
 loop-holds c = search needs
 
--- src/run.rt:22:13
 add-number : tie.Need-add-number Inv-loop μ-loop
 add-number c = search needs
 
--- src/run.rt:24:38
 shared-slice-read-turn : tie.Need-shared-slice-read-turn Inv-loop μ-loop
 shared-slice-read-turn c = search needs
 
--- src/run.rt:24:13
 turn-requires : tie.Need-turn-requires Inv-loop μ-loop
 turn-requires c κs = search needs
 
--- src/run.rt:25:13
 add-i : tie.Need-add-i Inv-loop μ-loop
 add-i c =
     let tested = c .before .before .before .before .before .before .before .before .before .before .before .before .before .before .before in
     record { fits = omega (arith, tested .loop-test .taken, tested .before .before .before .before .before .before .before .before .pre .2) }
 
--- src/run.rt:21:9
 loop-less : tie.Need-loop-less Inv-loop μ-loop
 loop-less c = search needs
 
--- src/run.rt:21:9
 loop-again : tie.Need-loop-again Inv-loop μ-loop
 loop-again c =
     let turned = c .before .before .before .before .before .before .before .before in
@@ -68,23 +61,18 @@ loop-again c =
       plays-one _ _ _ _ _ _ _ _ _ (tested .loop-test .taken) (turned .turn .ensures) (inv .6),
     )
 
--- src/run.rt:13:5
 same-length : tie.Need-same-length Inv-loop μ-loop
 same-length c = search needs
 
--- src/run.rt:13:5
 same-length-2 : tie.Need-same-length-2 Inv-loop μ-loop
 same-length-2 c = search needs
 
--- src/run.rt:13:5
 same-length-3 : tie.Need-same-length-3 Inv-loop μ-loop
 same-length-3 c = search needs
 
--- src/run.rt:13:5
 same-length-4 : tie.Need-same-length-4 Inv-loop μ-loop
 same-length-4 c = search needs
 
--- src/run.rt:13:5
 returns : tie.Need-returns Inv-loop μ-loop
 returns c = plays-none _ _ _ _ _ _ (c .loop-test .left) (c .before .loop .inv .6)
 

@@ -1,151 +1,109 @@
+-- `player::Ends::turn` meets its contract. By the event's number.
+-- Assumes nothing.
 use borrow.Author.Needs.{needs}
 use Rattle.player.proofs.Turns.{turn-1, turn-2, turn-3, turn-4, turn-5, turn-6, turn-7, turn-8}
 use Rattle.player.proofs.Ends.turn.Statement.{statement}
 use Rattle.player.proofs.Ends.turn.Tie as tie
-use Rattle.player.proofs.Ends.turn.Reads as reads
-use Rattle.player.proofs.Ends.turn.Lts as lts
-use Rattle.player.proofs.Ends.hear_back.Reads as hear-back-reads
-use Rattle.player.proofs.Ends.hear_forward.Reads as hear-forward-reads
-use Rattle.player.proofs.Ends.lose_back.Reads as lose-back-reads
-use Rattle.player.proofs.Ends.lose_forward.Reads as lose-forward-reads
-use Rattle.player.proofs.Ends.repeat_back.Reads as repeat-back-reads
-use Rattle.player.proofs.Ends.repeat_forward.Reads as repeat-forward-reads
-use Rattle.player.proofs.Ends.tick_receiver.Reads as tick-receiver-reads
-use Rattle.player.proofs.Ends.tick_sender.Reads as tick-sender-reads
 
--- src/turn.rt:236:18
 tick-sender-requires : tie.Need-tick-sender-requires
 tick-sender-requires c κs = search needs
 
--- src/turn.rt:237:18
 tick-receiver-requires : tie.Need-tick-receiver-requires
 tick-receiver-requires c κs = search needs
 
--- src/turn.rt:238:18
 hear-forward-requires : tie.Need-hear-forward-requires
 hear-forward-requires c κs = search needs
 
--- src/turn.rt:239:31
 lose-forward-requires : tie.Need-lose-forward-requires
 lose-forward-requires c κs = search needs
 
--- src/turn.rt:240:18
 repeat-forward-requires : tie.Need-repeat-forward-requires
 repeat-forward-requires c κs = search needs
 
--- src/turn.rt:241:18
 hear-back-requires : tie.Need-hear-back-requires
 hear-back-requires c κs = search needs
 
--- src/turn.rt:242:31
 lose-back-requires : tie.Need-lose-back-requires
 lose-back-requires c κs = search needs
 
--- src/turn.rt:243:18
 repeat-back-requires : tie.Need-repeat-back-requires
 repeat-back-requires c κs = search needs
 
--- src/turn.rt:230:5
 same-length : tie.Need-same-length
 same-length c = search needs
 
--- src/turn.rt:230:5
 same-length-2 : tie.Need-same-length-2
 same-length-2 c = search needs
 
--- src/turn.rt:230:5
 returns : tie.Need-returns
 returns c = turn-1 _ _ _ _ _ (c .before .before .before .before .before .before .before .match .keys1) (c .before .before .before .before .tick-sender .ensures _ _)
 
--- src/turn.rt:230:5
 same-length-3 : tie.Need-same-length-3
 same-length-3 c = search needs
 
--- src/turn.rt:230:5
 same-length-4 : tie.Need-same-length-4
 same-length-4 c = search needs
 
--- src/turn.rt:230:5
 returns-2 : tie.Need-returns-2
 returns-2 c = turn-2 _ _ _ _ _ (c .before .before .before .before .before .before .before .match .keys2) (c .before .before .before .before .tick-receiver .ensures _ _)
 
--- src/turn.rt:230:5
 same-length-5 : tie.Need-same-length-5
 same-length-5 c = search needs
 
--- src/turn.rt:230:5
 same-length-6 : tie.Need-same-length-6
 same-length-6 c = search needs
 
--- src/turn.rt:230:5
 same-length-7 : tie.Need-same-length-7
 same-length-7 c = search needs
 
--- src/turn.rt:230:5
 same-length-8 : tie.Need-same-length-8
 same-length-8 c = search needs
 
--- src/turn.rt:230:5
 returns-3 : tie.Need-returns-3
 returns-3 c = turn-3 _ _ _ _ _ (c .before .before .before .before .before .before .before .before .before .before .before .match .keys3) (c .before .before .before .before .before .before .hear-forward .ensures)
 
--- src/turn.rt:230:5
 returns-4 : tie.Need-returns-4
 returns-4 c = turn-4 _ _ _ _ _ _ _ _ _ (c .before .match .keys4) (c .lose-forward .ensures)
 
--- src/turn.rt:230:5
 same-length-9 : tie.Need-same-length-9
 same-length-9 c = search needs
 
--- src/turn.rt:230:5
 same-length-10 : tie.Need-same-length-10
 same-length-10 c = search needs
 
--- src/turn.rt:230:5
 same-length-11 : tie.Need-same-length-11
 same-length-11 c = search needs
 
--- src/turn.rt:230:5
 same-length-12 : tie.Need-same-length-12
 same-length-12 c = search needs
 
--- src/turn.rt:230:5
 returns-5 : tie.Need-returns-5
 returns-5 c = turn-5 _ _ _ _ _ (c .before .before .before .before .before .before .before .before .before .before .before .match .keys5) (c .before .before .before .before .before .before .repeat-forward .ensures)
 
--- src/turn.rt:230:5
 same-length-13 : tie.Need-same-length-13
 same-length-13 c = search needs
 
--- src/turn.rt:230:5
 same-length-14 : tie.Need-same-length-14
 same-length-14 c = search needs
 
--- src/turn.rt:230:5
 same-length-15 : tie.Need-same-length-15
 same-length-15 c = search needs
 
--- src/turn.rt:230:5
 returns-6 : tie.Need-returns-6
 returns-6 c = turn-6 _ _ _ _ _ (c .before .before .before .before .before .before .before .before .match .keys6) (c .before .before .before .before .hear-back .ensures _)
 
--- src/turn.rt:230:5
 returns-7 : tie.Need-returns-7
 returns-7 c = turn-7 _ _ _ _ _ _ _ _ _ (c .before .match .keys7) (c .lose-back .ensures)
 
--- src/turn.rt:230:5
 same-length-16 : tie.Need-same-length-16
 same-length-16 c = search needs
 
--- src/turn.rt:230:5
 same-length-17 : tie.Need-same-length-17
 same-length-17 c = search needs
 
--- src/turn.rt:230:5
 same-length-18 : tie.Need-same-length-18
 same-length-18 c = search needs
 
--- src/turn.rt:230:5
 returns-8 : tie.Need-returns-8
 returns-8 c = turn-8 _ _ _ _ _ (c .before .before .before .before .before .before .before .before .match .rest) (c .before .before .before .before .repeat-back .ensures _)
 

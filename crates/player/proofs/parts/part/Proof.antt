@@ -1,51 +1,40 @@
+-- `player::parts::part` meets its contract. By where the part begins and ends.
+-- Assumes nothing.
 use borrow.Author.Needs.{needs}
 use Rattle.player.proofs.Calls.{parts}
 use Rattle.player.proofs.parts.part.Statement.{statement}
 use Rattle.player.proofs.parts.part.Tie as tie
-use Rattle.player.proofs.parts.part.Reads as reads
-use Rattle.player.proofs.parts.part.Lts as lts
 
--- src/parts.rt:12:9
 slice-aggregate-result : tie.Need-slice-aggregate-result
 slice-aggregate-result c = search needs
 
--- src/parts.rt:12:9
 returns : tie.Need-returns
 returns c = search parts
 
--- src/parts.rt:14:14
 add-to : tie.Need-add-to
 add-to c = search needs
 
--- src/parts.rt:16:16
 sub-result : tie.Need-sub-result
 sub-result c = search needs
 
--- src/parts.rt:16:16
 part-result-start : tie.Need-part-result-start
 part-result-start c = search needs
 
--- src/parts.rt:16:16
 part-result-end : tie.Need-part-result-end
 part-result-end c = search needs
 
--- src/parts.rt:16:9
 returns-2 : tie.Need-returns-2
 returns-2 c = search parts
 
--- src/parts.rt:18:5
 sub-result-2 : tie.Need-sub-result-2
 sub-result-2 c = search needs
 
--- src/parts.rt:18:5
 part-result-start-2 : tie.Need-part-result-start-2
 part-result-start-2 c = search needs
 
--- src/parts.rt:18:5
 part-result-end-2 : tie.Need-part-result-end-2
 part-result-end-2 c = search needs
 
--- src/parts.rt:7:1
 returns-3 : tie.Need-returns-3
 returns-3 c = search parts
 
