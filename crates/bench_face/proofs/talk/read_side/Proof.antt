@@ -1,0 +1,14 @@
+-- `bench_face::talk::read_side` meets its contract. By the number.
+-- Assumes nothing.
+use Rattle.bench_face.proofs.TalkLaws.{number-paths}
+use Rattle.bench_face.proofs.talk.read_side.Statement.{statement}
+use Rattle.bench_face.proofs.talk.read_side.Tie as tie
+
+returns : tie.Need-returns
+returns c = search number-paths
+
+returns-2 : tie.Need-returns-2
+returns-2 c = search number-paths
+
+pub read-side-spec : {M : Type 1} → statement M
+read-side-spec = tie.close (tie.spec returns returns-2)
