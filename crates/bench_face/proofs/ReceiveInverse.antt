@@ -4,11 +4,8 @@
 use Prim.Native.Nat.{ℕ, suc}
 use native.Mathlib.Omega.{arith}
 use mathlib.Core.Path.{_≡_, refl, sym, ap, _∙_}
-use mathlib.Core.Bool.{true, false}
-use lib.Dec.{eqb}
 use Rattle.frame.specs.Choice.{pick}
-use Rattle.bench_face.specs.Frames.{frameFrom, flatFrame}
-use Rattle.bench_face.specs.Receive.{connectionFrom, phaseFrom, receiverFrom, remembering, flatOf, flatPhase, flatReceiver, Written, idle, done, opened, flatOutcome, flatAnswer, flatMade, outcomeFrom, answerFrom, madeFrom}
+use Rattle.bench_face.specs.Receive.{connectionFrom, phaseFrom, receiverFrom, flatOf, flatPhase, flatReceiver, Written, idle, done, opened, flatOutcome, flatAnswer, flatMade, outcomeFrom, answerFrom, madeFrom}
 use Rattle.bench_face.specs.declared.receive.FlatReceiver.{FlatReceiver}
 use Rattle.receiver.specs.Told.{Made, made, unmade, Outcome, quiet, refused, delivered, failed, short, Told}
 use Rattle.bench_face.proofs.ReceivePaths.{reads-done, reads-open, reads-idle}

@@ -2,7 +2,7 @@
 -- Assumes nothing.
 use Prim.Native.Nat.{ℕ}
 use mathlib.Core.Path.{_≡_, ap}
-use mathlib.Core.Bool.{Bool, true, false}
+use mathlib.Core.Bool.{true, false}
 use mathlib.Core.List.{List}
 use borrow.Author.Tests.{ne-eqb}
 use lib.Dec.{eqb}
@@ -17,7 +17,7 @@ use Rattle.bench_face.specs.declared.receive.ReceiverMade.{ReceiverMade}
 use Rattle.bench_face.specs.declared.receive.Report.{Report}
 use Rattle.receiver.specs.Hear.{hearOf}
 use Rattle.receiver.specs.Tick.{makeOf, tickOf}
-use Rattle.receiver.specs.Told.{Made, toldMade, toldOutcome, Told, told, Heard, heard}
+use Rattle.receiver.specs.Told.{Made, toldMade, toldOutcome, Told, told, heard}
 use Rattle.receiver.specs.declared.Answer.{Answer}
 use Rattle.receiver.specs.declared.Connection.{Connection}
 use Rattle.receiver.specs.declared.Delivery.{Delivery}

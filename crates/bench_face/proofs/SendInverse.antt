@@ -4,11 +4,8 @@
 use Prim.Native.Nat.{ℕ, suc}
 use native.Mathlib.Omega.{arith}
 use mathlib.Core.Path.{_≡_, refl, sym, ap, _∙_}
-use mathlib.Core.Bool.{true, false}
-use lib.Dec.{eqb}
 use Rattle.frame.specs.Choice.{pick}
-use Rattle.bench_face.specs.Frames.{frameFrom, flatFrame}
-use Rattle.bench_face.specs.Send.{transferFrom, phaseFrom, senderFrom, window, noTransfer, noWindow, flatOf, flatPhase, flatSender, windowFrom, Written, idle, opening, sending, waiting, short, flatOutcome, flatAnswer, flatMade, outcomeFrom, answerFrom, madeFrom}
+use Rattle.bench_face.specs.Send.{transferFrom, phaseFrom, senderFrom, flatOf, flatPhase, flatSender, windowFrom, Written, idle, opening, sending, waiting, short, flatOutcome, flatAnswer, flatMade, outcomeFrom, answerFrom, madeFrom}
 use Rattle.bench_face.specs.declared.send.FlatSender.{FlatSender}
 use Rattle.sender.specs.Told.{Made, made, unmade, Outcome, quiet, refused, sent, failed, Told}
 use Rattle.bench_face.proofs.SendPaths.{reads-opening, reads-sending, reads-waiting, reads-short, reads-idle}

@@ -1,15 +1,15 @@
 -- The sender over C's layouts: a law for each path through the code, and the translations undo each other.
 -- Assumes nothing.
 use Prim.Native.Nat.{ℕ}
-use mathlib.Core.Path.{_≡_, refl, sym, ap, _∙_}
-use mathlib.Core.Bool.{Bool, true, false}
+use mathlib.Core.Path.{_≡_, ap}
+use mathlib.Core.Bool.{true, false}
 use mathlib.Core.List.{List}
-use borrow.Author.Tests.{eq-eqb, ne-eqb}
+use borrow.Author.Tests.{ne-eqb}
 use lib.Dec.{eqb}
 use Rattle.frame.specs.Choice.{pick}
 use Rattle.frame.specs.declared.Frame.{Frame}
 use Rattle.bench_face.specs.Frames.{frameFrom, flatFrame}
-use Rattle.bench_face.specs.Send.{transferFrom, phaseFrom, senderFrom, window, noTransfer, noWindow, flatOf, flatPhase, flatSender, flatOutcome, flatAnswer, noSender, flatMade}
+use Rattle.bench_face.specs.Send.{transferFrom, phaseFrom, senderFrom, window, noTransfer, flatOf, flatPhase, flatSender, flatOutcome, flatAnswer, noSender, flatMade}
 use Rattle.bench_face.specs.declared.frames.FlatFrame.{FlatFrame}
 use Rattle.bench_face.specs.declared.send.FlatSender.{FlatSender}
 use Rattle.bench_face.specs.declared.send.Report.{Report}
@@ -30,7 +30,6 @@ use Rattle.sender.specs.declared.Outcome.the-variants as outcome-variants
 use Rattle.sender.specs.declared.Phase.{Phase}
 use Rattle.sender.specs.declared.Phase.the-variants.{Idle, Opening, Sending, Waiting, Short}
 use Rattle.sender.specs.declared.Sender.{Sender}
-use Rattle.sender.specs.declared.Settings.{Settings}
 use Rattle.sender.specs.declared.Single.{Single}
 use Rattle.sender.specs.declared.Streamed.{Streamed}
 use Rattle.sender.specs.declared.Transfer.{Transfer}

@@ -1,7 +1,7 @@
 -- The receiver in C's layouts: what a flat receiver is read as, and how the receiver and its answers are written.
 use Prim.Native.Nat.{ℕ}
 use mathlib.Core.Path.{_≡_}
-use mathlib.Core.Bool.{Bool, true, false}
+use mathlib.Core.Bool.{true, false}
 use mathlib.Core.List.{List}
 use lib.Dec.{eqb}
 use Rattle.frame.specs.Choice.{pick}

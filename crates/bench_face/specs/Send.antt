@@ -1,7 +1,7 @@
 -- The sender in C's layouts: what a flat sender is read as, and how the sender and its answers are written.
 use Prim.Native.Nat.{ℕ}
 use mathlib.Core.Path.{_≡_}
-use mathlib.Core.Bool.{Bool, true, false}
+use mathlib.Core.Bool.{true, false}
 use lib.Dec.{eqb}
 use Rattle.frame.specs.Choice.{pick}
 use Rattle.bench_face.specs.Frames.{frameFrom, flatFrame}
