@@ -4,7 +4,6 @@ use std::io::Write;
 use std::process::{Command, Stdio};
 
 use compare::reference::player::{build, play, Settings};
-use compare::sessions::SESSIONS;
 
 const GOOD: Settings = Settings {
     gap: 1,
@@ -63,20 +62,6 @@ fn the_program() {
     assert_eq!(through_the_program(&build(&GOOD, &NINE, &EVENTS)), EXAMPLE);
     assert_eq!(through_the_program(&[]), "refused 12\n");
     assert_eq!(through_the_program(&vec![3; 70000]), "refused 12\n");
-}
-
-/// The program of sessions prints a header line for each, and each session's lines after it.
-#[test]
-fn the_sessions_program() {
-    let output = Command::new(env!("CARGO_BIN_EXE_sessions"))
-        .output()
-        .unwrap();
-    let printed = String::from_utf8(output.stdout).unwrap();
-    let mut expected = String::new();
-    for session in &SESSIONS {
-        expected += &format!("# {}\n{}", session.name, play(&session.pack()));
-    }
-    assert_eq!(printed, expected);
 }
 
 fn refused(pack: &[u8], number: u8) {
