@@ -4,6 +4,7 @@ use std::io::Write;
 use std::process::{Command, Stdio};
 
 use compare::reference::player::{build, play, Settings};
+use compare::sessions::SESSIONS;
 
 const GOOD: Settings = Settings {
     gap: 1,
