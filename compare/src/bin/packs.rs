@@ -73,22 +73,29 @@ fn other_session(program: &str) -> Result<Option<&'static str>, String> {
     Ok(None)
 }
 
+/// The sessions, after the random packs.
+fn sessions(program: &str) -> ExitCode {
+    match other_session(program) {
+        Err(problem) => {
+            eprintln!("packs: {problem}");
+            ExitCode::from(2)
+        }
+        Ok(Some(name)) => {
+            println!("packs: session {name}: DIFFERENT");
+            ExitCode::from(1)
+        }
+        Ok(None) => {
+            println!("packs: {} sessions alike", SESSIONS.len());
+            ExitCode::SUCCESS
+        }
+    }
+}
+
 fn main() -> ExitCode {
     let Some(options) = options(std::env::args().skip(1)) else {
         eprintln!("{USAGE}");
         return ExitCode::from(2);
     };
-    match other_session(&options.player) {
-        Err(problem) => {
-            eprintln!("packs: {problem}");
-            return ExitCode::from(2);
-        }
-        Ok(Some(name)) => {
-            println!("packs: session {name}: DIFFERENT");
-            return ExitCode::from(1);
-        }
-        Ok(None) => println!("packs: {} sessions alike", SESSIONS.len()),
-    }
     let mut tally = Tally::new();
     let player = |pack: &[u8]| run(&options.player, pack);
     match first_difference(&player, options.seed, options.count, &mut tally) {
@@ -110,7 +117,7 @@ fn main() -> ExitCode {
                 options.count, options.seed
             );
             println!("packs: packs with {}", sorts.join(", "));
-            ExitCode::SUCCESS
+            sessions(&options.player)
         }
     }
 }
