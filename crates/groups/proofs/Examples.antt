@@ -5,7 +5,7 @@ use Prim.Native.Nat.{ℕ}
 use mathlib.Core.Path.{_≡_, refl}
 use mathlib.Core.List.{List, [], _∷_, map}
 use Rattle.groups.specs.Answer.{Answer, given, refused}
-use Rattle.groups.specs.Choice.{pick}
+use Rattle.frame.specs.Choice.{pick}
 use Rattle.groups.specs.Format.{kindsFor, values, allowed, groupFrom, allFiller}
 use Rattle.groups.specs.Reading.{judged, readRow, readBy, readOf}
 use Rattle.groups.specs.Table.{kindLines, groupLines, kindAt, findIn, findOf}

@@ -12,7 +12,7 @@ use lib.Dec.{eqb}
 use lib.ListN.{length, getD, take, drop, replicate, length-append, length-drop, length-replicate, take-append-drop}
 use lib.Seq.{drop-at, drop-drop, getD-drop, take-add, drop-cons}
 use Rattle.groups.specs.Answer.{Answer, given, refused, toldFinding, toldReading, toldWriting}
-use Rattle.groups.specs.Choice.{pick}
+use Rattle.frame.specs.Choice.{pick}
 use Rattle.groups.specs.Format.{sizeOf, sizesOf, kindsOf, values, allAllowed, valueOf, valuesOf, bytesOf, fieldsOf, groupOf, groupFrom, bytesFor, allFiller}
 use Rattle.groups.specs.Reading.{judged, readRow, readBy, readOf}
 use Rattle.groups.specs.Table.{findOf}

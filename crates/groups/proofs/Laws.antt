@@ -11,7 +11,7 @@ use borrow.Author.Tests.{eq-eqb, ne-eqb}
 use lib.ListN.{length, getD, drop, set, replicate, length-append, length-drop, drop-of-length-le, List·getD-eq-default}
 use lib.Seq.{sets, sets-eq, drop-cons, drop-drop, getD-drop, take-append-seam, drop-append-add}
 use Rattle.groups.specs.Answer.{Answer, given, refused, toldFinding}
-use Rattle.groups.specs.Choice.{pick}
+use Rattle.frame.specs.Choice.{pick}
 use Rattle.groups.specs.Format.{sizeOf, sizesOf, valueOf, bytesOf, fieldsOf, groupOf, groupFrom, bytesFor, kindsFor, kindsOf, listed, values, allAllowed, allFiller}
 use Rattle.groups.specs.Reading.{judged, readRow, readBy, readOf}
 use Rattle.groups.specs.Table.{kindLines, kindFrom, noField, kindAt, rowFrom, findIn, findOf}

@@ -11,7 +11,7 @@ use borrow.Author.Tests.{eq-eqb, le-leb, leb-true, eqb-true}
 use lib.Dec.{eqb, leb}
 use lib.ListN.{length, getD, drop}
 use Rattle.groups.specs.Answer.{Answer, given, refused}
-use Rattle.groups.specs.Choice.{pick}
+use Rattle.frame.specs.Choice.{pick}
 use Rattle.groups.specs.Format.{kindsFor, kindsOf, values, allowed, allAllowed, groupFrom, bytesFor, allFiller}
 use Rattle.groups.specs.Reading.{judged, readRow, readBy, readOf}
 use Rattle.groups.specs.Table.{kindLines, groupLines, rowFrom, kindAt, findOf}

@@ -10,7 +10,7 @@ use borrow.Author.Tests.{ltb-true, leb-true, eqb-true}
 use lib.Dec.{eqb, leb, ltb}
 use lib.ListN.{getD}
 use Rattle.groups.specs.Answer.{given, toldFinding}
-use Rattle.groups.specs.Choice.{pick}
+use Rattle.frame.specs.Choice.{pick}
 use Rattle.groups.specs.Format.{sizesOf, kindsFor, kindsOf, allowed, allAllowed}
 use Rattle.groups.specs.Table.{kindLines, groupLines, kindFrom, rowFrom, noField, kindAt, findIn, findOf}
 use Rattle.groups.specs.declared.Finding.{Finding}

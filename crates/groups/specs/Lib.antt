@@ -1,4 +1,3 @@
-pub mod Choice
 pub mod Answer
 pub mod Table
 pub mod Format

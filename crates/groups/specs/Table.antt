@@ -6,7 +6,7 @@ use mathlib.Core.List.{List, [], _∷_}
 use lib.Dec.{eqb}
 use lib.ListN.{getD}
 use Rattle.groups.specs.Answer.{Answer, given, refused}
-use Rattle.groups.specs.Choice.{pick}
+use Rattle.frame.specs.Choice.{pick}
 use Rattle.groups.specs.declared.Kind.{Kind}
 use Rattle.groups.specs.declared.KindLine.{KindLine}
 use Rattle.groups.specs.declared.GroupLine.{GroupLine}

@@ -4,7 +4,7 @@ use mathlib.Core.List.{List}
 use lib.Dec.{eqb}
 use lib.ListN.{length}
 use Rattle.groups.specs.Answer.{Answer, given, refused}
-use Rattle.groups.specs.Choice.{pick}
+use Rattle.frame.specs.Choice.{pick}
 use Rattle.groups.specs.Format.{kindsOf, values, allAllowed, bytesFor}
 use Rattle.groups.specs.Table.{findOf}
 use Rattle.groups.specs.declared.Group.{Group}

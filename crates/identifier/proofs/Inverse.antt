@@ -5,7 +5,7 @@ use Prim.Native.Nat.{ℕ, _+_, _*_, _/_, _%_}
 use mathlib.Core.Path.{_≡_, refl, sym, ap, _∙_, subst}
 use mathlib.Core.Bool.{Bool, true, false}
 use native.Mathlib.Omega.{arith}
-use Rattle.identifier.specs.Choice.{pick}
+use Rattle.frame.specs.Choice.{pick}
 use Rattle.identifier.specs.Identifier.{numberOf, partsOf, fitsOf, Within}
 use Rattle.identifier.specs.Answer.{Answer, given, refused, toldJoined, toldParted, joinOf, partOf}
 use Rattle.identifier.specs.Named.{chargerVersionParts, vehicleVersionParts, chargerVersion, vehicleVersion}

@@ -6,7 +6,7 @@ use mathlib.Core.Bool.{Bool, true, false, _&&_, and-eq-true-iff, and-true}
 use native.Mathlib.Omega.{arith}
 use borrow.Author.Tests.{ltb-true, ltb-false, eqb-true, lt-ltb, le-ltb, eq-eqb}
 use lib.Dec.{eqb, ltb}
-use Rattle.identifier.specs.Choice.{pick}
+use Rattle.frame.specs.Choice.{pick}
 use Rattle.identifier.specs.Identifier.{numberOf, partsOf, fitsOf, Within}
 use Rattle.identifier.specs.Answer.{given, refused, joinOf, partOf}
 use Rattle.identifier.specs.declared.Parts.{Parts}

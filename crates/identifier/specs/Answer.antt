@@ -2,7 +2,7 @@
 use Prim.Native.Nat.{ℕ}
 use mathlib.Core.Bool.{_&&_}
 use lib.Dec.{eqb, ltb}
-use Rattle.identifier.specs.Choice.{pick}
+use Rattle.frame.specs.Choice.{pick}
 use Rattle.identifier.specs.Identifier.{numberOf, partsOf, fitsOf}
 use Rattle.identifier.specs.declared.Parts.{Parts}
 use Rattle.identifier.specs.declared.Joined.{Joined}

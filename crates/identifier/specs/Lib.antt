@@ -1,4 +1,3 @@
-pub mod Choice
 pub mod Identifier
 pub mod Answer
 pub mod Named
