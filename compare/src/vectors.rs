@@ -226,12 +226,12 @@ fn long(numbers: &[u32]) -> String {
         .collect()
 }
 
-fn number([major, minor, temporary]: Version) -> u32 {
+pub fn number([major, minor, temporary]: Version) -> u32 {
     u32::from_be_bytes([0, major, minor, temporary])
 }
 
 /// Tables 4 and 5: P 0x03, EDP 0, DP 0.
-fn version_message((pf, ps, sa): (u32, u8, u8)) -> u32 {
+pub fn version_message((pf, ps, sa): (u32, u8, u8)) -> u32 {
     let parts = Parts {
         p: 3,
         edp: 0,
@@ -268,7 +268,7 @@ fn told_message(outcome: Outcome, version: Version, pilot: u8) -> String {
 }
 
 /// A group's fields as they stand in its bytes, 0 where it has none.
-fn raw(group: Group) -> [u16; 4] {
+pub fn raw(group: Group) -> [u16; 4] {
     match group {
         Group::ChargerReady { ready } => [ready.into(), 0, 0, 0],
         Group::VehicleReady { ready, voltage } => [ready.into(), voltage, 0, 0],
@@ -313,7 +313,7 @@ fn temperature(reading: Reading<i16>) -> u16 {
 
 /// Writes raw values. Values that no group of this code holds (a byte over 255, a field that it does not have) are refused
 /// as values, after length and code.
-fn write(code: u8, values: [u16; 4], lent: &mut [u8]) -> Result<(), Refused> {
+pub fn write(code: u8, values: [u16; 4], lent: &mut [u8]) -> Result<(), Refused> {
     if lent.len() != 8 || groups::row_of(code).is_none() {
         return Err(refusal::GROUP);
     }
@@ -374,7 +374,7 @@ fn temperature_of(value: u8) -> Reading<i16> {
 }
 
 /// The list in lent bytes; bytes that are no whole number of versions are no list.
-fn versions(lent: &[u8]) -> Result<Vec<Version>, Refused> {
+pub fn versions(lent: &[u8]) -> Result<Vec<Version>, Refused> {
     let (whole, left) = lent.as_chunks::<3>();
     version::check_list(whole)?;
     if left.is_empty() {

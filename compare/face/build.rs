@@ -1,0 +1,22 @@
+//! Links the proved code, which `rt staticlib bench_face` writes.
+
+use std::env;
+use std::path::Path;
+
+fn main() {
+    println!("cargo::rerun-if-changed=build.rs");
+    if env::var_os("CARGO_FEATURE_PROVED").is_none() {
+        return;
+    }
+    let package = env::var("CARGO_MANIFEST_DIR").expect("cargo names the package's folder");
+    let folder = Path::new(&package).join("../../target/staticlib");
+    let library = folder.join("libbench_face.a");
+    println!("cargo::rerun-if-changed={}", library.display());
+    if !library.exists() {
+        println!("cargo::error=target/staticlib/libbench_face.a is missing: run `rt staticlib bench_face` in the");
+        println!("cargo::error=repository first (or, to go without the proved code, cargo with --no-default-features)");
+        return;
+    }
+    println!("cargo::rustc-link-search=native={}", folder.display());
+    println!("cargo::rustc-link-lib=static=bench_face");
+}

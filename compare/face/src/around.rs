@@ -1,0 +1,339 @@
+//! The reference's identifiers, version talk and parameter groups over plain values.
+//!
+//! Two things are kept otherwise. The reference's talker leaves the ticks of a closed timer where they stood and goes on
+//! counting the limit in the vehicle's S3, where nothing comes of it; a flat talker has 0 there. The kinds of a group's
+//! fields stand in no table of the reference, so `KINDS` has them, by 001 tables H.3 to H.11.
+
+use compare::reference::groups::row_of;
+use compare::reference::identifier::{self, Parts, EVCC, SECC};
+use compare::reference::version::{self, Message, Outcome, Side, State, Talker, Version};
+use compare::reference::{refusal, Refused};
+use compare::vectors::{number, raw, version_message, versions, write};
+
+use crate::interface::Around;
+use crate::values::*;
+use crate::Reference;
+
+/// For codes 0x71 to 0x79 the kinds of their fields: 1 ready, 2 voltage, 3 current, 4 mode, 5 state of charge, 6 minutes,
+/// 7 reason, 8 a cell's voltage, 9 temperature, 10 pause, 0 no field.
+const KINDS: [[usize; 4]; 9] = [
+    [1, 0, 0, 0],
+    [1, 2, 0, 0],
+    [2, 3, 4, 0],
+    [5, 6, 0, 0],
+    [3, 7, 0, 0],
+    [2, 3, 0, 0],
+    [8, 8, 9, 9],
+    [10, 0, 0, 0],
+    [10, 0, 0, 0],
+];
+
+impl Around for Reference {
+    fn identifier_join(&self, parts: FlatParts) -> FlatJoined {
+        let FlatParts {
+            p,
+            edp,
+            dp,
+            pf,
+            ps,
+            sa,
+        } = parts;
+        let joined = identifier::build(Parts {
+            p,
+            edp,
+            dp,
+            pf,
+            ps,
+            sa,
+        });
+        let (outcome, refusal, identifier) = told(joined);
+        FlatJoined {
+            outcome,
+            refusal,
+            identifier,
+        }
+    }
+
+    fn identifier_part(&self, identifier: u32) -> FlatParted {
+        let (outcome, refusal, parts) = told(identifier::read(identifier).map(flat_parts));
+        FlatParted {
+            outcome,
+            refusal,
+            parts,
+        }
+    }
+
+    fn charger_address(&self) -> u32 {
+        SECC.into()
+    }
+
+    fn vehicle_address(&self) -> u32 {
+        EVCC.into()
+    }
+
+    fn charger_version(&self) -> u32 {
+        version_message((0x38, EVCC, SECC))
+    }
+
+    fn vehicle_version(&self) -> u32 {
+        version_message((0x36, SECC, EVCC))
+    }
+
+    fn version_list(&self, bytes: &[u8]) -> FlatListing {
+        let listed = versions(bytes).map(|list| flat_versions(&list));
+        let (outcome, refusal, versions) = told(listed);
+        FlatListing {
+            outcome,
+            refusal,
+            versions,
+        }
+    }
+
+    fn version_message_write(&self, message: FlatMessage) -> FlatBytes {
+        let said = Message {
+            outcome: verdict_of(message.verdict),
+            version: version_of(message.version),
+        };
+        let bytes = version::build(said, message.control);
+        FlatBytes { bytes }
+    }
+
+    fn version_message_read(&self, bytes: FlatBytes) -> FlatMessageReading {
+        let read = version::read(bytes.bytes).map(|message| FlatMessage {
+            verdict: message.outcome.number(),
+            version: number(message.version),
+            control: bytes.bytes[5],
+        });
+        let (outcome, refusal, message) = told(read);
+        FlatMessageReading {
+            outcome,
+            refusal,
+            message,
+        }
+    }
+
+    /// Of a list that listing answered: a reference's talker is made of no other.
+    fn talker_make(&self, side: u8, versions: FlatVersions, control: u8) -> FlatTalker {
+        let list = list_of(versions);
+        let made = Talker::make(side_of(side), &list, control);
+        flat_talker(&made.expect("a list that was accepted"))
+    }
+
+    fn talker_connect(&self, talker: FlatTalker) -> FlatAnswer {
+        called(talker, |end| Ok(end.connect()))
+    }
+
+    fn talker_tick(&self, talker: FlatTalker) -> FlatAnswer {
+        called(talker, |end| Ok(end.tick()))
+    }
+
+    fn talker_hear(&self, talker: FlatTalker, bytes: FlatBytes) -> FlatAnswer {
+        called(talker, |end| end.hear(bytes.bytes))
+    }
+
+    fn talker_stop(&self, talker: FlatTalker) -> FlatAnswer {
+        called(talker, |end| {
+            end.fault();
+            Ok(None)
+        })
+    }
+
+    fn talker_greet(&self, talker: FlatTalker) -> FlatAnswer {
+        called(talker, |end| Ok(end.chm()))
+    }
+
+    fn talker_functions_heard(&self, talker: FlatTalker) -> FlatAnswer {
+        called(talker, |end| {
+            end.functions();
+            Ok(None)
+        })
+    }
+
+    fn group_read(&self, bytes: &[u8]) -> FlatGroupReading {
+        let read = compare::reference::groups::read(bytes).map(|group| {
+            let [first, second, third, fourth] = raw(group);
+            FlatGroup {
+                code: group.code(),
+                first,
+                second,
+                third,
+                fourth,
+            }
+        });
+        let (outcome, refusal, group) = told(read);
+        FlatGroupReading {
+            outcome,
+            refusal,
+            group,
+        }
+    }
+
+    fn group_write(&self, group: FlatGroup, bytes: &mut [u8]) -> FlatGroupWriting {
+        let values = [group.first, group.second, group.third, group.fourth];
+        let (outcome, refusal, ()) = told(write(group.code, values, bytes));
+        FlatGroupWriting { outcome, refusal }
+    }
+
+    fn group_find(&self, code: u8) -> FlatFinding {
+        let (outcome, refusal, row) = told(row_of(code).map(flat_row).ok_or(refusal::GROUP));
+        FlatFinding {
+            outcome,
+            refusal,
+            row,
+        }
+    }
+}
+
+/// Outcome, refusal and value; what is not named is 0.
+fn told<T: Default>(answer: Result<T, Refused>) -> (u8, u8, T) {
+    match answer {
+        Ok(value) => (0, 0, value),
+        Err(Refused(number)) => (1, number, T::default()),
+    }
+}
+
+fn flat_parts(parts: Parts) -> FlatParts {
+    FlatParts {
+        p: parts.p,
+        edp: parts.edp,
+        dp: parts.dp,
+        pf: parts.pf,
+        ps: parts.ps,
+        sa: parts.sa,
+    }
+}
+
+fn flat_row(row: compare::reference::groups::Row) -> FlatRow {
+    let [first, second, third, fourth] = KINDS[usize::from(row.code - 0x71)];
+    FlatRow {
+        code: row.code,
+        length: row.length,
+        sender: row.from_vehicle.into(),
+        reliable: row.reliable,
+        first,
+        second,
+        third,
+        fourth,
+    }
+}
+
+/// Main, minor and temporary number, the lowest three bytes.
+fn version_of(number: u32) -> Version {
+    let [_, main, minor, temporary] = number.to_be_bytes();
+    [main, minor, temporary]
+}
+
+fn list_of(versions: FlatVersions) -> Vec<Version> {
+    let standing = versions.numbers.iter().take(usize::from(versions.count));
+    standing.map(|&number| version_of(number)).collect()
+}
+
+fn flat_versions(list: &[Version]) -> FlatVersions {
+    let mut numbers = [0; 8];
+    for (place, &version) in numbers.iter_mut().zip(list) {
+        *place = number(version);
+    }
+    FlatVersions {
+        count: list.len() as u8,
+        numbers,
+    }
+}
+
+fn side_of(number: u8) -> Side {
+    match number {
+        1 => Side::Vehicle,
+        _ => Side::Charger,
+    }
+}
+
+fn verdict_of(number: u8) -> Outcome {
+    match number {
+        1 => Outcome::Success,
+        2 => Outcome::Failure,
+        _ => Outcome::Continue,
+    }
+}
+
+fn state_of(number: u8) -> State {
+    match number {
+        1 => State::S1,
+        2 => State::S2,
+        3 => State::S3,
+        4 => State::S4,
+        5 => State::S5,
+        _ => State::S0,
+    }
+}
+
+fn state_number(state: State) -> u8 {
+    match state {
+        State::S0 => 0,
+        State::S1 => 1,
+        State::S2 => 2,
+        State::S3 => 3,
+        State::S4 => 4,
+        State::S5 => 5,
+    }
+}
+
+/// In S1 the timers are open; in the vehicle's S3 `timing` says whether they are.
+fn talker_of(flat: FlatTalker) -> Talker {
+    let state = state_of(flat.state);
+    Talker {
+        side: side_of(flat.side),
+        versions: list_of(flat.versions),
+        pilot: flat.control,
+        state,
+        ns: flat.place.into(),
+        outcome: verdict_of(flat.verdict),
+        period: flat.period,
+        limit: flat.age,
+        timers: state == State::S1 || flat.timing,
+    }
+}
+
+/// The limit counts in S1 alone, the period there and in S3 while its timers are open.
+fn flat_talker(end: &Talker) -> FlatTalker {
+    let talking = end.state == State::S1;
+    let timing = end.state == State::S3 && end.timers;
+    FlatTalker {
+        side: (end.side == Side::Vehicle).into(),
+        versions: flat_versions(&end.versions),
+        control: end.pilot,
+        state: state_number(end.state),
+        place: end.ns as u8,
+        verdict: end.outcome.number(),
+        period: if talking || timing { end.period } else { 0 },
+        age: if talking { end.limit } else { 0 },
+        timing,
+    }
+}
+
+/// A call of a talker. Its report is the state entered: S2 and S3 agreed, S4 failed, S5 left.
+fn called(
+    talker: FlatTalker,
+    call: impl Fn(&mut Talker) -> Result<Option<[u8; 8]>, Refused>,
+) -> FlatAnswer {
+    let mut end = talker_of(talker);
+    let before = end.state;
+    let (said, refused) = match call(&mut end) {
+        Ok(said) => (said, None),
+        Err(Refused(number)) => (None, Some(number)),
+    };
+    let (outcome, version) = match end.state {
+        _ if refused.is_some() => (1, 0),
+        after if after == before => (0, 0),
+        State::S2 | State::S3 => (2, number(end.at_ns())),
+        State::S4 => (3, 0),
+        State::S5 => (4, 0),
+        State::S0 | State::S1 => (0, 0),
+    };
+    FlatAnswer {
+        next: flat_talker(&end),
+        emits: said.is_some(),
+        bytes: said.unwrap_or_default(),
+        outcome,
+        refusal: refused.unwrap_or(0),
+        version,
+    }
+}

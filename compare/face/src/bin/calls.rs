@@ -1,0 +1,73 @@
+//! Makes random calls on the proved code and on the reference, and compares all that they answer.
+//! Exit status: 0 all alike, 1 a difference, 2 bad usage.
+
+use std::process::ExitCode;
+use std::time::Instant;
+
+use face::call::{Tally, NAMES};
+use face::differences::first_difference;
+use face::ffi::Proved;
+use face::Reference;
+
+const USAGE: &str = "usage: calls [--count N] [--seed S]
+    --count N   how many calls, at least (default 10000000)
+    --seed S    the first case's seed (default 1)";
+
+struct Options {
+    count: u64,
+    seed: u64,
+}
+
+fn options(mut words: impl Iterator<Item = String>) -> Option<Options> {
+    let mut options = Options {
+        count: 10_000_000,
+        seed: 1,
+    };
+    while let Some(name) = words.next() {
+        let value = words.next()?;
+        match name.as_str() {
+            "--count" => options.count = value.parse().ok()?,
+            "--seed" => options.seed = value.parse().ok()?,
+            _ => return None,
+        }
+    }
+    Some(options)
+}
+
+/// A line for each function: calls, and answers by outcome.
+fn print(tally: &Tally) {
+    for (place, name) in NAMES.iter().enumerate() {
+        let outcomes: Vec<String> = tally.outcomes[place]
+            .iter()
+            .enumerate()
+            .filter(|(_, &count)| count > 0)
+            .map(|(outcome, count)| format!("{outcome}: {count}"))
+            .collect();
+        println!(
+            "calls: kospelna_{name:22} {:9}   by outcome {}",
+            tally.calls[place],
+            outcomes.join(", ")
+        );
+    }
+}
+
+fn main() -> ExitCode {
+    let Some(options) = options(std::env::args().skip(1)) else {
+        eprintln!("{USAGE}");
+        return ExitCode::from(2);
+    };
+    let start = Instant::now();
+    let (tally, difference) = first_difference(&Proved, &Reference, options.seed, options.count);
+    if let Some(difference) = difference {
+        print!("{difference}");
+        return ExitCode::from(1);
+    }
+    print(&tally);
+    println!(
+        "calls: {} calls from seed {} alike, in {:.1} s",
+        tally.total(),
+        options.seed,
+        start.elapsed().as_secs_f64()
+    );
+    ExitCode::SUCCESS
+}

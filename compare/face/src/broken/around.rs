@@ -1,0 +1,335 @@
+//! Mistakes in identifiers, version talk and parameter groups.
+
+use super::Mistake;
+use crate::interface::Around;
+use crate::values::*;
+use crate::Reference;
+
+pub const MISTAKES: &[(&str, Mistake)] = &[
+    ("PF and PS swapped in joining", Mistake::Join(pf_ps_swapped)),
+    ("P of four bits", Mistake::Join(p_of_4_bits)),
+    (
+        "PF and PS swapped in parting",
+        Mistake::Part(parted_swapped),
+    ),
+    ("DP is not judged", Mistake::Part(dp_unjudged)),
+    ("30 bits are taken", Mistake::Part(thirty_bits)),
+    (
+        "the addresses swapped",
+        Mistake::Named(|[a, b, c, d]| [b, a, c, d]),
+    ),
+    (
+        "the version messages swapped",
+        Mistake::Named(|[a, b, c, d]| [a, b, d, c]),
+    ),
+    ("a list of nine is taken", Mistake::List(nine)),
+    ("equal versions are taken", Mistake::List(equal)),
+    (
+        "a list is counted modulo 256",
+        Mistake::List(counted_modulo),
+    ),
+    (
+        "a failure names the own version",
+        Mistake::MessageWrite(failure_names),
+    ),
+    (
+        "the control byte in the transport's place",
+        Mistake::MessageWrite(control_moved),
+    ),
+    ("result 3 is read", Mistake::MessageRead(result_3)),
+    ("CAN type 1 is read", Mistake::MessageRead(can_1)),
+    ("made at the lowest version", Mistake::TalkerMake(at_lowest)),
+    (
+        "connect says success",
+        Mistake::TalkerConnect(connect_success),
+    ),
+    ("a period of 49", Mistake::TalkerTick(period_49)),
+    (
+        "the period before the limit",
+        Mistake::TalkerTick(period_first),
+    ),
+    ("the limit a tick late", Mistake::TalkerTick(limit_late)),
+    ("the vehicle's S3 is silent", Mistake::TalkerTick(s3_silent)),
+    ("2.0.0 ends in S2", Mistake::TalkerHear(two_in_s2)),
+    (
+        "a hearing restarts the period",
+        Mistake::TalkerHear(hearing_restarts),
+    ),
+    (
+        "success with another version is passed over",
+        Mistake::TalkerHear(not_resumed),
+    ),
+    ("none lower stays", Mistake::TalkerHear(none_lower)),
+    (
+        "stop is reported as a failure",
+        Mistake::TalkerStop(stop_fails),
+    ),
+    (
+        "the charger takes the greeting",
+        Mistake::TalkerGreet(charger_greeted),
+    ),
+    (
+        "functions heard keep the timers",
+        Mistake::TalkerFunctionsHeard(timers_kept),
+    ),
+    (
+        "a state of charge of 1001 is read",
+        Mistake::GroupRead(charge_1001),
+    ),
+    ("0xFFFE is refused in 77", Mistake::GroupRead(mark_refused)),
+    (
+        "a temperature of 251 is read",
+        Mistake::GroupRead(temperature_251),
+    ),
+    ("10 before 9", Mistake::GroupRead(value_first)),
+    ("nine bytes are read", Mistake::GroupRead(nine_bytes)),
+    (
+        "a voltage of 65001 is written",
+        Mistake::GroupWrite(voltage_65001),
+    ),
+    ("mode 0 is written", Mistake::GroupWrite(mode_0)),
+    ("a byte over 255 is cut", Mistake::GroupWrite(byte_cut)),
+    (
+        "a refused write leaves the code",
+        Mistake::GroupWrite(refused_writes),
+    ),
+    ("78 is not reliable", Mistake::GroupFind(unreliable)),
+];
+
+fn pf_ps_swapped(parts: FlatParts, joined: &mut FlatJoined) {
+    let (pf, ps) = (parts.ps, parts.pf);
+    *joined = Reference.identifier_join(FlatParts { pf, ps, ..parts });
+}
+
+fn p_of_4_bits(parts: FlatParts, joined: &mut FlatJoined) {
+    if parts.p == 8 {
+        *joined = Reference.identifier_join(FlatParts { p: 0, ..parts });
+    }
+}
+
+fn parted_swapped(_: u32, parted: &mut FlatParted) {
+    std::mem::swap(&mut parted.parts.pf, &mut parted.parts.ps);
+}
+
+fn dp_unjudged(identifier: u32, parted: &mut FlatParted) {
+    if identifier >> 24 & 1 == 1 {
+        *parted = Reference.identifier_part(identifier & !(1 << 24));
+    }
+}
+
+fn thirty_bits(identifier: u32, parted: &mut FlatParted) {
+    if identifier >> 29 == 1 {
+        *parted = Reference.identifier_part(identifier & 0x1FFF_FFFF);
+    }
+}
+
+fn nine(bytes: &[u8], listing: &mut FlatListing) {
+    if bytes.len() == 27 {
+        *listing = Reference.version_list(&bytes[..24]);
+    }
+}
+
+fn equal(bytes: &[u8], listing: &mut FlatListing) {
+    if bytes.len() == 6 && bytes[..3] == bytes[3..] {
+        *listing = Reference.version_list(&bytes[..3]);
+    }
+}
+
+fn counted_modulo(bytes: &[u8], listing: &mut FlatListing) {
+    if bytes.len() > 768 {
+        *listing = Reference.version_list(&bytes[..bytes.len() - 768]);
+    }
+}
+
+fn failure_names(message: FlatMessage, bytes: &mut FlatBytes) {
+    if message.verdict == 2 {
+        let [_, main, minor, temporary] = message.version.to_be_bytes();
+        bytes.bytes[2..5].copy_from_slice(&[main, minor, temporary]);
+    }
+}
+
+fn control_moved(_: FlatMessage, bytes: &mut FlatBytes) {
+    bytes.bytes.swap(5, 6);
+}
+
+fn result_3(bytes: FlatBytes, reading: &mut FlatMessageReading) {
+    if bytes.bytes[1] == 3 {
+        (reading.outcome, reading.refusal) = (0, 0);
+    }
+}
+
+fn can_1(bytes: FlatBytes, reading: &mut FlatMessageReading) {
+    let mut other = bytes;
+    if bytes.bytes[0] == 1 {
+        other.bytes[0] = 0;
+        *reading = Reference.version_message_read(other);
+    }
+}
+
+fn at_lowest(talker: &mut FlatTalker) {
+    talker.place = 0;
+}
+
+fn connect_success(_: FlatTalker, a: &mut FlatAnswer) {
+    if a.emits {
+        (a.next.verdict, a.bytes[1]) = (1, 1);
+    }
+}
+
+fn period_49(t: FlatTalker, a: &mut FlatAnswer) {
+    if t.state == 1 && t.period == 48 && a.outcome == 0 {
+        *a = Reference.talker_tick(FlatTalker { period: 49, ..t });
+    }
+}
+
+fn period_first(t: FlatTalker, a: &mut FlatAnswer) {
+    if t.state == 1 && t.period == 49 && a.outcome == 3 {
+        *a = Reference.talker_tick(FlatTalker { age: 0, ..t });
+    }
+}
+
+fn limit_late(t: FlatTalker, a: &mut FlatAnswer) {
+    if t.state == 1 && t.age == 14999 {
+        *a = Reference.talker_tick(FlatTalker { age: 14998, ..t });
+        a.next.age = 15000;
+    }
+}
+
+fn s3_silent(t: FlatTalker, a: &mut FlatAnswer) {
+    if t.state == 3 {
+        (a.emits, a.bytes) = (false, [0; 8]);
+    }
+}
+
+fn two_in_s2(_: FlatTalker, _: FlatBytes, a: &mut FlatAnswer) {
+    if a.version == 0x020000 {
+        (a.next.state, a.next.timing) = (2, false);
+    }
+}
+
+fn hearing_restarts(t: FlatTalker, _: FlatBytes, a: &mut FlatAnswer) {
+    if t.state == 1 && a.outcome == 0 {
+        a.next.period = 0;
+    }
+}
+
+fn not_resumed(t: FlatTalker, bytes: FlatBytes, a: &mut FlatAnswer) {
+    if t.state == 1 && t.verdict == 1 && bytes.bytes[1] == 1 && a.outcome == 0 {
+        a.next.verdict = 1;
+    }
+}
+
+fn none_lower(t: FlatTalker, bytes: FlatBytes, a: &mut FlatAnswer) {
+    if bytes.bytes[1] == 0 && a.outcome == 3 {
+        (a.next, a.emits, a.bytes, a.outcome) = (t, false, [0; 8], 0);
+    }
+}
+
+fn stop_fails(_: FlatTalker, a: &mut FlatAnswer) {
+    if a.outcome == 4 {
+        a.outcome = 3;
+    }
+}
+
+fn charger_greeted(t: FlatTalker, a: &mut FlatAnswer) {
+    if t.side == 0 {
+        *a = Reference.talker_greet(FlatTalker { side: 1, ..t });
+        a.next.side = 0;
+    }
+}
+
+fn timers_kept(t: FlatTalker, a: &mut FlatAnswer) {
+    a.next = FlatTalker {
+        timing: t.timing,
+        period: a.next.period,
+        ..a.next
+    };
+}
+
+/// Reads these bytes instead, if they are eight of this code.
+fn instead(bytes: &[u8], code: u8, change: &dyn Fn(&mut [u8])) -> Option<FlatGroupReading> {
+    if bytes.len() != 8 || bytes[0] != code {
+        return None;
+    }
+    let mut changed = bytes.to_vec();
+    change(&mut changed);
+    (changed != bytes).then(|| Reference.group_read(&changed))
+}
+
+fn charge_1001(bytes: &[u8], reading: &mut FlatGroupReading) {
+    let put = |changed: &mut [u8]| {
+        if changed[1..3] == 1001u16.to_le_bytes() {
+            changed[1..3].copy_from_slice(&1000u16.to_le_bytes());
+        }
+    };
+    if let Some(taken) = instead(bytes, 0x74, &put) {
+        *reading = taken;
+    }
+}
+
+fn mark_refused(bytes: &[u8], reading: &mut FlatGroupReading) {
+    let marked = reading.group.code == 0x77 && reading.group.first == 0xFFFE;
+    if bytes.len() == 8 && marked {
+        (reading.outcome, reading.refusal) = (1, 10);
+        reading.group = FlatGroup::default();
+    }
+}
+
+fn temperature_251(bytes: &[u8], reading: &mut FlatGroupReading) {
+    let put = |changed: &mut [u8]| {
+        if changed[5] == 251 {
+            changed[5] = 250;
+        }
+    };
+    if let Some(taken) = instead(bytes, 0x77, &put) {
+        *reading = taken;
+    }
+}
+
+fn value_first(bytes: &[u8], reading: &mut FlatGroupReading) {
+    let put = |changed: &mut [u8]| changed[2..].fill(0xFF);
+    if let (Some(taken), 9) = (instead(bytes, 0x71, &put), reading.refusal) {
+        if taken.refusal == 10 {
+            *reading = taken;
+        }
+    }
+}
+
+fn nine_bytes(bytes: &[u8], reading: &mut FlatGroupReading) {
+    if bytes.len() == 9 {
+        *reading = Reference.group_read(&bytes[..8]);
+    }
+}
+
+fn voltage_65001(group: FlatGroup, bytes: &mut [u8], done: &mut FlatGroupWriting) {
+    if group.code == 0x76 && group.first == 65001 {
+        let first = 65000;
+        *done = Reference.group_write(FlatGroup { first, ..group }, bytes);
+    }
+}
+
+fn mode_0(group: FlatGroup, bytes: &mut [u8], done: &mut FlatGroupWriting) {
+    if group.code == 0x73 && group.third == 0 {
+        let third = 1;
+        *done = Reference.group_write(FlatGroup { third, ..group }, bytes);
+    }
+}
+
+fn byte_cut(group: FlatGroup, bytes: &mut [u8], done: &mut FlatGroupWriting) {
+    if group.code == 0x71 && group.first > 255 {
+        let first = group.first % 256;
+        *done = Reference.group_write(FlatGroup { first, ..group }, bytes);
+    }
+}
+
+fn refused_writes(group: FlatGroup, bytes: &mut [u8], done: &mut FlatGroupWriting) {
+    if done.refusal == 10 {
+        bytes[0] = group.code;
+    }
+}
+
+fn unreliable(code: u8, finding: &mut FlatFinding) {
+    if code == 0x78 {
+        finding.row.reliable = false;
+    }
+}

@@ -1,0 +1,217 @@
+//! References with one mistake each, to test that the comparison catches it.
+
+mod around;
+mod ends;
+
+use crate::interface::{Around, Ends};
+use crate::values::*;
+use crate::Reference;
+
+/// Where the mistake is: what is made of the right answer to a call, with what the call was given.
+#[derive(Clone, Copy)]
+pub enum Mistake {
+    SenderMake(fn([u16; 3], &mut SenderMade)),
+    SenderBegin(fn(FlatSender, &[u8], &mut SenderAnswer)),
+    SenderPost(fn(FlatSender, &[u8], &mut SenderAnswer)),
+    SenderTick(fn(FlatSender, &[u8], &mut SenderAnswer)),
+    SenderHear(fn(FlatSender, FlatFrame, &mut SenderAnswer)),
+    ReceiverMake(fn([u16; 3], &mut ReceiverMade)),
+    ReceiverTick(fn(FlatReceiver, &mut ReceiverAnswer)),
+    ReceiverHear(fn(FlatReceiver, FlatFrame, &mut [u8], &mut ReceiverAnswer)),
+    Join(fn(FlatParts, &mut FlatJoined)),
+    Part(fn(u32, &mut FlatParted)),
+    /// Of the four named numbers, in the order of the face.
+    Named(fn([u32; 4]) -> [u32; 4]),
+    List(fn(&[u8], &mut FlatListing)),
+    MessageWrite(fn(FlatMessage, &mut FlatBytes)),
+    MessageRead(fn(FlatBytes, &mut FlatMessageReading)),
+    TalkerMake(fn(&mut FlatTalker)),
+    TalkerConnect(fn(FlatTalker, &mut FlatAnswer)),
+    TalkerTick(fn(FlatTalker, &mut FlatAnswer)),
+    TalkerHear(fn(FlatTalker, FlatBytes, &mut FlatAnswer)),
+    TalkerStop(fn(FlatTalker, &mut FlatAnswer)),
+    TalkerGreet(fn(FlatTalker, &mut FlatAnswer)),
+    TalkerFunctionsHeard(fn(FlatTalker, &mut FlatAnswer)),
+    GroupRead(fn(&[u8], &mut FlatGroupReading)),
+    GroupWrite(fn(FlatGroup, &mut [u8], &mut FlatGroupWriting)),
+    GroupFind(fn(u8, &mut FlatFinding)),
+}
+
+/// A reference with this mistake.
+pub struct Broken(pub Mistake);
+
+/// Every mistake, by its name.
+pub fn mistakes() -> Vec<(&'static str, Mistake)> {
+    [ends::MISTAKES, around::MISTAKES].concat()
+}
+
+/// The right answer, changed by the mistake where it is one of this call.
+macro_rules! answered {
+    ($self:ident, $right:expr, $case:ident, $($given:expr),*) => {{
+        let mut answer = $right;
+        if let Mistake::$case(spoil) = $self.0 {
+            spoil($($given,)* &mut answer);
+        }
+        answer
+    }};
+}
+
+impl Ends for Broken {
+    fn sender_make(&self, gap: u16, timeout: u16, limit: u16) -> SenderMade {
+        let right = Reference.sender_make(gap, timeout, limit);
+        answered!(self, right, SenderMake, [gap, timeout, limit])
+    }
+
+    fn sender_begin(&self, sender: FlatSender, message: &[u8]) -> SenderAnswer {
+        let right = Reference.sender_begin(sender, message);
+        answered!(self, right, SenderBegin, sender, message)
+    }
+
+    fn sender_post(&self, sender: FlatSender, message: &[u8]) -> SenderAnswer {
+        let right = Reference.sender_post(sender, message);
+        answered!(self, right, SenderPost, sender, message)
+    }
+
+    fn sender_tick(&self, sender: FlatSender, message: &[u8]) -> SenderAnswer {
+        let right = Reference.sender_tick(sender, message);
+        answered!(self, right, SenderTick, sender, message)
+    }
+
+    fn sender_hear(&self, sender: FlatSender, frame: FlatFrame) -> SenderAnswer {
+        let right = Reference.sender_hear(sender, frame);
+        answered!(self, right, SenderHear, sender, frame)
+    }
+
+    fn receiver_make(&self, timeout: u16, window: u16, capacity: u16) -> ReceiverMade {
+        let right = Reference.receiver_make(timeout, window, capacity);
+        answered!(self, right, ReceiverMake, [timeout, window, capacity])
+    }
+
+    fn receiver_tick(&self, receiver: FlatReceiver) -> ReceiverAnswer {
+        answered!(
+            self,
+            Reference.receiver_tick(receiver),
+            ReceiverTick,
+            receiver
+        )
+    }
+
+    fn receiver_hear(
+        &self,
+        receiver: FlatReceiver,
+        frame: FlatFrame,
+        buffer: &mut [u8],
+    ) -> ReceiverAnswer {
+        let right = Reference.receiver_hear(receiver, frame, buffer);
+        answered!(self, right, ReceiverHear, receiver, frame, buffer)
+    }
+}
+
+impl Broken {
+    fn named(&self) -> [u32; 4] {
+        let right = [
+            Reference.charger_address(),
+            Reference.vehicle_address(),
+            Reference.charger_version(),
+            Reference.vehicle_version(),
+        ];
+        match self.0 {
+            Mistake::Named(spoil) => spoil(right),
+            _ => right,
+        }
+    }
+}
+
+impl Around for Broken {
+    fn identifier_join(&self, parts: FlatParts) -> FlatJoined {
+        answered!(self, Reference.identifier_join(parts), Join, parts)
+    }
+
+    fn identifier_part(&self, identifier: u32) -> FlatParted {
+        answered!(
+            self,
+            Reference.identifier_part(identifier),
+            Part,
+            identifier
+        )
+    }
+
+    fn charger_address(&self) -> u32 {
+        self.named()[0]
+    }
+
+    fn vehicle_address(&self) -> u32 {
+        self.named()[1]
+    }
+
+    fn charger_version(&self) -> u32 {
+        self.named()[2]
+    }
+
+    fn vehicle_version(&self) -> u32 {
+        self.named()[3]
+    }
+
+    fn version_list(&self, bytes: &[u8]) -> FlatListing {
+        answered!(self, Reference.version_list(bytes), List, bytes)
+    }
+
+    fn version_message_write(&self, message: FlatMessage) -> FlatBytes {
+        let right = Reference.version_message_write(message);
+        answered!(self, right, MessageWrite, message)
+    }
+
+    fn version_message_read(&self, bytes: FlatBytes) -> FlatMessageReading {
+        let right = Reference.version_message_read(bytes);
+        answered!(self, right, MessageRead, bytes)
+    }
+
+    fn talker_make(&self, side: u8, versions: FlatVersions, control: u8) -> FlatTalker {
+        let right = Reference.talker_make(side, versions, control);
+        answered!(self, right, TalkerMake,)
+    }
+
+    fn talker_connect(&self, talker: FlatTalker) -> FlatAnswer {
+        answered!(
+            self,
+            Reference.talker_connect(talker),
+            TalkerConnect,
+            talker
+        )
+    }
+
+    fn talker_tick(&self, talker: FlatTalker) -> FlatAnswer {
+        answered!(self, Reference.talker_tick(talker), TalkerTick, talker)
+    }
+
+    fn talker_hear(&self, talker: FlatTalker, bytes: FlatBytes) -> FlatAnswer {
+        let right = Reference.talker_hear(talker, bytes);
+        answered!(self, right, TalkerHear, talker, bytes)
+    }
+
+    fn talker_stop(&self, talker: FlatTalker) -> FlatAnswer {
+        answered!(self, Reference.talker_stop(talker), TalkerStop, talker)
+    }
+
+    fn talker_greet(&self, talker: FlatTalker) -> FlatAnswer {
+        answered!(self, Reference.talker_greet(talker), TalkerGreet, talker)
+    }
+
+    fn talker_functions_heard(&self, talker: FlatTalker) -> FlatAnswer {
+        let right = Reference.talker_functions_heard(talker);
+        answered!(self, right, TalkerFunctionsHeard, talker)
+    }
+
+    fn group_read(&self, bytes: &[u8]) -> FlatGroupReading {
+        answered!(self, Reference.group_read(bytes), GroupRead, bytes)
+    }
+
+    fn group_write(&self, group: FlatGroup, bytes: &mut [u8]) -> FlatGroupWriting {
+        let right = Reference.group_write(group, bytes);
+        answered!(self, right, GroupWrite, group, bytes)
+    }
+
+    fn group_find(&self, code: u8) -> FlatFinding {
+        answered!(self, Reference.group_find(code), GroupFind, code)
+    }
+}

@@ -1,0 +1,326 @@
+//! One call of the face, what it answers, and the comparison of two faces on it.
+
+use std::fmt;
+use std::sync::OnceLock;
+
+use compare::packs::random::Random;
+
+use crate::interface::Face;
+use crate::values::*;
+
+/// A part of the pool of bytes that messages are taken from.
+#[derive(Clone, Copy, Debug, PartialEq, Eq)]
+pub struct Part {
+    pub from: usize,
+    pub length: usize,
+}
+
+/// The pool's length: a part may start anywhere below 2048 and have up to 2048 bytes.
+const POOL: usize = 4096;
+/// Bytes at hand for a lent buffer; a hearing is lent some of them, mostly 1785.
+pub const BUFFER_ROOM: usize = 2048;
+
+/// The same random bytes in every run, the filler and 0 among them more often.
+pub fn pool() -> &'static [u8] {
+    static BYTES: OnceLock<Vec<u8>> = OnceLock::new();
+    BYTES.get_or_init(|| {
+        let mut random = Random::new(0);
+        let mut byte = || match random.percent(20) {
+            true => random.pick(&[0x00, 0xFF]),
+            false => random.byte(),
+        };
+        (0..POOL).map(|_| byte()).collect()
+    })
+}
+
+impl Part {
+    pub fn bytes(self) -> &'static [u8] {
+        &pool()[self.from..self.from + self.length]
+    }
+}
+
+/// A call with all that it is given but the buffer.
+#[derive(Clone, Debug, PartialEq, Eq)]
+pub enum Call {
+    /// Gap G, timeout T, sending time M.
+    SenderMake([u16; 3]),
+    SenderBegin(FlatSender, Part),
+    SenderPost(FlatSender, Part),
+    SenderTick(FlatSender, Part),
+    SenderHear(FlatSender, FlatFrame),
+    /// Timeout T, window C, capacity K.
+    ReceiverMake([u16; 3]),
+    ReceiverTick(FlatReceiver),
+    /// With the length of the lent buffer.
+    ReceiverHear(FlatReceiver, FlatFrame, usize),
+    Join(FlatParts),
+    Part(u32),
+    ChargerAddress,
+    VehicleAddress,
+    ChargerVersion,
+    VehicleVersion,
+    List(Vec<u8>),
+    MessageWrite(FlatMessage),
+    MessageRead(FlatBytes),
+    TalkerMake(u8, FlatVersions, u8),
+    TalkerConnect(FlatTalker),
+    TalkerTick(FlatTalker),
+    TalkerHear(FlatTalker, FlatBytes),
+    TalkerStop(FlatTalker),
+    TalkerGreet(FlatTalker),
+    TalkerFunctionsHeard(FlatTalker),
+    GroupRead(Vec<u8>),
+    /// With the lent bytes.
+    GroupWrite(FlatGroup, Vec<u8>),
+    GroupFind(u8),
+}
+
+/// What a call answers.
+#[derive(Clone, Debug, PartialEq, Eq)]
+pub enum Answer {
+    SenderMade(SenderMade),
+    Sender(SenderAnswer),
+    ReceiverMade(ReceiverMade),
+    Receiver(ReceiverAnswer),
+    Joined(FlatJoined),
+    Parted(FlatParted),
+    Number(u32),
+    Listing(FlatListing),
+    Bytes(FlatBytes),
+    Message(FlatMessageReading),
+    Talker(FlatTalker),
+    Talk(FlatAnswer),
+    Group(FlatGroupReading),
+    /// With the lent bytes afterwards.
+    Written(FlatGroupWriting, Vec<u8>),
+    Finding(FlatFinding),
+}
+
+/// Makes the call; a hearing is lent the first bytes of `buffer`.
+pub fn answer(face: &impl Face, call: &Call, buffer: &mut [u8]) -> Answer {
+    match call {
+        Call::SenderMake([gap, timeout, limit]) => {
+            Answer::SenderMade(face.sender_make(*gap, *timeout, *limit))
+        }
+        Call::SenderBegin(end, message) => Answer::Sender(face.sender_begin(*end, message.bytes())),
+        Call::SenderPost(end, message) => Answer::Sender(face.sender_post(*end, message.bytes())),
+        Call::SenderTick(end, message) => Answer::Sender(face.sender_tick(*end, message.bytes())),
+        Call::SenderHear(end, frame) => Answer::Sender(face.sender_hear(*end, *frame)),
+        Call::ReceiverMake([timeout, window, capacity]) => {
+            Answer::ReceiverMade(face.receiver_make(*timeout, *window, *capacity))
+        }
+        Call::ReceiverTick(end) => Answer::Receiver(face.receiver_tick(*end)),
+        Call::ReceiverHear(end, frame, lent) => {
+            Answer::Receiver(face.receiver_hear(*end, *frame, &mut buffer[..*lent]))
+        }
+        around => answer_around(face, around),
+    }
+}
+
+fn answer_around(face: &impl Face, call: &Call) -> Answer {
+    match call {
+        Call::Join(parts) => Answer::Joined(face.identifier_join(*parts)),
+        Call::Part(identifier) => Answer::Parted(face.identifier_part(*identifier)),
+        Call::ChargerAddress => Answer::Number(face.charger_address()),
+        Call::VehicleAddress => Answer::Number(face.vehicle_address()),
+        Call::ChargerVersion => Answer::Number(face.charger_version()),
+        Call::VehicleVersion => Answer::Number(face.vehicle_version()),
+        Call::List(bytes) => Answer::Listing(face.version_list(bytes)),
+        Call::MessageWrite(message) => Answer::Bytes(face.version_message_write(*message)),
+        Call::MessageRead(bytes) => Answer::Message(face.version_message_read(*bytes)),
+        Call::TalkerMake(side, versions, control) => {
+            Answer::Talker(face.talker_make(*side, *versions, *control))
+        }
+        Call::TalkerConnect(talker) => Answer::Talk(face.talker_connect(*talker)),
+        Call::TalkerTick(talker) => Answer::Talk(face.talker_tick(*talker)),
+        Call::TalkerHear(talker, bytes) => Answer::Talk(face.talker_hear(*talker, *bytes)),
+        Call::TalkerStop(talker) => Answer::Talk(face.talker_stop(*talker)),
+        Call::TalkerGreet(talker) => Answer::Talk(face.talker_greet(*talker)),
+        Call::TalkerFunctionsHeard(talker) => Answer::Talk(face.talker_functions_heard(*talker)),
+        Call::GroupRead(bytes) => Answer::Group(face.group_read(bytes)),
+        Call::GroupWrite(group, bytes) => {
+            let mut bytes = bytes.clone();
+            let done = face.group_write(*group, &mut bytes);
+            Answer::Written(done, bytes)
+        }
+        Call::GroupFind(code) => Answer::Finding(face.group_find(*code)),
+        _ => unreachable!("`answer` has the calls of the ends"),
+    }
+}
+
+/// The names of the functions, in the order of `Call`'s cases.
+pub const NAMES: [&str; 27] = [
+    "sender_make",
+    "sender_begin",
+    "sender_post",
+    "sender_tick",
+    "sender_hear",
+    "receiver_make",
+    "receiver_tick",
+    "receiver_hear",
+    "identifier_join",
+    "identifier_part",
+    "charger_address",
+    "vehicle_address",
+    "charger_version",
+    "vehicle_version",
+    "version_list",
+    "version_message_write",
+    "version_message_read",
+    "talker_make",
+    "talker_connect",
+    "talker_tick",
+    "talker_hear",
+    "talker_stop",
+    "talker_greet",
+    "talker_functions_heard",
+    "group_read",
+    "group_write",
+    "group_find",
+];
+
+impl Call {
+    /// Its function's place in `NAMES`.
+    pub fn place(&self) -> usize {
+        match self {
+            Call::SenderMake(_) => 0,
+            Call::SenderBegin(..) => 1,
+            Call::SenderPost(..) => 2,
+            Call::SenderTick(..) => 3,
+            Call::SenderHear(..) => 4,
+            Call::ReceiverMake(_) => 5,
+            Call::ReceiverTick(_) => 6,
+            Call::ReceiverHear(..) => 7,
+            Call::Join(_) => 8,
+            Call::Part(_) => 9,
+            Call::ChargerAddress => 10,
+            Call::VehicleAddress => 11,
+            Call::ChargerVersion => 12,
+            Call::VehicleVersion => 13,
+            Call::List(_) => 14,
+            Call::MessageWrite(_) => 15,
+            Call::MessageRead(_) => 16,
+            Call::TalkerMake(..) => 17,
+            Call::TalkerConnect(_) => 18,
+            Call::TalkerTick(_) => 19,
+            Call::TalkerHear(..) => 20,
+            Call::TalkerStop(_) => 21,
+            Call::TalkerGreet(_) => 22,
+            Call::TalkerFunctionsHeard(_) => 23,
+            Call::GroupRead(_) => 24,
+            Call::GroupWrite(..) => 25,
+            Call::GroupFind(_) => 26,
+        }
+    }
+
+    pub fn name(&self) -> &'static str {
+        NAMES[self.place()]
+    }
+}
+
+/// A call on which two faces differ.
+#[derive(Clone, Debug, PartialEq, Eq)]
+pub struct Mismatch {
+    pub call: Call,
+    pub left: Answer,
+    pub right: Answer,
+    /// The first place at which the buffers differ, and what stands there.
+    pub buffers: Option<(usize, u8, u8)>,
+}
+
+impl fmt::Display for Mismatch {
+    fn fmt(&self, f: &mut fmt::Formatter) -> fmt::Result {
+        writeln!(f, "call:      {:?}", self.call)?;
+        writeln!(f, "face:      {:?}", self.left)?;
+        writeln!(f, "reference: {:?}", self.right)?;
+        if let Some((place, left, right)) = self.buffers {
+            writeln!(
+                f,
+                "buffer:    at place {place} the face leaves {left:02X}, the reference {right:02X}"
+            )?;
+        }
+        Ok(())
+    }
+}
+
+/// Two faces side by side, each with a buffer of its own, and how often each function was called and with what outcome.
+pub struct Pair<'a, L, R> {
+    pub left: &'a L,
+    pub right: &'a R,
+    buffers: [Vec<u8>; 2],
+    pub tally: Tally,
+}
+
+/// Calls by function, and answers by function and outcome.
+#[derive(Clone, Debug, Default)]
+pub struct Tally {
+    pub calls: [u64; NAMES.len()],
+    /// At each function: outcome 0 to 4, made or not at the makes.
+    pub outcomes: [[u64; 5]; NAMES.len()],
+}
+
+impl Tally {
+    pub fn total(&self) -> u64 {
+        self.calls.iter().sum()
+    }
+
+    fn add(&mut self, place: usize, answer: &Answer) {
+        self.calls[place] += 1;
+        self.outcomes[place][usize::from(outcome(answer)).min(4)] += 1;
+    }
+}
+
+fn outcome(answer: &Answer) -> u8 {
+    match answer {
+        Answer::SenderMade(made) => u8::from(!made.made),
+        Answer::Sender(answer) => answer.outcome,
+        Answer::ReceiverMade(made) => u8::from(!made.made),
+        Answer::Receiver(answer) => answer.outcome,
+        Answer::Joined(joined) => joined.outcome,
+        Answer::Parted(parted) => parted.outcome,
+        Answer::Listing(listing) => listing.outcome,
+        Answer::Message(reading) => reading.outcome,
+        Answer::Talk(answer) => answer.outcome,
+        Answer::Group(reading) => reading.outcome,
+        Answer::Written(writing, _) => writing.outcome,
+        Answer::Finding(finding) => finding.outcome,
+        Answer::Number(_) | Answer::Bytes(_) | Answer::Talker(_) => 0,
+    }
+}
+
+impl<'a, L: Face, R: Face> Pair<'a, L, R> {
+    pub fn new(left: &'a L, right: &'a R) -> Pair<'a, L, R> {
+        Pair {
+            left,
+            right,
+            buffers: [vec![0; BUFFER_ROOM], vec![0; BUFFER_ROOM]],
+            tally: Tally::default(),
+        }
+    }
+
+    /// Both buffers as at the start of a case: bytes of the pool.
+    pub fn fill_buffers(&mut self) {
+        for buffer in &mut self.buffers {
+            buffer.copy_from_slice(&pool()[..BUFFER_ROOM]);
+        }
+    }
+
+    /// Makes the call on both; the answer, where answers and buffers are alike.
+    pub fn compare(&mut self, call: Call) -> Result<Answer, Box<Mismatch>> {
+        let [ours, theirs] = &mut self.buffers;
+        let left = answer(self.left, &call, ours);
+        let right = answer(self.right, &call, theirs);
+        self.tally.add(call.place(), &right);
+        let written = matches!(call, Call::ReceiverHear(..)) && ours != theirs;
+        if left == right && !written {
+            return Ok(left);
+        }
+        let differs = (0..BUFFER_ROOM).find(|&place| ours[place] != theirs[place]);
+        Err(Box::new(Mismatch {
+            call,
+            left,
+            right,
+            buffers: differs.map(|place| (place, ours[place], theirs[place])),
+        }))
+    }
+}

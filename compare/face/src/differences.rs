@@ -1,0 +1,171 @@
+//! Random cases on two faces, and the first on which they differ.
+
+use std::fmt;
+
+use compare::packs::random::Random;
+
+use crate::call::{Call, Mismatch, Pair, Tally};
+use crate::forged;
+use crate::interface::Face;
+use crate::session::Session;
+use crate::sessions;
+use crate::shrink;
+use crate::singles;
+use crate::talk::{self, Talk};
+
+/// Single calls that one seed stands for.
+const BATCH: usize = 100;
+
+/// What is played on both faces: each its own case.
+#[derive(Clone, Debug, PartialEq, Eq)]
+pub enum Case {
+    Session(Session),
+    Talk(Talk),
+    Single(Call),
+}
+
+/// A case on which two faces differ.
+#[derive(Clone, Debug)]
+pub struct Difference {
+    pub seed: u64,
+    /// Shortened.
+    pub case: Case,
+    /// The steps that it had.
+    pub steps: usize,
+    pub mismatch: Mismatch,
+}
+
+impl Case {
+    pub fn play<L: Face, R: Face>(&self, pair: &mut Pair<L, R>) -> Result<(), Box<Mismatch>> {
+        match self {
+            Case::Session(session) => session.play(pair),
+            Case::Talk(talk) => talk.play(pair),
+            Case::Single(call) => single(call.clone(), pair),
+        }
+    }
+
+    pub fn steps(&self) -> usize {
+        match self {
+            Case::Session(session) => session.steps.len(),
+            Case::Talk(talk) => talk.steps.len(),
+            Case::Single(_) => 1,
+        }
+    }
+}
+
+fn single<L: Face, R: Face>(call: Call, pair: &mut Pair<L, R>) -> Result<(), Box<Mismatch>> {
+    if matches!(call, Call::ReceiverHear(..)) {
+        pair.fill_buffers();
+    }
+    pair.compare(call).map(|_| ())
+}
+
+/// Compares on the cases of `seed`, of the next, and so on, until `count` calls have been made.
+pub fn first_difference<L: Face, R: Face>(
+    left: &L,
+    right: &R,
+    seed: u64,
+    count: u64,
+) -> (Tally, Option<Difference>) {
+    let mut pair = Pair::new(left, right);
+    let mut seed = seed;
+    while pair.tally.total() < count {
+        if let Some((case, mismatch)) = differing_case(seed, &mut pair) {
+            let steps = case.steps();
+            let (case, mismatch) = shrink::shrink(case, *mismatch, left, right);
+            let difference = Difference {
+                seed,
+                case,
+                steps,
+                mismatch,
+            };
+            return (pair.tally, Some(difference));
+        }
+        seed = seed.wrapping_add(1);
+    }
+    (pair.tally, None)
+}
+
+/// Plays the cases of one seed; the one that differs, if any.
+fn differing_case<L: Face, R: Face>(
+    seed: u64,
+    pair: &mut Pair<L, R>,
+) -> Option<(Case, Box<Mismatch>)> {
+    let mut random = Random::new(seed);
+    match random.weighted(&[70, 5, 25]) {
+        0 => {
+            let (session, played) = sessions::run(&mut random, pair);
+            Some((Case::Session(session), played.err()?))
+        }
+        1 => {
+            let talk = talk::draw(&mut random);
+            let mismatch = talk.play(pair).err()?;
+            Some((Case::Talk(talk), mismatch))
+        }
+        _ => (0..BATCH).find_map(|_| {
+            let call = single_call(&mut random);
+            let mismatch = single(call.clone(), pair).err()?;
+            Some((Case::Single(call), mismatch))
+        }),
+    }
+}
+
+fn single_call(random: &mut Random) -> Call {
+    match random.weighted(&[60, 2, 8, 8, 7, 15]) {
+        0 => forged::end_call(random),
+        1 => forged::make_call(random),
+        2 => forged::talker_call(random),
+        3 => singles::identifier_call(random),
+        4 => singles::version_call(random),
+        _ => singles::group_call(random),
+    }
+}
+
+impl fmt::Display for Difference {
+    fn fmt(&self, f: &mut fmt::Formatter) -> fmt::Result {
+        writeln!(f, "DIFFERENT at seed {0} (--seed {0} --count 1)", self.seed)?;
+        match &self.case {
+            Case::Single(_) => writeln!(f, "a single call:")?,
+            Case::Session(session) => {
+                writeln!(
+                    f,
+                    "a session of {} steps, {} left:",
+                    self.steps,
+                    session.steps.len()
+                )?;
+                writeln!(
+                    f,
+                    "sender {:?}, receiver {:?}",
+                    session.sender, session.receiver
+                )?;
+                for (place, part) in session.messages.iter().enumerate() {
+                    writeln!(
+                        f,
+                        "message {place}: {} bytes of the pool from {}",
+                        part.length, part.from
+                    )?;
+                }
+                for step in &session.steps {
+                    writeln!(f, "    {step:?}")?;
+                }
+            }
+            Case::Talk(talk) => {
+                writeln!(
+                    f,
+                    "a talk of {} steps, {} left:",
+                    self.steps,
+                    talk.steps.len()
+                )?;
+                writeln!(
+                    f,
+                    "lists {:02X?}, control bytes {:02X?}",
+                    talk.lists, talk.controls
+                )?;
+                for step in &talk.steps {
+                    writeln!(f, "    {step:?}")?;
+                }
+            }
+        }
+        write!(f, "{}", self.mismatch)
+    }
+}

@@ -1,0 +1,303 @@
+//! The reference's ends over plain values.
+//!
+//! A flat state is read as the face says: an unknown phase is Idle, and fields that a phase has not are not read. The
+//! reference keeps N nowhere (it counts it from L), so a flat state's N is not read, and it takes the gap and the window
+//! as bytes; `crate::forged` makes only states that both can hold.
+
+use compare::reference::frame::{frames_for, Frame};
+use compare::reference::receiver::{self, Connection, Delivered, Receiver, State};
+use compare::reference::sender::{self, Phase, Sender};
+use compare::reference::{refusal, Refused};
+
+use crate::interface::Ends;
+use crate::values::*;
+use crate::Reference;
+
+impl Ends for Reference {
+    fn sender_make(&self, gap: u16, timeout: u16, limit: u16) -> SenderMade {
+        // A gap over 255 is over 10.
+        let made = match u8::try_from(gap) {
+            Ok(gap) => Sender::make(gap, timeout, limit),
+            Err(_) => Err(refusal::SETTING),
+        };
+        match made {
+            Ok(sender) => SenderMade {
+                made: true,
+                number: 0,
+                end: flat_sender(&sender),
+            },
+            Err(Refused(number)) => SenderMade {
+                made: false,
+                number,
+                end: FlatSender::default(),
+            },
+        }
+    }
+
+    fn sender_begin(&self, sender: FlatSender, message: &[u8]) -> SenderAnswer {
+        let mut end = sender_of(sender);
+        let answer = end.begin(message);
+        sender_answer(&end, answer)
+    }
+
+    fn sender_post(&self, sender: FlatSender, message: &[u8]) -> SenderAnswer {
+        let end = sender_of(sender);
+        let answer = end.post(message);
+        sender_answer(&end, answer)
+    }
+
+    fn sender_tick(&self, sender: FlatSender, message: &[u8]) -> SenderAnswer {
+        let mut end = sender_of(sender);
+        let answer = end.tick(message);
+        sender_answer(&end, answer)
+    }
+
+    fn sender_hear(&self, sender: FlatSender, frame: FlatFrame) -> SenderAnswer {
+        let mut end = sender_of(sender);
+        let answer = end.hear(frame_of(frame));
+        sender_answer(&end, answer)
+    }
+
+    fn receiver_make(&self, timeout: u16, window: u16, capacity: u16) -> ReceiverMade {
+        // "window C 1 to 255"
+        let made = match u8::try_from(window) {
+            Ok(window) => Receiver::make(timeout, window, capacity),
+            Err(_) => Err(refusal::SETTING),
+        };
+        match made {
+            Ok(receiver) => ReceiverMade {
+                made: true,
+                number: 0,
+                end: flat_receiver(&receiver),
+            },
+            Err(Refused(number)) => ReceiverMade {
+                made: false,
+                number,
+                end: FlatReceiver::default(),
+            },
+        }
+    }
+
+    fn receiver_tick(&self, receiver: FlatReceiver) -> ReceiverAnswer {
+        let mut end = receiver_of(receiver);
+        let answer = end.tick();
+        receiver_answer(&end, Ok(answer))
+    }
+
+    fn receiver_hear(
+        &self,
+        receiver: FlatReceiver,
+        frame: FlatFrame,
+        buffer: &mut [u8],
+    ) -> ReceiverAnswer {
+        let mut end = receiver_of(receiver);
+        let answer = end.hear(frame_of(frame), buffer);
+        receiver_answer(&end, answer)
+    }
+}
+
+fn frame_of(flat: FlatFrame) -> Frame {
+    Frame {
+        kind: flat.kind,
+        data: flat.bytes,
+    }
+}
+
+/// Whether a frame goes out, and which; zeros where none does.
+fn emitted(frame: Option<Frame>) -> (bool, FlatFrame) {
+    match frame {
+        Some(Frame { kind, data: bytes }) => (true, FlatFrame { kind, bytes }),
+        None => (false, FlatFrame::default()),
+    }
+}
+
+/// A setting that the reference holds as a byte.
+fn byte(setting: u16) -> u8 {
+    u8::try_from(setting).expect("gap and window of a state are at most 255")
+}
+
+fn sender_of(flat: FlatSender) -> Sender {
+    let phase = match flat.phase {
+        1 => Phase::Opening,
+        2 => Phase::Sending {
+            next: flat.next,
+            last: flat.last,
+        },
+        3 => Phase::Waiting { last: flat.last },
+        4 => Phase::Short,
+        _ => Phase::Idle,
+    };
+    let windowed = matches!(phase, Phase::Sending { .. } | Phase::Waiting { .. });
+    Sender {
+        gap: byte(flat.gap),
+        timeout: flat.timeout,
+        sending_time: flat.limit,
+        phase,
+        length: flat.length,
+        first: flat.first,
+        age: flat.age,
+        wait: flat.wait,
+        misses: flat.misses,
+        gap_count: flat.count,
+        start: windowed.then_some(flat.start),
+        frames: flat.emitted,
+    }
+}
+
+/// What the phase has, and 0 for the rest.
+fn flat_sender(end: &Sender) -> FlatSender {
+    let settings = FlatSender {
+        gap: end.gap.into(),
+        timeout: end.timeout,
+        limit: end.sending_time,
+        ..FlatSender::default()
+    };
+    let transfer = FlatSender {
+        length: end.length,
+        frames: frames_for(end.length) as u8,
+        first: end.first,
+        age: end.age,
+        emitted: end.frames,
+        misses: end.misses,
+        ..settings
+    };
+    let start = end.start.unwrap_or(0);
+    match end.phase {
+        Phase::Idle => settings,
+        Phase::Opening => FlatSender {
+            phase: 1,
+            wait: end.wait,
+            ..transfer
+        },
+        Phase::Sending { next, last } => FlatSender {
+            phase: 2,
+            start,
+            next,
+            last,
+            count: end.gap_count,
+            ..transfer
+        },
+        Phase::Waiting { last } => FlatSender {
+            phase: 3,
+            start,
+            last,
+            wait: end.wait,
+            ..transfer
+        },
+        // One frame carries it all.
+        Phase::Short => FlatSender {
+            phase: 4,
+            frames: 1,
+            misses: 0,
+            wait: end.wait,
+            ..transfer
+        },
+    }
+}
+
+fn sender_answer(end: &Sender, answer: Result<sender::Answer, Refused>) -> SenderAnswer {
+    let (frame, (outcome, number, ticks, frames)) = match answer {
+        Err(Refused(number)) => (None, (1, number, 0, 0)),
+        Ok(sender::Answer { frame, report }) => {
+            let numbers = match report {
+                None => (0, 0, 0, 0),
+                Some(sender::Report::Sent { ticks, frames }) => (2, 0, ticks, frames),
+                Some(sender::Report::Failed {
+                    cause,
+                    ticks,
+                    frames,
+                }) => (3, cause, ticks, frames),
+            };
+            (frame, numbers)
+        }
+    };
+    let (emits, frame) = emitted(frame);
+    SenderAnswer {
+        next: flat_sender(end),
+        emits,
+        frame,
+        outcome,
+        number,
+        ticks,
+        frames,
+    }
+}
+
+fn receiver_of(flat: FlatReceiver) -> Receiver {
+    let (n, l) = (flat.frames, flat.length);
+    let state = match flat.phase {
+        1 => State::Idle {
+            delivered: Some(Delivered { n, l }),
+        },
+        2 => State::Open(Connection {
+            n,
+            l,
+            e: flat.expected,
+            w: flat.last,
+            wait: flat.wait,
+            misses: flat.misses,
+        }),
+        _ => State::Idle { delivered: None },
+    };
+    Receiver {
+        timeout: flat.timeout,
+        window: byte(flat.window),
+        capacity: flat.capacity,
+        state,
+    }
+}
+
+fn flat_receiver(end: &Receiver) -> FlatReceiver {
+    let settings = FlatReceiver {
+        timeout: end.timeout,
+        window: end.window.into(),
+        capacity: end.capacity,
+        ..FlatReceiver::default()
+    };
+    match end.state {
+        State::Idle { delivered: None } => settings,
+        State::Idle {
+            delivered: Some(Delivered { n, l }),
+        } => FlatReceiver {
+            phase: 1,
+            frames: n,
+            length: l,
+            ..settings
+        },
+        State::Open(open) => FlatReceiver {
+            phase: 2,
+            frames: open.n,
+            length: open.l,
+            expected: open.e,
+            last: open.w,
+            wait: open.wait,
+            misses: open.misses,
+            ..settings
+        },
+    }
+}
+
+fn receiver_answer(end: &Receiver, answer: Result<receiver::Answer, Refused>) -> ReceiverAnswer {
+    let (frame, (outcome, number, length, bytes)) = match answer {
+        Err(Refused(number)) => (None, (1, number, 0, [0; 8])),
+        Ok(receiver::Answer { frame, report }) => {
+            let numbers = match report {
+                None => (0, 0, 0, [0; 8]),
+                Some(receiver::Report::Delivered { l }) => (2, 0, l, [0; 8]),
+                Some(receiver::Report::Failed { cause }) => (3, cause, 0, [0; 8]),
+                Some(receiver::Report::Short(bytes)) => (4, 0, 0, bytes),
+            };
+            (frame, numbers)
+        }
+    };
+    let (emits, frame) = emitted(frame);
+    ReceiverAnswer {
+        next: flat_receiver(end),
+        emits,
+        frame,
+        outcome,
+        number,
+        length,
+        bytes,
+    }
+}

@@ -1,0 +1,208 @@
+//! Single calls of the ends and of talkers on forged states: states that a caller can build and calls need not lead to.
+//!
+//! Fields are drawn freely, those that a phase has not included, but only as far as document 01 speaks of them. Beyond it
+//! the face and the reference read "= M", "at T" and the like each in its own way (`compare/NOTES.md`, 13;
+//! `docs/DECISIONS.md`, "States that no calls make"), so these hold of every forged state:
+//! - the counts are below their limits: age < M, wait < T, gap count < G, misses < 3; a talker's period < 50, age < 15000;
+//! - N is that of L at the sender, which is 1785 at most (the reference counts N from L), 1 in Short;
+//! - the gap is 1 to 255 and the window 1 to 255 (bytes in the reference, and no end has 0);
+//! - at a receiver's tick the number expected is 1 to N (w − e + 1 is below 0 otherwise);
+//! - a talker has a list that was accepted, its place is in it, and its timers stand as its state has them.
+
+use compare::packs::random::Random;
+use compare::reference::frame::frames_for;
+
+use crate::call::Call;
+use crate::frames::{self, EDGE_LENGTHS};
+use crate::lists::{accepted, message};
+use crate::sessions::{part, wrong_buffer};
+use crate::values::*;
+
+/// A call of an end in a forged state.
+pub fn end_call(random: &mut Random) -> Call {
+    let (sender, receiver) = (sender(random), receiver(random));
+    match random.weighted(&[8, 6, 36, 20, 10, 20]) {
+        0 => Call::SenderBegin(sender, any_part(random, sender.length)),
+        1 => {
+            let length = random.between(0, 10);
+            Call::SenderPost(sender, part(random, length))
+        }
+        2 => Call::SenderTick(sender, any_part(random, sender.length)),
+        3 => Call::SenderHear(sender, frames::any(random, &sender, &receiver)),
+        4 => Call::ReceiverTick(FlatReceiver {
+            expected: random.between(1, receiver.frames.max(1).into()) as u8,
+            frames: receiver.frames.max(1),
+            ..receiver
+        }),
+        _ => {
+            let lent = match random.percent(96) {
+                true => 1785,
+                false => wrong_buffer(random),
+            };
+            let frame = frames::any(random, &sender, &receiver);
+            Call::ReceiverHear(receiver, frame, lent)
+        }
+    }
+}
+
+/// Settings at making, within their limits, at them and past them.
+pub fn make_call(random: &mut Random) -> Call {
+    let timeout = edge(random, &[0, 1, 10000, 10001, 65535]);
+    match random.percent(50) {
+        true => Call::SenderMake([
+            edge(random, &[0, 1, 10, 11, 255, 256, 257, 266, 65535]),
+            timeout,
+            edge(random, &[0, 1, 60000, 60001, 65535]),
+        ]),
+        false => Call::ReceiverMake([
+            timeout,
+            edge(random, &[0, 1, 255, 256, 257, 511, 65535]),
+            edge(random, &[0, 8, 9, 1785, 1786, 65535]),
+        ]),
+    }
+}
+
+/// One of these numbers, one beside it, or any.
+fn edge(random: &mut Random, numbers: &[u16]) -> u16 {
+    let number = random.pick(numbers);
+    match random.weighted(&[70, 10, 10, 10]) {
+        0 => number,
+        1 => number.wrapping_add(1),
+        2 => number.wrapping_sub(1),
+        _ => random.between(0, 65535) as u16,
+    }
+}
+
+/// Mostly of this length.
+fn any_part(random: &mut Random, length: u16) -> crate::call::Part {
+    let length = match random.percent(85) {
+        true => length.into(),
+        false => random.pick(&EDGE_LENGTHS),
+    };
+    part(random, length)
+}
+
+/// A count below its limit, mostly by one.
+fn below(random: &mut Random, limit: u16) -> u16 {
+    match random.percent(50) {
+        true => limit - 1,
+        false => random.between(0, usize::from(limit) - 1) as u16,
+    }
+}
+
+fn setting(random: &mut Random) -> u16 {
+    match random.percent(70) {
+        true => random.between(1, 10) as u16,
+        false => random.between(1, 65535) as u16,
+    }
+}
+
+fn sender(random: &mut Random) -> FlatSender {
+    let (gap, timeout) = (random.between(1, 255) as u16, setting(random));
+    let limit = setting(random);
+    let phase = match random.weighted(&[10, 20, 30, 20, 18, 2]) {
+        5 => random.between(5, 255) as u8,
+        phase => phase as u8,
+    };
+    let length = match random.percent(30) {
+        true => random.pick(&EDGE_LENGTHS).min(1785),
+        false => random.between(0, 1785),
+    } as u16;
+    let frames = match phase {
+        4 => 1,
+        _ => frames_for(length) as u8,
+    };
+    let number = |random: &mut Random| match random.percent(60) {
+        true => random.between(0, usize::from(frames)) as u8,
+        false => random.byte(),
+    };
+    FlatSender {
+        gap,
+        timeout,
+        limit,
+        phase,
+        length,
+        frames,
+        first: random.byte(),
+        age: below(random, limit),
+        emitted: random.pick(&[0, 1, 60000, 65534, 65535]),
+        wait: below(random, timeout),
+        misses: random.between(0, 2) as u16,
+        start: number(random),
+        next: number(random),
+        last: number(random),
+        count: below(random, gap),
+    }
+}
+
+fn receiver(random: &mut Random) -> FlatReceiver {
+    let timeout = setting(random);
+    let phase = match random.weighted(&[15, 20, 63, 2]) {
+        3 => random.between(3, 255) as u8,
+        phase => phase as u8,
+    };
+    let length = match random.weighted(&[25, 60, 15]) {
+        0 => random.pick(&EDGE_LENGTHS),
+        1 => random.between(9, 1785),
+        _ => random.between(0, 65535),
+    } as u16;
+    let frames = match random.percent(80) {
+        true => frames_for(length) as u8,
+        false => random.byte(),
+    };
+    let expected = match random.percent(80) {
+        true => random.between(1, frames.max(1).into()) as u8,
+        false => random.byte(),
+    };
+    FlatReceiver {
+        timeout,
+        window: random.between(1, 255) as u16,
+        capacity: edge(random, &[0, 9, 1785, 65535, length]),
+        phase,
+        frames,
+        length,
+        expected,
+        last: random.pick(&[expected, frames, 0, 255]),
+        wait: below(random, timeout),
+        misses: random.between(0, 2) as u16,
+    }
+}
+
+/// A call of a talker in a forged state.
+pub fn talker_call(random: &mut Random) -> Call {
+    let talker = talker(random);
+    match random.weighted(&[10, 35, 35, 7, 7, 6]) {
+        0 => Call::TalkerConnect(talker),
+        1 => Call::TalkerTick(talker),
+        2 => Call::TalkerHear(talker, message(random, &talker.versions)),
+        3 => Call::TalkerStop(talker),
+        4 => Call::TalkerGreet(talker),
+        _ => Call::TalkerFunctionsHeard(talker),
+    }
+}
+
+fn talker(random: &mut Random) -> FlatTalker {
+    let versions = accepted(random);
+    let number = |random: &mut Random, most: usize| match random.percent(95) {
+        true => random.between(0, most) as u8,
+        false => random.byte(),
+    };
+    let side = number(random, 1);
+    let state = match random.percent(60) {
+        true => 1,
+        false => number(random, 5),
+    };
+    let timing = side == 1 && state == 3 && random.percent(70);
+    let (period, age) = (below(random, 50), below(random, 15000));
+    FlatTalker {
+        side,
+        versions,
+        control: random.byte(),
+        state,
+        place: random.between(0, usize::from(versions.count) - 1) as u8,
+        verdict: number(random, 2),
+        period: if state == 1 || timing { period } else { 0 },
+        age: if state == 1 { age } else { 0 },
+        timing,
+    }
+}

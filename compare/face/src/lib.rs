@@ -1,0 +1,24 @@
+//! The proved code behind its C face, and what it is compared with: random calls on both, held to each other whole.
+
+pub mod around;
+pub mod broken;
+pub mod call;
+pub mod differences;
+pub mod ends;
+pub mod forged;
+pub mod frames;
+pub mod interface;
+pub mod lists;
+pub mod session;
+pub mod sessions;
+pub mod shrink;
+pub mod singles;
+pub mod talk;
+pub mod values;
+
+#[cfg(feature = "proved")]
+pub mod ffi;
+
+/// The reference: `compare::reference` over plain values (`ends` and `around` translate).
+#[derive(Clone, Copy, Debug)]
+pub struct Reference;

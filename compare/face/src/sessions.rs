@@ -1,0 +1,215 @@
+//! Random sessions of the ends. A session is played while it is drawn, so that steps can be drawn by what is on the line
+//! and transfers go through.
+
+use compare::packs::random::Random;
+
+use crate::call::{Mismatch, Pair, Part};
+use crate::frames::{self, EDGE_LENGTHS};
+use crate::interface::Face;
+use crate::session::{Session, Step, Way, World};
+
+/// The length of a buffer that is not refused.
+const BUFFER: usize = 1785;
+/// Places in a session's list of messages: two to begin, one as long as the first with other bytes, one of any length, one
+/// short enough to be posted or just too long.
+const FIRST: usize = 0;
+const SECOND: usize = 1;
+const ALIKE: usize = 2;
+const ODD: usize = 3;
+const SHORT: usize = 4;
+
+/// How a session's steps are drawn: so many times in a hundred the one that brings the transfer forward, else by weights:
+/// 0 sender tick, 1 receiver tick, 2 to 4 forward hear, lose, repeat, 5 to 7 back hear, lose, repeat, 8 begin, 9 post,
+/// 10 a tick lent another message, 11 a hearing lent another buffer, 12, 13 the sender, the receiver hears a frame from
+/// elsewhere.
+struct Manner {
+    forward: usize,
+    weights: [usize; 14],
+}
+
+const MANNERS: [Manner; 5] = [
+    // Clean.
+    Manner {
+        forward: 97,
+        weights: [4, 4, 2, 1, 1, 2, 1, 1, 1, 1, 1, 1, 1, 1],
+    },
+    // Lossy.
+    Manner {
+        forward: 75,
+        weights: [8, 8, 2, 6, 6, 2, 6, 6, 1, 1, 1, 1, 0, 0],
+    },
+    // Quiet: timeouts.
+    Manner {
+        forward: 20,
+        weights: [30, 30, 2, 2, 1, 2, 2, 1, 1, 1, 1, 1, 1, 1],
+    },
+    // Repeats.
+    Manner {
+        forward: 55,
+        weights: [6, 4, 1, 0, 12, 1, 0, 12, 1, 0, 0, 0, 0, 0],
+    },
+    // Odd calls and frames.
+    Manner {
+        forward: 60,
+        weights: [4, 4, 1, 1, 1, 1, 1, 1, 2, 3, 3, 3, 8, 8],
+    },
+];
+
+/// Draws and plays a session; with it, the mismatch in its last step if there is one.
+pub fn run<L: Face, R: Face>(
+    random: &mut Random,
+    pair: &mut Pair<L, R>,
+) -> (Session, Result<(), Box<Mismatch>>) {
+    let mut session = unplayed(random);
+    let result = draw_steps(random, &mut session, pair);
+    (session, result)
+}
+
+fn unplayed(random: &mut Random) -> Session {
+    let length = length(random);
+    let other = self::length(random);
+    let odd = match random.percent(50) {
+        true => random.pick(&EDGE_LENGTHS),
+        false => (length + random.between(0, 2)).saturating_sub(1),
+    };
+    let short = random.between(0, 9);
+    let messages = [length, other, length, odd, short].map(|length| part(random, length));
+    let mut session = Session {
+        sender: sender_settings(random),
+        receiver: receiver_settings(random, length),
+        messages: messages.to_vec(),
+        steps: Vec::new(),
+    };
+    if random.percent(4) {
+        spoil(random, &mut session);
+    }
+    session
+}
+
+pub fn part(random: &mut Random, length: usize) -> Part {
+    Part {
+        from: random.between(0, 2000),
+        length,
+    }
+}
+
+fn length(random: &mut Random) -> usize {
+    match random.weighted(&[15, 55, 14, 4, 12]) {
+        0 => random.between(1, 8),
+        1 => random.between(9, 40),
+        2 => random.between(41, 300),
+        3 => random.between(301, 1785),
+        _ => random.pick(&EDGE_LENGTHS),
+    }
+}
+
+/// Within their limits, mostly small so that timeouts come.
+fn sender_settings(random: &mut Random) -> [u16; 3] {
+    [
+        random.pick(&[1, 1, 1, 1, 2, 3, 10]),
+        random.pick(&[1, 2, 3, 4, 6, 10, 30, 10000]),
+        random.pick(&[1, 4, 12, 30, 100, 300, 2000, 60000, 60000]),
+    ]
+}
+
+fn receiver_settings(random: &mut Random, length: usize) -> [u16; 3] {
+    let near = (length + random.between(0, 2)).saturating_sub(1);
+    [
+        random.pick(&[1, 2, 3, 4, 6, 10, 30, 10000]),
+        random.pick(&[1, 2, 3, 4, 7, 40, 100, 255]),
+        match random.percent(15) {
+            true => near.clamp(9, 1785) as u16,
+            false => 1785,
+        },
+    ]
+}
+
+/// One setting at an edge of its limits or of its field.
+fn spoil(random: &mut Random, session: &mut Session) {
+    let place = random.between(0, 2);
+    let edges = [
+        &[0, 1, 10, 11, 256, 257, 65535][..],
+        &[0, 1, 10000, 10001, 65535][..],
+        &[0, 1, 60000, 60001, 65535][..],
+        &[0, 1, 10000, 10001, 65535][..],
+        &[0, 1, 255, 256, 257, 65535][..],
+        &[0, 8, 9, 1785, 1786, 65535][..],
+    ];
+    match random.percent(50) {
+        true => session.sender[place] = random.pick(edges[place]),
+        false => session.receiver[place] = random.pick(edges[3 + place]),
+    }
+}
+
+fn draw_steps<L: Face, R: Face>(
+    random: &mut Random,
+    session: &mut Session,
+    pair: &mut Pair<L, R>,
+) -> Result<(), Box<Mismatch>> {
+    let Some(mut world) = World::start(session, pair)? else {
+        return Ok(());
+    };
+    let manner = &MANNERS[random.weighted(&[30, 25, 15, 15, 15])];
+    let needed = 4 * session.messages[FIRST].length.div_ceil(7);
+    let count = random.between(20, 60 + 2 * needed);
+    let mut begun = FIRST;
+    for _ in 0..count {
+        let step = draw(random, manner, &world, begun);
+        session.steps.push(step);
+        let idle = world.sender.phase == 0;
+        world.step(step, &session.messages, pair)?;
+        if let (Step::Begin(which), true) = (step, idle && world.sender.phase != 0) {
+            begun = which;
+        }
+    }
+    Ok(())
+}
+
+fn draw(random: &mut Random, manner: &Manner, world: &World, begun: usize) -> Step {
+    if random.percent(manner.forward) {
+        return onward(random, world, begun);
+    }
+    match random.weighted(&manner.weights) {
+        0 => Step::SenderTick(begun),
+        1 => Step::ReceiverTick,
+        2 => Step::Forward(Way::Hear, BUFFER),
+        3 => Step::Forward(Way::Lose, BUFFER),
+        4 => Step::Forward(Way::Repeat, BUFFER),
+        5 => Step::Back(Way::Hear),
+        6 => Step::Back(Way::Lose),
+        7 => Step::Back(Way::Repeat),
+        8 => Step::Begin(random.pick(&[FIRST, SECOND, ODD, SHORT])),
+        9 => Step::Post(random.pick(&[SHORT, SHORT, SHORT, FIRST])),
+        10 => Step::SenderTick(random.pick(&[SECOND, ALIKE, ALIKE, ODD, SHORT])),
+        11 => {
+            let way = random.pick(&[Way::Hear, Way::Repeat]);
+            Step::Forward(way, wrong_buffer(random))
+        }
+        12 => Step::SenderHears(frames::any(random, &world.sender, &world.receiver)),
+        _ => {
+            let frame = frames::any(random, &world.sender, &world.receiver);
+            let lent = match random.percent(90) {
+                true => BUFFER,
+                false => wrong_buffer(random),
+            };
+            Step::ReceiverHears(frame, lent)
+        }
+    }
+}
+
+pub fn wrong_buffer(random: &mut Random) -> usize {
+    random.pick(&[0, 1, 7, 8, 9, 14, 15, 1784, 1786, 2048])
+}
+
+/// What brings the transfer forward: frames on the line are heard; with none there the sender begins or ticks.
+fn onward(random: &mut Random, world: &World, begun: usize) -> Step {
+    if !world.back.is_empty() {
+        Step::Back(Way::Hear)
+    } else if !world.forward.is_empty() {
+        Step::Forward(Way::Hear, BUFFER)
+    } else if world.sender.phase != 0 {
+        Step::SenderTick(begun)
+    } else {
+        Step::Begin(random.pick(&[FIRST, FIRST, FIRST, SECOND]))
+    }
+}

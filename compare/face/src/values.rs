@@ -1,0 +1,232 @@
+//! The plain values that go through the face, in C's layout. Names and order of the fields are those of
+//! `crates/bench_face/src/`, which `tests/declarations.rs` checks.
+
+/// A kind and the bytes d0 to d7.
+#[repr(C)]
+#[derive(Clone, Copy, Debug, Default, PartialEq, Eq)]
+pub struct FlatFrame {
+    pub kind: u8,
+    pub bytes: [u8; 8],
+}
+
+/// A sender. Phase 0 is Idle, 1 Opening, 2 Sending, 3 Waiting, 4 Short, any other is read as Idle. What a phase has not is
+/// written as 0 and not read.
+#[repr(C)]
+#[derive(Clone, Copy, Debug, Default, PartialEq, Eq)]
+pub struct FlatSender {
+    pub gap: u16,
+    pub timeout: u16,
+    pub limit: u16,
+    pub phase: u8,
+    pub length: u16,
+    pub frames: u8,
+    pub first: u8,
+    pub age: u16,
+    pub emitted: u16,
+    pub wait: u16,
+    pub misses: u16,
+    pub start: u8,
+    pub next: u8,
+    pub last: u8,
+    pub count: u16,
+}
+
+#[repr(C)]
+#[derive(Clone, Copy, Debug, PartialEq, Eq)]
+pub struct SenderMade {
+    pub made: bool,
+    pub number: u8,
+    pub end: FlatSender,
+}
+
+/// Outcome 0 is quiet, 1 refused, 2 sent, 3 failed; number is the refusal's or the cause.
+#[repr(C)]
+#[derive(Clone, Copy, Debug, PartialEq, Eq)]
+pub struct SenderAnswer {
+    pub next: FlatSender,
+    pub emits: bool,
+    pub frame: FlatFrame,
+    pub outcome: u8,
+    pub number: u8,
+    pub ticks: u16,
+    pub frames: u16,
+}
+
+/// A receiver. Phase 0 is Idle, 1 Idle with a delivery remembered, 2 Open, any other is read as Idle. What a phase has not
+/// is written as 0 and not read.
+#[repr(C)]
+#[derive(Clone, Copy, Debug, Default, PartialEq, Eq)]
+pub struct FlatReceiver {
+    pub timeout: u16,
+    pub window: u16,
+    pub capacity: u16,
+    pub phase: u8,
+    pub frames: u8,
+    pub length: u16,
+    pub expected: u8,
+    pub last: u8,
+    pub wait: u16,
+    pub misses: u16,
+}
+
+#[repr(C)]
+#[derive(Clone, Copy, Debug, PartialEq, Eq)]
+pub struct ReceiverMade {
+    pub made: bool,
+    pub number: u8,
+    pub end: FlatReceiver,
+}
+
+/// Outcome 0 is quiet, 1 refused, 2 delivered, 3 failed, 4 short; number is the refusal's or the cause.
+#[repr(C)]
+#[derive(Clone, Copy, Debug, PartialEq, Eq)]
+pub struct ReceiverAnswer {
+    pub next: FlatReceiver,
+    pub emits: bool,
+    pub frame: FlatFrame,
+    pub outcome: u8,
+    pub number: u8,
+    pub length: u16,
+    pub bytes: [u8; 8],
+}
+
+#[repr(C)]
+#[derive(Clone, Copy, Debug, Default, PartialEq, Eq)]
+pub struct FlatParts {
+    pub p: u32,
+    pub edp: u32,
+    pub dp: u32,
+    pub pf: u32,
+    pub ps: u32,
+    pub sa: u32,
+}
+
+/// In this and what follows outcome 0 is the value asked for, 1 refused.
+#[repr(C)]
+#[derive(Clone, Copy, Debug, PartialEq, Eq)]
+pub struct FlatJoined {
+    pub outcome: u8,
+    pub refusal: u8,
+    pub identifier: u32,
+}
+
+#[repr(C)]
+#[derive(Clone, Copy, Debug, PartialEq, Eq)]
+pub struct FlatParted {
+    pub outcome: u8,
+    pub refusal: u8,
+    pub parts: FlatParts,
+}
+
+/// The first `count` numbers stand; the others are 0.
+#[repr(C)]
+#[derive(Clone, Copy, Debug, Default, PartialEq, Eq)]
+pub struct FlatVersions {
+    pub count: u8,
+    pub numbers: [u32; 8],
+}
+
+#[repr(C)]
+#[derive(Clone, Copy, Debug, PartialEq, Eq)]
+pub struct FlatListing {
+    pub outcome: u8,
+    pub refusal: u8,
+    pub versions: FlatVersions,
+}
+
+/// Verdict 0 is continue, 1 success, 2 failure, any other is read as continue.
+#[repr(C)]
+#[derive(Clone, Copy, Debug, Default, PartialEq, Eq)]
+pub struct FlatMessage {
+    pub verdict: u8,
+    pub version: u32,
+    pub control: u8,
+}
+
+#[repr(C)]
+#[derive(Clone, Copy, Debug, PartialEq, Eq)]
+pub struct FlatBytes {
+    pub bytes: [u8; 8],
+}
+
+#[repr(C)]
+#[derive(Clone, Copy, Debug, PartialEq, Eq)]
+pub struct FlatMessageReading {
+    pub outcome: u8,
+    pub refusal: u8,
+    pub message: FlatMessage,
+}
+
+/// Side 0 is the charger, 1 the vehicle; state 0 to 5 is S0 to S5; any other number is read as 0.
+#[repr(C)]
+#[derive(Clone, Copy, Debug, Default, PartialEq, Eq)]
+pub struct FlatTalker {
+    pub side: u8,
+    pub versions: FlatVersions,
+    pub control: u8,
+    pub state: u8,
+    pub place: u8,
+    pub verdict: u8,
+    pub period: u16,
+    pub age: u16,
+    pub timing: bool,
+}
+
+/// Outcome 0 is quiet, 1 refused, 2 agreed on the version, 3 failed, 4 left.
+#[repr(C)]
+#[derive(Clone, Copy, Debug, PartialEq, Eq)]
+pub struct FlatAnswer {
+    pub next: FlatTalker,
+    pub emits: bool,
+    pub bytes: [u8; 8],
+    pub outcome: u8,
+    pub refusal: u8,
+    pub version: u32,
+}
+
+#[repr(C)]
+#[derive(Clone, Copy, Debug, Default, PartialEq, Eq)]
+pub struct FlatGroup {
+    pub code: u8,
+    pub first: u16,
+    pub second: u16,
+    pub third: u16,
+    pub fourth: u16,
+}
+
+#[repr(C)]
+#[derive(Clone, Copy, Debug, PartialEq, Eq)]
+pub struct FlatGroupReading {
+    pub outcome: u8,
+    pub refusal: u8,
+    pub group: FlatGroup,
+}
+
+#[repr(C)]
+#[derive(Clone, Copy, Debug, PartialEq, Eq)]
+pub struct FlatGroupWriting {
+    pub outcome: u8,
+    pub refusal: u8,
+}
+
+/// Sender 0 is the charger, 1 the vehicle; the four fields are kinds, 0 where there is no field.
+#[repr(C)]
+#[derive(Clone, Copy, Debug, Default, PartialEq, Eq)]
+pub struct FlatRow {
+    pub code: u8,
+    pub length: usize,
+    pub sender: u8,
+    pub reliable: bool,
+    pub first: usize,
+    pub second: usize,
+    pub third: usize,
+    pub fourth: usize,
+}
+
+#[repr(C)]
+#[derive(Clone, Copy, Debug, PartialEq, Eq)]
+pub struct FlatFinding {
+    pub outcome: u8,
+    pub refusal: u8,
+    pub row: FlatRow,
+}

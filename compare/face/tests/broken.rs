@@ -1,0 +1,126 @@
+//! The comparison catches every broken reference within a fixed count of calls, and its shortened case is short.
+
+use face::broken::{mistakes, Broken};
+use face::call::{Call, Pair, NAMES};
+use face::differences::{first_difference, Case, Difference};
+use face::Reference;
+
+/// Calls within which every mistake is found.
+const COUNT: u64 = 1_000_000;
+const SEED: u64 = 1;
+/// Steps that a shortened session or talk may have.
+const STEPS: usize = 12;
+
+fn found(name: &str, broken: &Broken) -> (u64, Difference) {
+    let (tally, difference) = first_difference(broken, &Reference, SEED, COUNT);
+    let difference = difference.unwrap_or_else(|| panic!("not caught: {name}"));
+    (tally.total(), difference)
+}
+
+#[test]
+fn the_reference_is_alike_with_itself() {
+    let (tally, difference) = first_difference(&Reference, &Reference, SEED, COUNT);
+    assert!(difference.is_none());
+    let uncalled: Vec<&str> = (0..NAMES.len())
+        .filter(|&place| tally.calls[place] < 50)
+        .map(|place| NAMES[place])
+        .collect();
+    assert_eq!(uncalled, Vec::<&str>::new());
+}
+
+/// Every outcome that a function can have comes, and often enough.
+#[test]
+fn every_outcome_comes() {
+    let (tally, _) = first_difference(&Reference, &Reference, SEED, COUNT);
+    let outcomes = |name: &str| {
+        let place = NAMES.iter().position(|&other| other == name).unwrap();
+        tally.outcomes[place].map(|count| count >= 200)
+    };
+    let (yes, no) = (true, false);
+    assert_eq!(outcomes("sender_make"), [yes, yes, no, no, no]);
+    assert_eq!(outcomes("sender_begin"), [yes, yes, no, no, no]);
+    assert_eq!(outcomes("sender_post"), [yes, yes, no, no, no]);
+    assert_eq!(outcomes("sender_tick"), [yes, yes, no, yes, no]);
+    assert_eq!(outcomes("sender_hear"), [yes, yes, yes, yes, no]);
+    assert_eq!(outcomes("receiver_make"), [yes, yes, no, no, no]);
+    assert_eq!(outcomes("receiver_tick"), [yes, no, no, yes, no]);
+    assert_eq!(outcomes("receiver_hear"), [yes; 5]);
+    assert_eq!(outcomes("talker_tick"), [yes, no, no, yes, no]);
+    assert_eq!(outcomes("talker_hear"), [yes, yes, yes, yes, no]);
+    assert_eq!(outcomes("talker_stop"), [yes, no, no, no, yes]);
+    assert_eq!(outcomes("talker_greet"), [yes, no, no, yes, no]);
+    for name in [
+        "identifier_join",
+        "identifier_part",
+        "version_list",
+        "version_message_read",
+    ] {
+        assert_eq!(outcomes(name), [yes, yes, no, no, no], "{name}");
+    }
+    for name in ["group_read", "group_write"] {
+        assert_eq!(outcomes(name), [yes, yes, no, no, no], "{name}");
+    }
+}
+
+#[test]
+fn every_mistake_is_caught() {
+    for (name, mistake) in mistakes() {
+        let broken = Broken(mistake);
+        let (calls, difference) = found(name, &broken);
+        println!(
+            "{calls:8} calls, {:3} steps: {name}",
+            difference.case.steps()
+        );
+        assert!(difference.case.steps() <= STEPS, "{name}: {difference}");
+        // The shortened case shows the difference by itself.
+        let mut pair = Pair::new(&broken, &Reference);
+        let again = difference.case.play(&mut pair);
+        assert_eq!(again.unwrap_err().call, difference.mismatch.call, "{name}");
+    }
+}
+
+/// The name of a mistake by its words, with the difference that shows it.
+fn named(words: &str) -> Difference {
+    let mistakes = mistakes();
+    let (name, mistake) = mistakes.iter().find(|(name, _)| *name == words).unwrap();
+    found(name, &Broken(*mistake)).1
+}
+
+/// No step can be left out of a shortened session.
+#[test]
+fn shortened_sessions_are_shortest() {
+    let mistakes = mistakes();
+    let mut sessions = 0;
+    for (name, mistake) in &mistakes {
+        let broken = Broken(*mistake);
+        let Case::Session(session) = found(name, &broken).1.case else {
+            continue;
+        };
+        sessions += 1;
+        for place in 0..session.steps.len() {
+            let mut fewer = session.clone();
+            fewer.steps.remove(place);
+            let played = fewer.play(&mut Pair::new(&broken, &Reference));
+            assert!(played.is_ok(), "{name}: step {place} is not needed");
+        }
+    }
+    assert!(sessions > 10, "{sessions} mistakes are shown by a session");
+}
+
+/// What is printed of a difference: the seed, the case, and both answers.
+#[test]
+fn a_difference_is_told() {
+    let difference = named("begin's frame is not counted");
+    let text = difference.to_string();
+    assert!(text.starts_with(&format!(
+        "DIFFERENT at seed {0} (--seed {0} --count 1)\n",
+        difference.seed
+    )));
+    assert!(text.contains("\ncall:      SenderBegin("));
+    assert!(text.contains("\nface:      Sender(SenderAnswer {"));
+    assert!(text.contains("\nreference: Sender(SenderAnswer {"));
+    assert!(matches!(difference.mismatch.call, Call::SenderBegin(..)));
+
+    let text = named("filler copied past L").to_string();
+    assert!(text.contains("\nbuffer:    at place "));
+}
