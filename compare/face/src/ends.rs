@@ -96,7 +96,7 @@ impl Ends for Reference {
     }
 }
 
-fn frame_of(flat: FlatFrame) -> Frame {
+pub fn frame_of(flat: FlatFrame) -> Frame {
     Frame {
         kind: flat.kind,
         data: flat.bytes,
@@ -116,7 +116,7 @@ fn byte(setting: u16) -> u8 {
     u8::try_from(setting).expect("gap and window of a state are at most 255")
 }
 
-fn sender_of(flat: FlatSender) -> Sender {
+pub fn sender_of(flat: FlatSender) -> Sender {
     let phase = match flat.phase {
         1 => Phase::Opening,
         2 => Phase::Sending {
@@ -223,7 +223,7 @@ fn sender_answer(end: &Sender, answer: Result<sender::Answer, Refused>) -> Sende
     }
 }
 
-fn receiver_of(flat: FlatReceiver) -> Receiver {
+pub fn receiver_of(flat: FlatReceiver) -> Receiver {
     let (n, l) = (flat.frames, flat.length);
     let state = match flat.phase {
         1 => State::Idle {

@@ -1,0 +1,298 @@
+//! Rows of the two ends. The proved code takes and returns a state by value; the reference's state is copied and changed.
+
+use std::hint::black_box;
+
+use compare::reference::receiver::Receiver;
+use compare::reference::sender::{self, Sender};
+use face::call::pool;
+use face::ends::{frame_of, receiver_of, sender_of};
+use face::ffi::Proved;
+use face::interface::Ends;
+use face::values::*;
+
+use crate::measure::Row;
+
+/// A message of this length.
+fn message(length: usize) -> &'static [u8] {
+    &pool()[..length]
+}
+
+fn frame(kind: u8, first: &[u8]) -> FlatFrame {
+    let mut bytes = [0xFF; 8];
+    bytes[..first.len()].copy_from_slice(first);
+    FlatFrame { kind, bytes }
+}
+
+fn idle_sender() -> FlatSender {
+    Proved.sender_make(2, 10, 60000).end
+}
+
+/// Opening, with 1785 bytes begun.
+fn opening() -> FlatSender {
+    Proved.sender_begin(idle_sender(), message(1785)).next
+}
+
+/// Sending frames 101 to 110.
+fn sending() -> FlatSender {
+    let taken = Proved.sender_hear(opening(), frame(2, &[1, 10])).next;
+    Proved.sender_hear(taken, frame(2, &[101, 10])).next
+}
+
+fn waiting() -> FlatSender {
+    FlatSender {
+        phase: 3,
+        next: 0,
+        count: 0,
+        ..sending()
+    }
+}
+
+fn short() -> FlatSender {
+    Proved.sender_begin(idle_sender(), message(8)).next
+}
+
+/// At the tick before its timeout, or before its gap's end.
+fn due(sender: FlatSender) -> FlatSender {
+    match sender.phase {
+        2 => FlatSender { count: 1, ..sender },
+        _ => FlatSender { wait: 9, ..sender },
+    }
+}
+
+fn over(sender: FlatSender) -> FlatSender {
+    FlatSender {
+        age: 59999,
+        ..sender
+    }
+}
+
+fn begin(name: &str, length: usize) -> Row {
+    let sender = idle_sender();
+    let (native, message) = (sender_of(sender), message(length));
+    Row::new(
+        name,
+        move || Proved.sender_begin(black_box(sender), black_box(message)),
+        move || {
+            let mut end = black_box(&native).clone();
+            let answer = end.begin(black_box(message));
+            (end, answer)
+        },
+    )
+}
+
+fn tick(name: &str, sender: FlatSender, length: usize) -> Row {
+    let (native, message) = (sender_of(sender), message(length));
+    Row::new(
+        name,
+        move || Proved.sender_tick(black_box(sender), black_box(message)),
+        move || {
+            let mut end = black_box(&native).clone();
+            let answer = end.tick(black_box(message));
+            (end, answer)
+        },
+    )
+}
+
+fn hear(name: &str, sender: FlatSender, frame: FlatFrame) -> Row {
+    let (native, heard) = (sender_of(sender), frame_of(frame));
+    Row::new(
+        name,
+        move || Proved.sender_hear(black_box(sender), black_box(frame)),
+        move || {
+            let mut end = black_box(&native).clone();
+            let answer = end.hear(black_box(heard));
+            (end, answer)
+        },
+    )
+}
+
+fn post() -> Row {
+    let sender = idle_sender();
+    let (native, message) = (sender_of(sender), message(8));
+    Row::new(
+        "post",
+        move || Proved.sender_post(black_box(sender), black_box(message)),
+        move || {
+            let end = black_box(&native).clone();
+            let answer = end.post(black_box(message));
+            (end, answer)
+        },
+    )
+}
+
+pub fn sender_rows() -> Vec<Row> {
+    vec![
+        Row::new(
+            "make",
+            || Proved.sender_make(black_box(2), black_box(10), black_box(60000)),
+            || Sender::make(black_box(2), black_box(10), black_box(60000)),
+        ),
+        begin("begin, long", 1785),
+        begin("begin, short", 8),
+        post(),
+        tick("tick, Idle", idle_sender(), 1785),
+        tick("tick, Opening", opening(), 1785),
+        tick("tick, Opening: frame 0 again", due(opening()), 1785),
+        tick("tick, Sending", sending(), 1785),
+        tick("tick, Sending: next frame", due(sending()), 1785),
+        tick("tick, Waiting", waiting(), 1785),
+        tick("tick, Waiting: last frame again", due(waiting()), 1785),
+        tick("tick, Short", short(), 8),
+        tick("tick, Short: SM_RM again", due(short()), 8),
+        tick("tick, sending time over", over(sending()), 1785),
+        tick("tick, refused 4", sending(), 1784),
+        hear("hear LM_ACK, taken", waiting(), frame(2, &[111, 10])),
+        hear("hear LM_ACK, ignored", waiting(), frame(2, &[100, 10])),
+        hear("hear LM_NACK", waiting(), frame(3, &[2])),
+        hear("hear EndofACK", waiting(), frame(4, &[255, 0xF9, 0x06])),
+        hear("hear SM_ACK", short(), frame(6, &message(8)[..1])),
+        hear("hear, refused 6", waiting(), frame(9, &[1])),
+        hear("hear, refused 7", waiting(), frame(1, &[1])),
+    ]
+}
+
+fn idle_receiver() -> FlatReceiver {
+    Proved.receiver_make(10, 10, 1785).end
+}
+
+/// Open for 1785 bytes, 101 expected at the start of a window.
+fn open() -> FlatReceiver {
+    FlatReceiver {
+        phase: 2,
+        frames: 255,
+        length: 1785,
+        expected: 101,
+        last: 110,
+        ..idle_receiver()
+    }
+}
+
+fn delivered() -> FlatReceiver {
+    FlatReceiver {
+        phase: 1,
+        frames: 255,
+        length: 1785,
+        ..idle_receiver()
+    }
+}
+
+fn receiver_tick(name: &str, receiver: FlatReceiver) -> Row {
+    let native = receiver_of(receiver);
+    Row::new(
+        name,
+        move || Proved.receiver_tick(black_box(receiver)),
+        move || {
+            let mut end = black_box(&native).clone();
+            let answer = end.tick();
+            (end, answer)
+        },
+    )
+}
+
+fn receiver_hear(name: &str, receiver: FlatReceiver, frame: FlatFrame, lent: usize) -> Row {
+    let (native, heard) = (receiver_of(receiver), frame_of(frame));
+    let (mut ours, mut theirs) = (vec![0; lent], vec![0; lent]);
+    Row::new(
+        name,
+        move || Proved.receiver_hear(black_box(receiver), black_box(frame), black_box(&mut ours)),
+        move || {
+            let mut end = black_box(&native).clone();
+            let answer = end.hear(black_box(heard), black_box(&mut theirs));
+            (end, answer)
+        },
+    )
+}
+
+pub fn receiver_rows() -> Vec<Row> {
+    let announcement = frame(1, &[0, 255, 0xF9, 0x06]);
+    let information = |number: u8| frame(1, &[number, 1, 2, 3, 4, 5, 6, 7]);
+    let expecting = |expected: u8| FlatReceiver { expected, ..open() };
+    let late = FlatReceiver { wait: 9, ..open() };
+    let hear = |name: &str, receiver, frame| receiver_hear(name, receiver, frame, 1785);
+    vec![
+        Row::new(
+            "make",
+            || Proved.receiver_make(black_box(10), black_box(10), black_box(1785)),
+            || Receiver::make(black_box(10), black_box(10), black_box(1785)),
+        ),
+        receiver_tick("tick, Idle", idle_receiver()),
+        receiver_tick("tick, Open", open()),
+        receiver_tick("tick, Open: LM_ACK again", late),
+        hear("hear frame 0, opens", idle_receiver(), announcement),
+        hear("hear frame 0 again", expecting(1), announcement),
+        hear("hear frame i, stored", open(), information(101)),
+        hear("hear frame w, LM_ACK", expecting(110), information(110)),
+        hear("hear frame N, delivered", expecting(255), information(255)),
+        hear("hear frame i, ignored", open(), information(100)),
+        hear("hear frame N after delivery", delivered(), information(255)),
+        hear("hear LM_NACK", open(), frame(3, &[2])),
+        hear("hear SM_RM", open(), frame(5, &[1, 2, 3])),
+        hear("hear SM_URM", open(), frame(7, &[1, 2, 3])),
+        receiver_hear("hear, refused 5", open(), information(101), 1784),
+        hear("hear, refused 6", open(), frame(9, &[1])),
+        hear("hear, refused 7", open(), frame(2, &[1, 1])),
+    ]
+}
+
+/// Both ends of the proved code from begin to sent, nothing lost; how many calls that took.
+fn proved_transfer(message: &[u8], buffer: &mut [u8]) -> u64 {
+    let mut receiver = Proved.receiver_make(10, 10, 1785).end;
+    let mut said = Proved.sender_begin(Proved.sender_make(1, 10, 60000).end, message);
+    let mut calls = 3;
+    while said.outcome != 2 {
+        if !said.emits {
+            said = Proved.sender_tick(said.next, message);
+            calls += 1;
+            continue;
+        }
+        let heard = Proved.receiver_hear(receiver, said.frame, buffer);
+        receiver = heard.next;
+        calls += 1;
+        if heard.emits {
+            said = Proved.sender_hear(said.next, heard.frame);
+            calls += 1;
+        } else {
+            said.emits = false;
+        }
+    }
+    calls
+}
+
+/// The same with the reference.
+fn reference_transfer(message: &[u8], buffer: &mut [u8]) -> u64 {
+    let mut receiver = Receiver::make(10, 10, 1785).expect("good settings");
+    let mut sender = Sender::make(1, 10, 60000).expect("good settings");
+    let mut said = sender.begin(message).expect("a good length");
+    let mut calls = 3;
+    while !matches!(said.report, Some(sender::Report::Sent { .. })) {
+        let Some(frame) = said.frame.take() else {
+            said = sender.tick(message).expect("the begun length");
+            calls += 1;
+            continue;
+        };
+        let heard = receiver.hear(frame, buffer).expect("a clean frame");
+        calls += 1;
+        if let Some(frame) = heard.frame {
+            said = sender.hear(frame).expect("a clean frame");
+            calls += 1;
+        }
+    }
+    calls
+}
+
+pub fn transfer_rows() -> Vec<Row> {
+    let lengths = [9, 100, 1785];
+    let row = |&length: &usize| {
+        let message = message(length);
+        let (mut ours, mut theirs) = (vec![0; 1785], vec![0; 1785]);
+        let calls = proved_transfer(message, &mut ours);
+        assert_eq!(calls, reference_transfer(message, &mut theirs));
+        assert_eq!((&ours, &ours[..length]), (&theirs, message));
+        Row::new(
+            &format!("clean transfer of {length} bytes, {calls} calls"),
+            move || proved_transfer(black_box(message), black_box(&mut ours)),
+            move || reference_transfer(black_box(message), black_box(&mut theirs)),
+        )
+    };
+    lengths.iter().map(row).collect()
+}

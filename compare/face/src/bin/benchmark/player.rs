@@ -1,0 +1,194 @@
+//! The player beside the reference's: programs run on run packs, from a file to nowhere.
+
+use std::fs::File;
+use std::path::{Path, PathBuf};
+use std::process::{Command, Stdio};
+use std::time::Instant;
+
+use compare::reference::player::{build, play, Settings};
+use face::call::pool;
+
+use crate::measure::spread;
+
+const COUNTS: [usize; 3] = [1000, 10000, 60000];
+/// Runs of each program in a round.
+const RUNS: usize = 3;
+const REPOSITORY: &str = concat!(env!("CARGO_MANIFEST_DIR"), "/../..");
+
+/// A sort of pack: its name, and its settings and events for so many events.
+struct Sort(&'static str, fn(usize) -> (Settings, Vec<u8>));
+
+const SORTS: [Sort; 5] = [
+    Sort("ticks of both ends", ticks),
+    Sort("a clean transfer, spread by ticks", clean),
+    Sort("a transfer, each frame lost twice", lossy),
+    Sort("a transfer, frames repeated and ignored", ignored),
+    Sort("frame 0 repeated, LM_ACK each time", answered),
+];
+
+const SETTINGS: Settings = Settings {
+    gap: 1,
+    sender_timeout: 10000,
+    sending_time: 60000,
+    receiver_timeout: 10000,
+    window: 1,
+    capacity: 1785,
+};
+
+/// Sender and receiver by turns.
+fn ticks(count: usize) -> (Settings, Vec<u8>) {
+    (SETTINGS, (0..count).map(|n| 1 + (n % 2) as u8).collect())
+}
+
+/// A window is one frame: LM_ACK is heard, the frame goes out, both ends tick, the frame is heard.
+fn clean(count: usize) -> (Settings, Vec<u8>) {
+    let spare = (count / 255).saturating_sub(3);
+    let (_, between) = ticks(spare);
+    (
+        SETTINGS,
+        transfer(count, &[&[6, 1], &between[..], &[3]].concat()),
+    )
+}
+
+/// Twice the frame is lost and the receiver asks again after its timeout.
+fn lossy(count: usize) -> (Settings, Vec<u8>) {
+    let timeout = ((count / 255).saturating_sub(9) / 2).max(1);
+    let lost = [&[6, 1, 4][..], &vec![2; timeout][..]].concat();
+    let settings = Settings {
+        receiver_timeout: timeout as u16,
+        ..SETTINGS
+    };
+    let frame = [&lost[..], &lost[..], &[6, 1, 3]].concat();
+    (settings, transfer(count, &frame))
+}
+
+/// A frame is stored when it is first heard, and ignored after that.
+fn ignored(count: usize) -> (Settings, Vec<u8>) {
+    let spare = (count / 255).saturating_sub(3);
+    (
+        SETTINGS,
+        transfer(count, &[&[6, 1], &vec![5; spare][..], &[3]].concat()),
+    )
+}
+
+fn answered(count: usize) -> (Settings, Vec<u8>) {
+    (SETTINGS, vec![5; count])
+}
+
+/// The announcement is heard, then the events of each frame.
+fn transfer(count: usize, frame: &[u8]) -> Vec<u8> {
+    let frames = frame.iter().copied().cycle();
+    std::iter::once(3).chain(frames).take(count).collect()
+}
+
+/// The two programs, the proved one first.
+fn programs() -> Result<[PathBuf; 2], String> {
+    let places = [
+        ("target/bin/play", "run `rt check play`"),
+        (
+            "compare/target/release/reference_player",
+            "run `cargo build --release` in compare/",
+        ),
+    ];
+    for (place, how) in places {
+        if !Path::new(REPOSITORY).join(place).exists() {
+            return Err(format!("{place} is missing: {how}"));
+        }
+    }
+    Ok(places.map(|(place, _)| Path::new(REPOSITORY).join(place)))
+}
+
+/// A pack in a file that goes with the value.
+struct Kept(PathBuf);
+
+impl Kept {
+    fn new(name: &str, pack: &[u8]) -> Result<Kept, String> {
+        let name = format!("kospelna-benchmark-{}-{name}.pack", std::process::id());
+        let path = std::env::temp_dir().join(name);
+        std::fs::write(&path, pack).map_err(|problem| problem.to_string())?;
+        Ok(Kept(path))
+    }
+}
+
+impl Drop for Kept {
+    fn drop(&mut self) {
+        let _ = std::fs::remove_file(&self.0);
+    }
+}
+
+/// Nanoseconds of a run, start and end of the process included.
+fn run(program: &Path, pack: &Kept) -> Result<f64, String> {
+    let told = |problem: std::io::Error| format!("{}: {problem}", program.display());
+    let input = File::open(&pack.0).map_err(told)?;
+    let start = Instant::now();
+    let status = Command::new(program)
+        .stdin(input)
+        .stdout(Stdio::null())
+        .status()
+        .map_err(told)?;
+    let time = start.elapsed().as_nanos() as f64;
+    match status.success() {
+        true => Ok(time),
+        false => Err(format!("{}: {status}", program.display())),
+    }
+}
+
+/// Nanoseconds of an event, round by round: what a pack takes beyond one without events.
+fn measure(
+    programs: &[PathBuf; 2],
+    pack: &Kept,
+    empty: &Kept,
+    count: usize,
+    rounds: usize,
+) -> Result<[Vec<f64>; 2], String> {
+    let mut times = [Vec::new(), Vec::new()];
+    for _ in 0..rounds {
+        for (program, times) in programs.iter().zip(&mut times) {
+            let mut beyond = 0.0;
+            for _ in 0..RUNS {
+                beyond += run(program, pack)? - run(program, empty)?;
+            }
+            times.push(beyond / (RUNS * count) as f64);
+        }
+    }
+    Ok(times)
+}
+
+fn print_row(name: &str, count: usize, lines: usize, [proved, reference]: [Vec<f64>; 2]) {
+    let pairs = proved.iter().zip(&reference);
+    let ratio = spread(
+        pairs
+            .map(|(proved, reference)| proved / reference)
+            .collect(),
+    );
+    let (proved, reference) = (spread(proved).median, spread(reference).median);
+    println!(
+        "| {name} | {count} | {lines} | {proved:.1} | {reference:.1} | {:.1} | {:.1} | {:.2} | {:.2} | {:.2} |",
+        1e3 / proved,
+        1e3 / reference,
+        ratio.median,
+        ratio.least,
+        ratio.most
+    );
+}
+
+pub fn print_tables(rounds: usize) -> Result<(), String> {
+    let programs = programs()?;
+    println!("\nthe player: ns an event and million events a second, median of {rounds} rounds of {RUNS} runs;");
+    println!("ratio proved to reference; the process's start, measured on a pack without events, is taken off");
+    println!();
+    println!("| pack | events | lines | proved ns | reference ns | proved M/s | reference M/s | ratio | least | greatest |");
+    println!("|---|---:|---:|---:|---:|---:|---:|---:|---:|---:|");
+    for Sort(name, events) in &SORTS {
+        for count in COUNTS {
+            let (settings, events) = events(count);
+            let bytes = build(&settings, &pool()[..1785], &events);
+            let lines = play(&bytes).lines().count();
+            let pack = Kept::new("events", &bytes)?;
+            let empty = Kept::new("empty", &build(&settings, &pool()[..1785], &[]))?;
+            let times = measure(&programs, &pack, &empty, count, rounds)?;
+            print_row(name, count, lines, times);
+        }
+    }
+    Ok(())
+}
