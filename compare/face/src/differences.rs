@@ -124,48 +124,39 @@ fn single_call(random: &mut Random) -> Call {
 impl fmt::Display for Difference {
     fn fmt(&self, f: &mut fmt::Formatter) -> fmt::Result {
         writeln!(f, "DIFFERENT at seed {0} (--seed {0} --count 1)", self.seed)?;
+        let (had, left) = (self.steps, self.case.steps());
         match &self.case {
             Case::Single(_) => writeln!(f, "a single call:")?,
             Case::Session(session) => {
-                writeln!(
-                    f,
-                    "a session of {} steps, {} left:",
-                    self.steps,
-                    session.steps.len()
-                )?;
-                writeln!(
-                    f,
-                    "sender {:?}, receiver {:?}",
-                    session.sender, session.receiver
-                )?;
-                for (place, part) in session.messages.iter().enumerate() {
-                    writeln!(
-                        f,
-                        "message {place}: {} bytes of the pool from {}",
-                        part.length, part.from
-                    )?;
-                }
-                for step in &session.steps {
-                    writeln!(f, "    {step:?}")?;
-                }
+                writeln!(f, "a session of {had} steps, {left} left:")?;
+                tell_session(session, f)?;
             }
             Case::Talk(talk) => {
-                writeln!(
-                    f,
-                    "a talk of {} steps, {} left:",
-                    self.steps,
-                    talk.steps.len()
-                )?;
-                writeln!(
-                    f,
-                    "lists {:02X?}, control bytes {:02X?}",
-                    talk.lists, talk.controls
-                )?;
-                for step in &talk.steps {
-                    writeln!(f, "    {step:?}")?;
-                }
+                writeln!(f, "a talk of {had} steps, {left} left:")?;
+                tell_talk(talk, f)?;
             }
         }
         write!(f, "{}", self.mismatch)
     }
+}
+
+fn tell_session(session: &Session, f: &mut fmt::Formatter) -> fmt::Result {
+    let (sender, receiver) = (session.sender, session.receiver);
+    writeln!(f, "sender {sender:?}, receiver {receiver:?}")?;
+    for (place, part) in session.messages.iter().enumerate() {
+        let (length, from) = (part.length, part.from);
+        writeln!(f, "message {place}: {length} bytes of the pool from {from}")?;
+    }
+    session
+        .steps
+        .iter()
+        .try_for_each(|step| writeln!(f, "    {step:?}"))
+}
+
+fn tell_talk(talk: &Talk, f: &mut fmt::Formatter) -> fmt::Result {
+    let (lists, controls) = (&talk.lists, talk.controls);
+    writeln!(f, "lists {lists:02X?}, control bytes {controls:02X?}")?;
+    talk.steps
+        .iter()
+        .try_for_each(|step| writeln!(f, "    {step:?}"))
 }

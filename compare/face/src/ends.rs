@@ -144,53 +144,62 @@ pub fn sender_of(flat: FlatSender) -> Sender {
     }
 }
 
-/// What the phase has, and 0 for the rest.
-fn flat_sender(end: &Sender) -> FlatSender {
-    let settings = FlatSender {
+/// What every phase has.
+fn flat_settings(end: &Sender) -> FlatSender {
+    FlatSender {
         gap: end.gap.into(),
         timeout: end.timeout,
         limit: end.sending_time,
         ..FlatSender::default()
+    }
+}
+
+/// What every phase but Idle has; N in Short is 1, as one frame carries the message.
+fn flat_transfer(end: &Sender, phase: u8) -> FlatSender {
+    let frames = match end.phase {
+        Phase::Short => 1,
+        _ => frames_for(end.length) as u8,
     };
-    let transfer = FlatSender {
+    FlatSender {
+        phase,
         length: end.length,
-        frames: frames_for(end.length) as u8,
+        frames,
         first: end.first,
         age: end.age,
         emitted: end.frames,
-        misses: end.misses,
-        ..settings
-    };
+        ..flat_settings(end)
+    }
+}
+
+/// What the phase has, and 0 for the rest.
+fn flat_sender(end: &Sender) -> FlatSender {
+    let (wait, misses) = (end.wait, end.misses);
     let start = end.start.unwrap_or(0);
     match end.phase {
-        Phase::Idle => settings,
+        Phase::Idle => flat_settings(end),
         Phase::Opening => FlatSender {
-            phase: 1,
-            wait: end.wait,
-            ..transfer
+            wait,
+            misses,
+            ..flat_transfer(end, 1)
         },
         Phase::Sending { next, last } => FlatSender {
-            phase: 2,
+            misses,
             start,
             next,
             last,
             count: end.gap_count,
-            ..transfer
+            ..flat_transfer(end, 2)
         },
         Phase::Waiting { last } => FlatSender {
-            phase: 3,
+            wait,
+            misses,
             start,
             last,
-            wait: end.wait,
-            ..transfer
+            ..flat_transfer(end, 3)
         },
-        // One frame carries it all.
         Phase::Short => FlatSender {
-            phase: 4,
-            frames: 1,
-            misses: 0,
-            wait: end.wait,
-            ..transfer
+            wait,
+            ..flat_transfer(end, 4)
         },
     }
 }
