@@ -1,8 +1,13 @@
 //! The comparison catches every broken reference within a fixed count of calls, and its shortened case is short.
 
-use face::broken::{mistakes, Broken};
+use std::sync::atomic::{AtomicU64, Ordering};
+
+use compare::packs::random::Random;
+use face::broken::{mistakes, Broken, Mistake};
 use face::call::{Call, Pair, NAMES};
 use face::differences::{first_difference, Case, Difference};
+use face::sessions;
+use face::values::{FlatFrame, FlatSender, SenderAnswer};
 use face::Reference;
 
 /// Calls within which every mistake is found.
@@ -76,6 +81,43 @@ fn every_mistake_is_caught() {
         let mut pair = Pair::new(&broken, &Reference);
         let again = difference.case.play(&mut pair);
         assert_eq!(again.unwrap_err().call, difference.mismatch.call, "{name}");
+    }
+}
+
+/// Transfers that were sent in sessions: all of them, the long ones, and those of 1785 bytes.
+static SENT: [AtomicU64; 3] = [const { AtomicU64::new(0) }; 3];
+
+fn count(sender: FlatSender, _: FlatFrame, answer: &mut SenderAnswer) {
+    let lengths = [1, 9, 1785];
+    for (least, sent) in lengths.into_iter().zip(&SENT) {
+        if answer.outcome == 2 && sender.length >= least {
+            sent.fetch_add(1, Ordering::Relaxed);
+        }
+    }
+}
+
+/// Sessions carry transfers to their end, the longest too.
+#[test]
+fn transfers_go_through() {
+    let counting = Broken(Mistake::SenderHear(count));
+    let mut pair = Pair::new(&counting, &Reference);
+    for seed in 0..5000 {
+        let (_, played) = sessions::run(&mut Random::new(seed), &mut pair);
+        assert!(played.is_ok());
+    }
+    let sent = SENT.each_ref().map(|sent| sent.load(Ordering::Relaxed));
+    println!("sent: {sent:?} of {} calls", pair.tally.total());
+    assert!(sent[0] > 5000 && sent[1] > 2000 && sent[2] > 20, "{sent:?}");
+}
+
+/// The seed that is named shows the difference at once.
+#[test]
+fn a_seed_shows_its_difference_again() {
+    for (name, mistake) in mistakes().into_iter().step_by(5) {
+        let broken = Broken(mistake);
+        let (_, difference) = found(name, &broken);
+        let (_, again) = first_difference(&broken, &Reference, difference.seed, 1);
+        assert_eq!(again.unwrap().case, difference.case, "{name}");
     }
 }
 

@@ -28,6 +28,13 @@ fn the_program() {
     assert_eq!(status, Some(0), "{text}");
     assert!(text.contains("calls from seed 7 alike"));
     assert!(text.contains("calls: kospelna_receiver_hear "));
+
+    let (status, text) = calls(&["--mistake", "filler copied past L"]);
+    assert_eq!(status, Some(1));
+    assert!(text.starts_with("DIFFERENT at seed "));
+    assert!(text.contains("buffer:    at place "));
+
+    assert_eq!(calls(&["--mistake", "none"]).0, Some(2));
     assert_eq!(calls(&["--count", "many"]).0, Some(2));
     assert_eq!(calls(&["--speed"]).0, Some(2));
 }

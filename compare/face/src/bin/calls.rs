@@ -4,30 +4,39 @@
 use std::process::ExitCode;
 use std::time::Instant;
 
+use face::broken::{mistakes, Broken, Mistake};
 use face::call::{Tally, NAMES};
 use face::differences::first_difference;
 use face::ffi::Proved;
 use face::Reference;
 
-const USAGE: &str = "usage: calls [--count N] [--seed S]
-    --count N   how many calls, at least (default 10000000)
-    --seed S    the first case's seed (default 1)";
+const USAGE: &str = "usage: calls [--count N] [--seed S] [--mistake NAME]
+    --count N        how many calls, at least (default 10000000)
+    --seed S         the first case's seed (default 1)
+    --mistake NAME   in place of the proved code a reference with this mistake, to see a difference; the names are in
+                     src/broken/";
 
 struct Options {
     count: u64,
     seed: u64,
+    mistake: Option<Mistake>,
 }
 
 fn options(mut words: impl Iterator<Item = String>) -> Option<Options> {
     let mut options = Options {
         count: 10_000_000,
         seed: 1,
+        mistake: None,
     };
     while let Some(name) = words.next() {
         let value = words.next()?;
         match name.as_str() {
             "--count" => options.count = value.parse().ok()?,
             "--seed" => options.seed = value.parse().ok()?,
+            "--mistake" => {
+                let named = mistakes().into_iter().find(|(name, _)| *name == value);
+                options.mistake = Some(named?.1);
+            }
             _ => return None,
         }
     }
@@ -57,7 +66,11 @@ fn main() -> ExitCode {
         return ExitCode::from(2);
     };
     let start = Instant::now();
-    let (tally, difference) = first_difference(&Proved, &Reference, options.seed, options.count);
+    let (seed, count) = (options.seed, options.count);
+    let (tally, difference) = match options.mistake {
+        None => first_difference(&Proved, &Reference, seed, count),
+        Some(mistake) => first_difference(&Broken(mistake), &Reference, seed, count),
+    };
     if let Some(difference) = difference {
         print!("{difference}");
         return ExitCode::from(1);
@@ -66,7 +79,7 @@ fn main() -> ExitCode {
     println!(
         "calls: {} calls from seed {} alike, in {:.1} s",
         tally.total(),
-        options.seed,
+        seed,
         start.elapsed().as_secs_f64()
     );
     ExitCode::SUCCESS
