@@ -3,7 +3,7 @@
 -- Assumes nothing.
 use Prim.Native.Nat.{ℕ, _≤_}
 use mathlib.Core.Path.{_≡_, refl, sym, ap, _∙_}
-use mathlib.Core.Bool.{Bool, true, false}
+use mathlib.Core.Bool.{Bool, true, false, false≢true}
 use mathlib.Core.List.{List, [], _∷_, _++_, map, append-nil}
 use native.Mathlib.Omega.{arith}
 use borrow.Author.Needs.{length-unmapped}
@@ -18,7 +18,7 @@ use Rattle.line.proofs.Frames.{frames-joined, frames-limit, frames-some, frames
 use Rattle.line.proofs.Laws.{rest-empty}
 use Rattle.line.specs.Ring.{framesIn, headOf, restOf, Kept, kept, joinOf}
 use Rattle.line.specs.declared.Ring.{Ring}
-use Rattle.player.specs.State.{worldOf, Turned, turned, printed, turnOf, senderAnswered, receiverAnswered}
+use Rattle.player.specs.State.{worldOf, Turned, turned, printed, turnOf, senderAnswered, receiverAnswered, senderSaid, receiverSaid}
 use Rattle.player.specs.Step.{capped, playerStep, turnFor}
 use Rattle.player.specs.Text.{letterOf, framesText, eventText}
 use Rattle.player.specs.declared.Ends.{Ends}
@@ -79,6 +79,54 @@ pub receiver-answered : (ends : Ends) (r : Ring) (t : receiver.Told) (number : �
     ≡ receiverAnswered (worldOf ends forward bytes buffer) t number p
 unfolding receiverAnswered
 receiver-answered ends r t number bytes after p q line text forward buffer = rw (line, text) refl
+
+-- an answer that says nothing: no line of text, and no frame joins
+silent-sender : (t : sender.Told) (number : ℕ) → senderSaid (t .emits) (t .outcome) ≡ false
+    → (t .emits ≡ false) × (senderText number t ≡ [])
+unfolding senderText emittedText senderReport
+silent-sender t number e = go (t .outcome) e
+  where
+    go : (o : sender.Outcome) → senderSaid (t .emits) o ≡ false
+        → (t .emits ≡ false) × (emittedText number letterS (t .emits) (t .frame) ++ senderReport number o ≡ [])
+    go sender.quiet q = (q, rw q refl)
+    go (sender.refused n) q = absurd (false≢true (sym q))
+    go (sender.sent ticks frames) q = absurd (false≢true (sym q))
+    go (sender.failed cause ticks frames) q = absurd (false≢true (sym q))
+
+silent-receiver : (t : receiver.Told) (number : ℕ) → receiverSaid (t .emits) (t .outcome) ≡ false
+    → (t .emits ≡ false) × (receiverText number t ≡ [])
+unfolding receiverText emittedText receiverReport
+silent-receiver t number e = go (t .outcome) e
+  where
+    go : (o : receiver.Outcome) → receiverSaid (t .emits) o ≡ false
+        → (t .emits ≡ false) × (emittedText number letterR (t .emits) (t .frame) ++ receiverReport number o (t .bytes) ≡ [])
+    go receiver.quiet q = (q, rw q refl)
+    go (receiver.refused n) q = absurd (false≢true (sym q))
+    go (receiver.delivered l) q = absurd (false≢true (sym q))
+    go (receiver.failed cause) q = absurd (false≢true (sym q))
+    go receiver.short q = absurd (false≢true (sym q))
+
+pub sender-silent : (ends : Ends) (t : sender.Told) (number : ℕ) (bytes : List ℕ) (p : Page) (said : Bool)
+    → said ≡ senderSaid (t .emits) (t .outcome)
+    → said ≡ false
+    → (back buffer : List ℕ)
+    → turned (worldOf (record { sender = t .next; receiver = ends .receiver; forward = ends .forward; back = ends .back }) bytes back buffer) p
+    ≡ senderAnswered (worldOf ends bytes back buffer) t number p
+unfolding senderAnswered put
+sender-silent ends t number bytes p said e none back buffer =
+    let q = silent-sender t number (sym e ∙ none) in
+    rw (q .1, q .0, append-nil, all-frames (ends .forward) bytes) refl
+
+pub receiver-silent : (ends : Ends) (t : receiver.Told) (number : ℕ) (bytes : List ℕ) (p : Page) (said : Bool)
+    → said ≡ receiverSaid (t .emits) (t .outcome)
+    → said ≡ false
+    → (forward buffer : List ℕ)
+    → turned (worldOf (record { sender = ends .sender; receiver = t .next; forward = ends .forward; back = ends .back }) forward bytes buffer) p
+    ≡ receiverAnswered (worldOf ends forward bytes buffer) t number p
+unfolding receiverAnswered put
+receiver-silent ends t number bytes p said e none forward buffer =
+    let q = silent-receiver t number (sym e ∙ none) in
+    rw (q .1, q .0, append-nil, all-frames (ends .back) bytes) refl
 
 -- ---- a call's step
 

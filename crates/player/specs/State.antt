@@ -1,5 +1,6 @@
 -- What the player keeps, as the transport's world: the ends, and each line read from its ring's first place.
 use Prim.Native.Nat.{ℕ}
+use mathlib.Core.Bool.{Bool, true}
 use mathlib.Core.List.{List, _++_}
 use lib.ListN.{take}
 use Rattle.line.specs.Ring.{framesIn}
@@ -66,3 +67,17 @@ receiverAnswered w t number p =
       buffer = w .buffer;
     })
     (put p (receiverText number t))
+
+-- an answer that emits no frame and reports nothing has nothing to print
+abbrev pub senderSaid : Bool → sender.Outcome → Bool
+senderSaid emits sender.quiet = emits
+senderSaid emits (sender.refused number) = true
+senderSaid emits (sender.sent ticks frames) = true
+senderSaid emits (sender.failed cause ticks frames) = true
+
+abbrev pub receiverSaid : Bool → receiver.Outcome → Bool
+receiverSaid emits receiver.quiet = emits
+receiverSaid emits (receiver.refused number) = true
+receiverSaid emits (receiver.delivered length) = true
+receiverSaid emits (receiver.failed cause) = true
+receiverSaid emits receiver.short = true

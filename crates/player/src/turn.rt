@@ -4,7 +4,7 @@ ghost use mathlib.Core.List.{List, _++_};
 ghost use Prim.Native.Nat.{ℕ};
 ghost use lib.ListN.{length, take};
 ghost use Rattle.line.specs.Ring.{framesIn};
-ghost use Rattle.player.specs.State.{worldOf, turned, printed, turnOf, senderAnswered, receiverAnswered};
+ghost use Rattle.player.specs.State.{worldOf, turned, printed, turnOf, senderAnswered, receiverAnswered, senderSaid, receiverSaid};
 ghost use Rattle.receiver.specs.Told as receiver-told;
 ghost use Rattle.sender.specs.Told as sender-told;
 ghost use Rattle.player.specs.Step.{playerStep};
@@ -28,9 +28,40 @@ pub(crate) fn line_after(ring: Ring, emits: bool, f: Frame, bytes: &mut [u8]) ->
     if emits { ring.join(f, bytes) } else { ring }
 }
 
+// Whether an answer has anything to print: a frame or a report.
+fn sender_said(emits: bool, outcome: sender::Outcome) -> bool
+    ensures { λ r. ⌜ r ≡ senderSaid emits (sender-told.toldOutcome outcome) ⌝ }
+{
+    match outcome {
+        sender::Outcome::Quiet => emits,
+        sender::Outcome::Refused(_) => true,
+        sender::Outcome::Sent {
+            ticks: _,
+            frames: _,
+        } => true,
+        sender::Outcome::Failed {
+            cause: _,
+            ticks: _,
+            frames: _,
+        } => true,
+    }
+}
+
+fn receiver_said(emits: bool, outcome: receiver::Outcome) -> bool
+    ensures { λ r. ⌜ r ≡ receiverSaid emits (receiver-told.toldOutcome outcome) ⌝ }
+{
+    match outcome {
+        receiver::Outcome::Quiet => emits,
+        receiver::Outcome::Refused(_) => true,
+        receiver::Outcome::Delivered(_) => true,
+        receiver::Outcome::Failed(_) => true,
+        receiver::Outcome::Short => true,
+    }
+}
+
 impl Ends {
     // The sender has answered: its lines are printed, and its frame joins forward. Whatever back and the buffer hold.
-    fn sender_answered(
+    fn sender_spoke(
         self,
         a: sender::Answer,
         number: u16,
@@ -59,9 +90,40 @@ impl Ends {
         Turn { ends, at: next }
     }
 
+    // The same; most answers say nothing, and then nothing but the sender changes.
+    fn sender_answered(
+        self,
+        a: sender::Answer,
+        number: u16,
+        forward: &mut [u8],
+        out: &mut [u8],
+        at: usize,
+    ) -> Turn
+        requires { ⌜ length (now forward) ≡ 576 ⌝ }
+        ensures { λ r. ⌜ ((back buffer : List ℕ) →
+            turned (worldOf (r .ends) (now (forward .exit)) back buffer) (page (now (out .exit)) (r .at))
+            ≡ senderAnswered (worldOf self (now (forward .entry)) back buffer) (sender-told.told a) number (page (now (out .entry)) at)) ⌝ }
+    {
+        let outcome = a.outcome;
+        if sender_said(a.emits, outcome) {
+            return self.sender_spoke(a, number, forward, out, at);
+        }
+        let sender = a.next;
+        let receiver = self.receiver;
+        let forward = self.forward;
+        let back = self.back;
+        let ends = Ends {
+            sender,
+            receiver,
+            forward,
+            back,
+        };
+        Turn { ends, at }
+    }
+
     // The receiver has answered: its lines are printed, and its frame joins back. Whatever forward and the
     // buffer hold.
-    fn receiver_answered(
+    fn receiver_spoke(
         self,
         a: receiver::Answer,
         number: u16,
@@ -88,6 +150,37 @@ impl Ends {
             back,
         };
         Turn { ends, at: next }
+    }
+
+    // The same; most answers say nothing, and then nothing but the receiver changes.
+    fn receiver_answered(
+        self,
+        a: receiver::Answer,
+        number: u16,
+        back: &mut [u8],
+        out: &mut [u8],
+        at: usize,
+    ) -> Turn
+        requires { ⌜ length (now back) ≡ 576 ⌝ }
+        ensures { λ r. ⌜ ((forward buffer : List ℕ) →
+            turned (worldOf (r .ends) forward (now (back .exit)) buffer) (page (now (out .exit)) (r .at))
+            ≡ receiverAnswered (worldOf self forward (now (back .entry)) buffer) (receiver-told.told a) number (page (now (out .entry)) at)) ⌝ }
+    {
+        let outcome = a.outcome;
+        if receiver_said(a.emits, outcome) {
+            return self.receiver_spoke(a, number, back, out, at);
+        }
+        let sender = self.sender;
+        let receiver = a.next;
+        let forward = self.forward;
+        let back = self.back;
+        let ends = Ends {
+            sender,
+            receiver,
+            forward,
+            back,
+        };
+        Turn { ends, at }
     }
 
     // The begin, which is number 0.
