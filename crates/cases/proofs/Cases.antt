@@ -18,7 +18,6 @@ use Rattle.sender.specs.declared.Sender.{Sender}
 use Rattle.receiver.specs.Hear as receiver-hear
 use Rattle.receiver.specs.Tick as receiver-tick
 use Rattle.identifier.specs.Answer.{joinOf}
-use Rattle.identifier.specs.Choice as identifier-choice
 use Rattle.identifier.specs.Identifier.{fitsOf, numberOf}
 use Rattle.cases.specs.Answer.{shownBegin, beginFrame, unlessRefused, senderTicks, senderInSilence, receiverTicks, receiverInSilence, ofSender, ofReceiver, shownJoined, answerOf}
 use Rattle.cases.specs.Claim.{Claim}
@@ -45,7 +44,7 @@ unfolding
     receiver-hear.hearOf receiver-hear.hearRead receiver-hear.hearKind receiver-hear.hearNumbered
     receiver-hear.hearAnnouncement receiver-hear.announceIdle receiver-hear.opening
     receiver-tick.makeOf receiver-tick.tickOf receiver-tick.tickPhase receiver-tick.tickOpen
-    shownJoined joinOf identifier-choice.pick fitsOf numberOf
+    shownJoined joinOf fitsOf numberOf
 all-right = tt
 
 -- so the definitions answer each row's question with the row's numbers

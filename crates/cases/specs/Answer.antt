@@ -17,7 +17,6 @@ use Rattle.receiver.specs.Tick as receiver-tick
 use Rattle.receiver.specs.Told as receiver
 use Rattle.receiver.specs.declared.Receiver.{Receiver}
 use Rattle.identifier.specs.Answer as parts
-use Rattle.identifier.specs.declared.Parts.{Parts}
 use Rattle.cases.specs.Row.{Question, begun, acknowledged, senderSilence, receiverSilence, joined, refusal, identifier, short, announces, at}
 
 -- a frame by its kind and its d0: an information frame's number, LM_ACK's start, LM_NACK's cause
