@@ -1,12 +1,15 @@
 //! For callgrind, which counts instructions: every row's calls, each side in one call of `counted`, and no timing.
 
+use std::hint::black_box;
+
 use crate::boundary::shapes;
 use crate::measure::{Calls, Row};
 
-/// callgrind counts in here alone; `tools/instructions` names it.
+/// callgrind counts in here alone; `tools/instructions` names it. It must return by itself, and not by a jump to the calls.
 #[inline(never)]
-pub fn counted(calls: &mut Calls, count: u64) {
+fn counted(calls: &mut Calls, count: u64) {
     calls(count);
+    black_box(());
 }
 
 /// Prints a title, and under it the names in the order in which they are counted.
