@@ -12,9 +12,10 @@ use face::ffi::Proved;
 use face::interface::Around;
 use face::values::*;
 
-use crate::measure::Row;
+use crate::measure::{given, Row};
 
 const CHARGER: [Version; 4] = [[1, 1, 0], [2, 0, 0], [2, 0, 1], [3, 0, 0]];
+const IDENTIFIER: u32 = 0x0C38_F456;
 const VEHICLE: [Version; 3] = [[1, 1, 0], [2, 0, 1], [2, 1, 0]];
 
 fn joins(face: impl Around) -> impl FnMut() -> FlatJoined {
@@ -26,11 +27,13 @@ fn joins(face: impl Around) -> impl FnMut() -> FlatJoined {
         ps: 0xF4,
         sa: 0x56,
     };
-    move || face.identifier_join(black_box(parts))
+    given(parts, move |parts| face.identifier_join(*parts))
 }
 
 fn divides(face: impl Around) -> impl FnMut() -> FlatParted {
-    move || face.identifier_part(black_box(0x0C38_F456))
+    given(IDENTIFIER, move |&identifier| {
+        face.identifier_part(identifier)
+    })
 }
 
 fn identifier_rows() -> Vec<Row> {
@@ -47,11 +50,14 @@ fn identifier_rows() -> Vec<Row> {
             "identifier, join",
             joins(Proved),
             joins(Behind),
-            move || identifier::build(black_box(parts)),
+            given(parts, |parts| identifier::build(*parts)),
         ),
-        Row::new("identifier, part", divides(Proved), divides(Behind), || {
-            identifier::read(black_box(0x0C38_F456))
-        }),
+        Row::new(
+            "identifier, part",
+            divides(Proved),
+            divides(Behind),
+            given(IDENTIFIER, |&identifier| identifier::read(identifier)),
+        ),
     ]
 }
 
@@ -63,16 +69,16 @@ const MESSAGE: FlatMessage = FlatMessage {
 
 fn lists(face: impl Around) -> impl FnMut() -> FlatListing {
     let bytes = CHARGER.concat();
-    move || face.version_list(black_box(&bytes))
+    given(bytes, move |bytes| face.version_list(bytes))
 }
 
 fn writes_message(face: impl Around) -> impl FnMut() -> FlatBytes {
-    move || face.version_message_write(black_box(MESSAGE))
+    given(MESSAGE, move |message| face.version_message_write(*message))
 }
 
 fn reads_message(face: impl Around) -> impl FnMut() -> FlatMessageReading {
     let bytes = face.version_message_write(MESSAGE);
-    move || face.version_message_read(black_box(bytes))
+    given(bytes, move |bytes| face.version_message_read(*bytes))
 }
 
 fn version_rows() -> Vec<Row> {
@@ -87,19 +93,21 @@ fn version_rows() -> Vec<Row> {
             "version list of four",
             lists(Proved),
             lists(Behind),
-            move || versions(black_box(&list)),
+            given(list, |list| versions(list)),
         ),
         Row::new(
             "version message, write",
             writes_message(Proved),
             writes_message(Behind),
-            move || version::build(black_box(message), black_box(9)),
+            given((message, 9), |&(message, control)| {
+                version::build(message, control)
+            }),
         ),
         Row::new(
             "version message, read",
             reads_message(Proved),
             reads_message(Behind),
-            move || version::read(black_box(bytes)),
+            given(bytes, |bytes| version::read(*bytes)),
         ),
     ]
 }
@@ -111,7 +119,7 @@ fn talking() -> FlatTalker {
 }
 
 fn talker_ticks(face: impl Around, talker: FlatTalker) -> impl FnMut() -> FlatAnswer {
-    move || face.talker_tick(black_box(talker))
+    given(talker, move |talker| face.talker_tick(*talker))
 }
 
 fn talker_hears(
@@ -119,7 +127,9 @@ fn talker_hears(
     talker: FlatTalker,
     bytes: [u8; 8],
 ) -> impl FnMut() -> FlatAnswer {
-    move || face.talker_hear(black_box(talker), black_box(FlatBytes { bytes }))
+    given((talker, FlatBytes { bytes }), move |(talker, bytes)| {
+        face.talker_hear(*talker, *bytes)
+    })
 }
 
 /// The reference's talker is changed in place and its counts put back: a copy would be an allocation.
@@ -159,7 +169,7 @@ fn talker_rows() -> Vec<Row> {
             talker_hears(Behind, talker, bytes),
             move || {
                 (end.ns, end.outcome) = (place, Outcome::Continue);
-                black_box(&mut end).hear(black_box(bytes))
+                black_box(&mut end).hear(*black_box(&bytes))
             },
         ),
         talk_row(),
@@ -234,7 +244,9 @@ fn talks(face: impl Around + Copy) -> impl FnMut() -> u64 {
         talk(face, &charger, &vehicle),
         direct_talk(&charger, &vehicle)
     );
-    move || talk(face, black_box(&charger), black_box(&vehicle))
+    given((charger, vehicle), move |(charger, vehicle)| {
+        talk(face, charger, vehicle)
+    })
 }
 
 fn talk_row() -> Row {
@@ -244,17 +256,22 @@ fn talk_row() -> Row {
         &format!("a version talk, {calls} calls"),
         talks(Proved),
         talks(Behind),
-        move || direct_talk(black_box(&charger), black_box(&vehicle)),
+        given((charger, vehicle), |(charger, vehicle)| {
+            direct_talk(charger, vehicle)
+        }),
     )
 }
 
 fn reads_group(face: impl Around, bytes: [u8; 8]) -> impl FnMut() -> FlatGroupReading {
-    move || face.group_read(black_box(&bytes))
+    given(bytes, move |bytes| face.group_read(bytes))
 }
 
 fn writes_group(face: impl Around, group: FlatGroup) -> impl FnMut() -> FlatGroupWriting {
     let mut bytes = [0; 8];
-    move || face.group_write(black_box(group), black_box(&mut bytes))
+    move || {
+        let bytes = black_box(&mut bytes);
+        face.group_write(*black_box(&group), bytes)
+    }
 }
 
 /// Reading and writing a group.
@@ -270,13 +287,16 @@ fn group_pair(flat: FlatGroup, group: Group) -> [Row; 2] {
             &format!("group {code:x}, read"),
             reads_group(Proved, bytes),
             reads_group(Behind, bytes),
-            move || groups::read(black_box(&bytes)),
+            given(bytes, |bytes| groups::read(bytes)),
         ),
         Row::new(
             &format!("group {code:x}, write"),
             writes_group(Proved, flat),
             writes_group(Behind, flat),
-            move || groups::write(black_box(group), black_box(&mut other)),
+            move || {
+                let bytes = black_box(&mut other);
+                groups::write(*black_box(&group), bytes)
+            },
         ),
     ]
 }

@@ -1,12 +1,11 @@
 //! What the boundary alone costs: functions with the parameters and results of the face that apply no rule.
 
-use std::hint::black_box;
 use std::mem::size_of;
 
 use face::empty::{self, translated};
 use face::values::*;
 
-use crate::measure::{by_turns, many, spread, Calls};
+use crate::measure::{by_turns, given, many, spread, Calls};
 
 /// A function's parameters and result, with the bytes of the structs in each.
 pub struct Shape {
@@ -16,15 +15,23 @@ pub struct Shape {
     pub calls: Calls,
 }
 
-fn shape<T>(name: &'static str, given: usize, call: impl FnMut() -> T + 'static) -> Shape {
+fn shape<G: 'static, T: 'static>(
+    name: &'static str,
+    bytes: usize,
+    values: G,
+    call: impl Fn(&G) -> T + 'static,
+) -> Shape {
     Shape {
         name,
-        given,
+        given: bytes,
         answered: size_of::<T>(),
-        calls: many(call),
+        calls: many(given(values, call)),
     }
 }
 
+const SENDER: usize = size_of::<FlatSender>();
+const RECEIVER: usize = size_of::<FlatReceiver>();
+const TALKER: usize = size_of::<FlatTalker>();
 const FRAME: FlatFrame = FlatFrame {
     kind: 2,
     bytes: [1, 10, 255, 255, 255, 255, 255, 255],
@@ -68,103 +75,100 @@ fn talker() -> FlatTalker {
 }
 
 fn sender_shapes() -> Vec<Shape> {
-    let given = size_of::<FlatSender>();
-    let (sender, length) = (sender(), LENT.len());
-    let both = given + size_of::<FlatFrame>();
+    let lent = (sender(), LENT);
     vec![
-        shape("sender, make", 6, || {
-            empty::sender_make(black_box(2), black_box(10), black_box(60000))
+        shape(
+            "sender, make",
+            6,
+            (2, 10, 60000),
+            |&(gap, timeout, limit)| empty::sender_make(gap, timeout, limit),
+        ),
+        shape(
+            "sender, begin, post, tick",
+            SENDER,
+            lent,
+            |(sender, lent)| empty::sender_lent(*sender, lent.as_ptr(), lent.len()),
+        ),
+        shape("the same, translated", SENDER, lent, |(sender, lent)| {
+            translated::sender_lent(*sender, lent.as_ptr(), lent.len())
         }),
-        shape("sender, begin, post, tick", given, move || {
-            empty::sender_lent(
-                black_box(sender),
-                black_box(LENT.as_ptr()),
-                black_box(length),
-            )
-        }),
-        shape("the same, translated", given, move || {
-            let message = black_box(LENT.as_ptr());
-            translated::sender_lent(black_box(sender), message, black_box(length))
-        }),
-        shape("sender, hear", both, move || {
-            empty::sender_hear(black_box(sender), black_box(FRAME))
-        }),
+        shape(
+            "sender, hear",
+            SENDER + 9,
+            (sender(), FRAME),
+            |(sender, frame)| empty::sender_hear(*sender, *frame),
+        ),
     ]
 }
 
 fn receiver_shapes() -> Vec<Shape> {
-    let given = size_of::<FlatReceiver>();
-    let receiver = receiver();
-    let mut buffer = [0; 16];
-    let both = given + size_of::<FlatFrame>();
+    let heard = (receiver(), FRAME, LENT);
     vec![
-        shape("receiver, make", 6, || {
-            empty::receiver_make(black_box(10), black_box(10), black_box(1785))
+        shape(
+            "receiver, make",
+            6,
+            (10, 10, 1785),
+            |&(timeout, window, capacity)| empty::receiver_make(timeout, window, capacity),
+        ),
+        shape("receiver, tick", RECEIVER, receiver(), |receiver| {
+            empty::receiver_tick(*receiver)
         }),
-        shape("receiver, tick", given, move || {
-            empty::receiver_tick(black_box(receiver))
+        shape("the same, translated", RECEIVER, receiver(), |receiver| {
+            translated::receiver_tick(*receiver)
         }),
-        shape("the same, translated", given, move || {
-            translated::receiver_tick(black_box(receiver))
-        }),
-        shape("receiver, hear", both, move || {
-            let lent = black_box(&mut buffer);
-            let length = lent.len();
-            empty::receiver_hear(
-                black_box(receiver),
-                black_box(FRAME),
-                lent.as_mut_ptr(),
-                length,
-            )
-        }),
+        shape(
+            "receiver, hear",
+            RECEIVER + 9,
+            heard,
+            |(receiver, frame, lent)| {
+                empty::receiver_hear(*receiver, *frame, lent.as_ptr().cast_mut(), lent.len())
+            },
+        ),
     ]
 }
 
 fn talker_shapes() -> Vec<Shape> {
-    let given = size_of::<FlatTalker>();
-    let talker = talker();
-    let both = given + size_of::<FlatBytes>();
+    let heard = (talker(), BYTES);
     vec![
-        shape("talker, connect, tick and others", given, move || {
-            empty::talker_tick(black_box(talker))
+        shape(
+            "talker, connect, tick and others",
+            TALKER,
+            talker(),
+            |talker| empty::talker_tick(*talker),
+        ),
+        shape("the same, translated", TALKER, talker(), |talker| {
+            translated::talker_tick(*talker)
         }),
-        shape("the same, translated", given, move || {
-            translated::talker_tick(black_box(talker))
-        }),
-        shape("talker, hear", both, move || {
-            empty::talker_hear(black_box(talker), black_box(BYTES))
+        shape("talker, hear", TALKER + 8, heard, |(talker, bytes)| {
+            empty::talker_hear(*talker, *bytes)
         }),
     ]
 }
 
 fn other_shapes() -> Vec<Shape> {
     let (parts, message) = (FlatParts::default(), FlatMessage::default());
-    let group = FlatGroup::default();
-    let mut lent = [0; 8];
+    let written = (FlatGroup::default(), LENT);
     vec![
-        shape("identifier, join", size_of::<FlatParts>(), move || {
-            empty::identifier_join(black_box(parts))
+        shape("identifier, join", 24, parts, |parts| {
+            empty::identifier_join(*parts)
         }),
-        shape("identifier, part", size_of::<u32>(), || {
-            empty::identifier_part(black_box(0x0C38_F456))
+        shape("identifier, part", 4, 0x0C38_F456, |&identifier| {
+            empty::identifier_part(identifier)
         }),
-        shape("version list", 0, || {
-            empty::version_list(black_box(LENT.as_ptr()), black_box(12))
+        shape("version list", 0, LENT, |lent| {
+            empty::version_list(lent.as_ptr(), lent.len())
         }),
-        shape(
-            "version message, write",
-            size_of::<FlatMessage>(),
-            move || empty::version_message_write(black_box(message)),
-        ),
-        shape("version message, read", size_of::<FlatBytes>(), || {
-            empty::version_message_read(black_box(BYTES))
+        shape("version message, write", 12, message, |message| {
+            empty::version_message_write(*message)
         }),
-        shape("group, read", 0, || {
-            empty::group_read(black_box(LENT.as_ptr()), black_box(8))
+        shape("version message, read", 8, BYTES, |bytes| {
+            empty::version_message_read(*bytes)
         }),
-        shape("group, write", size_of::<FlatGroup>(), move || {
-            let lent = black_box(&mut lent);
-            empty::group_write(black_box(group), lent.as_mut_ptr(), black_box(8))
+        shape("group, read", 0, LENT, |lent| {
+            empty::group_read(lent.as_ptr(), lent.len())
+        }),
+        shape("group, write", 10, written, |(group, lent)| {
+            empty::group_write(*group, lent.as_ptr().cast_mut(), lent.len())
         }),
     ]
 }

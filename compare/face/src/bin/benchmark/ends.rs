@@ -11,7 +11,7 @@ use face::ffi::Proved;
 use face::interface::Ends;
 use face::values::*;
 
-use crate::measure::Row;
+use crate::measure::{given, Row};
 
 /// A message of this length.
 fn message(length: usize) -> &'static [u8] {
@@ -70,88 +70,102 @@ fn over(sender: FlatSender) -> FlatSender {
 type Message = &'static [u8];
 
 fn begins(face: impl Ends, sender: FlatSender, message: Message) -> impl FnMut() -> SenderAnswer {
-    move || face.sender_begin(black_box(sender), black_box(message))
+    given((sender, message), move |(sender, message)| {
+        face.sender_begin(*sender, message)
+    })
 }
 
 fn ticks(face: impl Ends, sender: FlatSender, message: Message) -> impl FnMut() -> SenderAnswer {
-    move || face.sender_tick(black_box(sender), black_box(message))
+    given((sender, message), move |(sender, message)| {
+        face.sender_tick(*sender, message)
+    })
 }
 
 fn hears(face: impl Ends, sender: FlatSender, frame: FlatFrame) -> impl FnMut() -> SenderAnswer {
-    move || face.sender_hear(black_box(sender), black_box(frame))
+    given((sender, frame), move |(sender, frame)| {
+        face.sender_hear(*sender, *frame)
+    })
 }
 
 fn posts(face: impl Ends, sender: FlatSender, message: Message) -> impl FnMut() -> SenderAnswer {
-    move || face.sender_post(black_box(sender), black_box(message))
+    given((sender, message), move |(sender, message)| {
+        face.sender_post(*sender, message)
+    })
 }
 
 fn makes_sender(face: impl Ends) -> impl FnMut() -> SenderMade {
-    move || face.sender_make(black_box(2), black_box(10), black_box(60000))
+    given((2, 10, 60000), move |&(gap, timeout, limit)| {
+        face.sender_make(gap, timeout, limit)
+    })
 }
 
 fn begin(name: &str, length: usize) -> Row {
     let sender = idle_sender();
-    let (native, message) = (sender_of(sender), message(length));
+    let message = message(length);
     Row::new(
         name,
         begins(Proved, sender, message),
         begins(Behind, sender, message),
-        move || {
-            let mut end = black_box(&native).clone();
-            let answer = end.begin(black_box(message));
+        given((sender_of(sender), message), |(sender, message)| {
+            let mut end = sender.clone();
+            let answer = end.begin(message);
             (end, answer)
-        },
+        }),
     )
 }
 
 fn tick(name: &str, sender: FlatSender, length: usize) -> Row {
-    let (native, message) = (sender_of(sender), message(length));
+    let message = message(length);
     Row::new(
         name,
         ticks(Proved, sender, message),
         ticks(Behind, sender, message),
-        move || {
-            let mut end = black_box(&native).clone();
-            let answer = end.tick(black_box(message));
+        given((sender_of(sender), message), |(sender, message)| {
+            let mut end = sender.clone();
+            let answer = end.tick(message);
             (end, answer)
-        },
+        }),
     )
 }
 
 fn hear(name: &str, sender: FlatSender, frame: FlatFrame) -> Row {
-    let (native, heard) = (sender_of(sender), frame_of(frame));
     Row::new(
         name,
         hears(Proved, sender, frame),
         hears(Behind, sender, frame),
-        move || {
-            let mut end = black_box(&native).clone();
-            let answer = end.hear(black_box(heard));
+        given((sender_of(sender), frame_of(frame)), |(sender, frame)| {
+            let mut end = sender.clone();
+            let answer = end.hear(*frame);
             (end, answer)
-        },
+        }),
     )
 }
 
 fn post() -> Row {
     let sender = idle_sender();
-    let (native, message) = (sender_of(sender), message(8));
+    let message = message(8);
     Row::new(
         "post",
         posts(Proved, sender, message),
         posts(Behind, sender, message),
-        move || {
-            let end = black_box(&native).clone();
-            let answer = end.post(black_box(message));
+        given((sender_of(sender), message), |(sender, message)| {
+            let end = sender.clone();
+            let answer = end.post(message);
             (end, answer)
-        },
+        }),
     )
 }
 
 pub fn sender_rows() -> Vec<Row> {
     vec![
-        Row::new("make", makes_sender(Proved), makes_sender(Behind), || {
-            Sender::make(black_box(2), black_box(10), black_box(60000))
-        }),
+        Row::new(
+            "make",
+            makes_sender(Proved),
+            makes_sender(Behind),
+            given((2, 10, 60000), |&(gap, timeout, limit)| {
+                Sender::make(gap, timeout, limit)
+            }),
+        ),
         begin("begin, long", 1785),
         begin("begin, short", 8),
         post(),
@@ -202,11 +216,13 @@ fn delivered() -> FlatReceiver {
 }
 
 fn makes_receiver(face: impl Ends) -> impl FnMut() -> ReceiverMade {
-    move || face.receiver_make(black_box(10), black_box(10), black_box(1785))
+    given((10, 10, 1785), move |&(timeout, window, capacity)| {
+        face.receiver_make(timeout, window, capacity)
+    })
 }
 
 fn receiver_ticks(face: impl Ends, receiver: FlatReceiver) -> impl FnMut() -> ReceiverAnswer {
-    move || face.receiver_tick(black_box(receiver))
+    given(receiver, move |receiver| face.receiver_tick(*receiver))
 }
 
 fn receiver_hears(
@@ -215,40 +231,39 @@ fn receiver_hears(
     frame: FlatFrame,
     lent: usize,
 ) -> impl FnMut() -> ReceiverAnswer {
-    let mut buffer = vec![0; lent];
+    let (mut buffer, flat) = (vec![0; lent], (receiver, frame));
     move || {
-        face.receiver_hear(
-            black_box(receiver),
-            black_box(frame),
-            black_box(&mut buffer),
-        )
+        let buffer = black_box(&mut buffer);
+        let (receiver, frame) = black_box(&flat);
+        face.receiver_hear(*receiver, *frame, buffer)
     }
 }
 
 fn receiver_tick(name: &str, receiver: FlatReceiver) -> Row {
-    let native = receiver_of(receiver);
     Row::new(
         name,
         receiver_ticks(Proved, receiver),
         receiver_ticks(Behind, receiver),
-        move || {
-            let mut end = black_box(&native).clone();
+        given(receiver_of(receiver), |receiver| {
+            let mut end = receiver.clone();
             let answer = end.tick();
             (end, answer)
-        },
+        }),
     )
 }
 
 fn receiver_hear(name: &str, receiver: FlatReceiver, frame: FlatFrame, lent: usize) -> Row {
-    let (native, heard) = (receiver_of(receiver), frame_of(frame));
+    let native = (receiver_of(receiver), frame_of(frame));
     let mut buffer = vec![0; lent];
     Row::new(
         name,
         receiver_hears(Proved, receiver, frame, lent),
         receiver_hears(Behind, receiver, frame, lent),
         move || {
-            let mut end = black_box(&native).clone();
-            let answer = end.hear(black_box(heard), black_box(&mut buffer));
+            let buffer = black_box(&mut buffer);
+            let (receiver, frame) = black_box(&native);
+            let mut end = receiver.clone();
+            let answer = end.hear(*frame, buffer);
             (end, answer)
         },
     )
@@ -265,7 +280,9 @@ pub fn receiver_rows() -> Vec<Row> {
             "make",
             makes_receiver(Proved),
             makes_receiver(Behind),
-            || Receiver::make(black_box(10), black_box(10), black_box(1785)),
+            given((10, 10, 1785), |&(timeout, window, capacity)| {
+                Receiver::make(timeout, window, capacity)
+            }),
         ),
         receiver_tick("tick, Idle", idle_receiver()),
         receiver_tick("tick, Open", open()),

@@ -48,11 +48,17 @@ pub fn by_turns<const SIDES: usize>(
     times
 }
 
+/// A call of which the compiler does not know what it is given. That is hidden all at once and where it lies, so that nothing
+/// of it is copied but by the call.
+pub fn given<G, T>(given: G, call: impl Fn(&G) -> T) -> impl FnMut() -> T {
+    move || call(black_box(&given))
+}
+
 /// The answer of every call counts as used.
 pub fn many<T>(mut call: impl FnMut() -> T + 'static) -> Calls {
     Box::new(move |count| {
         for _ in 0..count {
-            black_box(call());
+            black_box(&call());
         }
     })
 }
