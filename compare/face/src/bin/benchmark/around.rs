@@ -274,8 +274,12 @@ fn writes_group(face: impl Around, group: FlatGroup) -> impl FnMut() -> FlatGrou
     }
 }
 
-/// Reading and writing a group.
-fn group_pair(flat: FlatGroup, group: Group) -> [Row; 2] {
+fn finds_group(face: impl Around, code: u8) -> impl FnMut() -> FlatFinding {
+    given(code, move |&code| face.group_find(code))
+}
+
+/// Finding, reading and writing a group.
+fn group_calls(flat: FlatGroup, group: Group) -> [Row; 3] {
     let (mut lent, mut other) = ([0; 8], [0; 8]);
     Proved.group_write(flat, &mut lent);
     groups::write(group, &mut other).expect("a good group");
@@ -283,6 +287,12 @@ fn group_pair(flat: FlatGroup, group: Group) -> [Row; 2] {
     let code = flat.code;
     let bytes = lent;
     [
+        Row::new(
+            &format!("group {code:x}, find its row"),
+            finds_group(Proved, code),
+            finds_group(Behind, code),
+            given(code, |&code| groups::row_of(code)),
+        ),
         Row::new(
             &format!("group {code:x}, read"),
             reads_group(Proved, bytes),
@@ -314,9 +324,9 @@ fn group_rows() -> Vec<Row> {
         third: 90,
         fourth: 0xFE,
     };
-    let pairs = [
-        group_pair(ready, Group::ChargerReady { ready: 1 }),
-        group_pair(
+    let calls = [
+        group_calls(ready, Group::ChargerReady { ready: 1 }),
+        group_calls(
             battery,
             Group::Battery {
                 highest_voltage: Reading::Value(40000),
@@ -326,7 +336,7 @@ fn group_rows() -> Vec<Row> {
             },
         ),
     ];
-    pairs.into_iter().flatten().collect()
+    calls.into_iter().flatten().collect()
 }
 
 pub fn rows() -> Vec<Row> {
