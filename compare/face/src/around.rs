@@ -277,7 +277,7 @@ fn state_number(state: State) -> u8 {
 }
 
 /// In S1 the timers are open; in the vehicle's S3 `timing` says whether they are.
-fn talker_of(flat: FlatTalker) -> Talker {
+pub fn talker_of(flat: FlatTalker) -> Talker {
     let state = state_of(flat.state);
     Talker {
         side: side_of(flat.side),
@@ -293,7 +293,7 @@ fn talker_of(flat: FlatTalker) -> Talker {
 }
 
 /// The limit counts in S1 alone, the period there and in S3 while its timers are open.
-fn flat_talker(end: &Talker) -> FlatTalker {
+pub fn flat_talker(end: &Talker) -> FlatTalker {
     let talking = end.state == State::S1;
     let timing = end.state == State::S3 && end.timers;
     FlatTalker {

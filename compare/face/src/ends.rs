@@ -172,7 +172,7 @@ fn flat_transfer(end: &Sender, phase: u8) -> FlatSender {
 }
 
 /// What the phase has, and 0 for the rest.
-fn flat_sender(end: &Sender) -> FlatSender {
+pub fn flat_sender(end: &Sender) -> FlatSender {
     let (wait, misses) = (end.wait, end.misses);
     let start = end.start.unwrap_or(0);
     match end.phase {
@@ -256,7 +256,7 @@ pub fn receiver_of(flat: FlatReceiver) -> Receiver {
     }
 }
 
-fn flat_receiver(end: &Receiver) -> FlatReceiver {
+pub fn flat_receiver(end: &Receiver) -> FlatReceiver {
     let settings = FlatReceiver {
         timeout: end.timeout,
         window: end.window.into(),

@@ -1,9 +1,12 @@
 //! The proved code behind its C face, and what it is compared with: random calls on both, held to each other whole.
 
 pub mod around;
+pub mod behind;
+mod boundary;
 pub mod broken;
 pub mod call;
 pub mod differences;
+pub mod empty;
 pub mod ends;
 pub mod forged;
 pub mod frames;

@@ -6,17 +6,20 @@ use compare::reference::groups::{self, Group, Reading};
 use compare::reference::identifier::{self, Parts};
 use compare::reference::version::{self, Message, Outcome, Side, Talker, Version};
 use compare::vectors::versions;
+use face::around::talker_of;
+use face::behind::Behind;
 use face::ffi::Proved;
 use face::interface::Around;
 use face::values::*;
 
-use crate::measure::Row;
+use crate::measure::{given, Row};
 
 const CHARGER: [Version; 4] = [[1, 1, 0], [2, 0, 0], [2, 0, 1], [3, 0, 0]];
+const IDENTIFIER: u32 = 0x0C38_F456;
 const VEHICLE: [Version; 3] = [[1, 1, 0], [2, 0, 1], [2, 1, 0]];
 
-fn identifier_rows() -> Vec<Row> {
-    let flat = FlatParts {
+fn joins(face: impl Around) -> impl FnMut() -> FlatJoined {
+    let parts = FlatParts {
         p: 3,
         edp: 0,
         dp: 0,
@@ -24,6 +27,16 @@ fn identifier_rows() -> Vec<Row> {
         ps: 0xF4,
         sa: 0x56,
     };
+    given(parts, move |parts| face.identifier_join(*parts))
+}
+
+fn divides(face: impl Around) -> impl FnMut() -> FlatParted {
+    given(IDENTIFIER, move |&identifier| {
+        face.identifier_part(identifier)
+    })
+}
+
+fn identifier_rows() -> Vec<Row> {
     let parts = Parts {
         p: 3,
         edp: 0,
@@ -35,56 +48,140 @@ fn identifier_rows() -> Vec<Row> {
     vec![
         Row::new(
             "identifier, join",
-            move || Proved.identifier_join(black_box(flat)),
-            move || identifier::build(black_box(parts)),
+            joins(Proved),
+            joins(Behind),
+            given(parts, |parts| identifier::build(*parts)),
         ),
         Row::new(
             "identifier, part",
-            || Proved.identifier_part(black_box(0x0C38_F456)),
-            || identifier::read(black_box(0x0C38_F456)),
+            divides(Proved),
+            divides(Behind),
+            given(IDENTIFIER, |&identifier| identifier::read(identifier)),
         ),
     ]
 }
 
+const MESSAGE: FlatMessage = FlatMessage {
+    verdict: 1,
+    version: 0x020001,
+    control: 9,
+};
+
+fn lists(face: impl Around) -> impl FnMut() -> FlatListing {
+    let bytes = CHARGER.concat();
+    given(bytes, move |bytes| face.version_list(bytes))
+}
+
+fn writes_message(face: impl Around) -> impl FnMut() -> FlatBytes {
+    given(MESSAGE, move |message| face.version_message_write(*message))
+}
+
+fn reads_message(face: impl Around) -> impl FnMut() -> FlatMessageReading {
+    let bytes = face.version_message_write(MESSAGE);
+    given(bytes, move |bytes| face.version_message_read(*bytes))
+}
+
 fn version_rows() -> Vec<Row> {
-    let flat = FlatMessage {
-        verdict: 1,
-        version: 0x020001,
-        control: 9,
-    };
     let message = Message {
         outcome: Outcome::Success,
         version: [2, 0, 1],
     };
-    let bytes = Proved.version_message_write(flat).bytes;
+    let bytes = version::build(message, 9);
     let list = CHARGER.concat();
-    let other = list.clone();
     vec![
         Row::new(
             "version list of four",
-            move || Proved.version_list(black_box(&list)),
-            move || versions(black_box(&other)),
+            lists(Proved),
+            lists(Behind),
+            given(list, |list| versions(list)),
         ),
         Row::new(
             "version message, write",
-            move || Proved.version_message_write(black_box(flat)),
-            move || version::build(black_box(message), black_box(9)),
+            writes_message(Proved),
+            writes_message(Behind),
+            given((message, 9), |&(message, control)| {
+                version::build(message, control)
+            }),
         ),
         Row::new(
             "version message, read",
-            move || Proved.version_message_read(black_box(FlatBytes { bytes })),
-            move || version::read(black_box(bytes)),
+            reads_message(Proved),
+            reads_message(Behind),
+            given(bytes, |bytes| version::read(*bytes)),
+        ),
+    ]
+}
+
+/// A charger with four versions that has connected: S1.
+fn talking() -> FlatTalker {
+    let list = Proved.version_list(&CHARGER.concat()).versions;
+    Proved.talker_connect(Proved.talker_make(0, list, 1)).next
+}
+
+fn talker_ticks(face: impl Around, talker: FlatTalker) -> impl FnMut() -> FlatAnswer {
+    given(talker, move |talker| face.talker_tick(*talker))
+}
+
+fn talker_hears(
+    face: impl Around,
+    talker: FlatTalker,
+    bytes: [u8; 8],
+) -> impl FnMut() -> FlatAnswer {
+    given((talker, FlatBytes { bytes }), move |(talker, bytes)| {
+        face.talker_hear(*talker, *bytes)
+    })
+}
+
+/// The reference's talker is changed in place and its counts put back: a copy would be an allocation.
+fn talker_tick(name: &str, talker: FlatTalker) -> Row {
+    let mut end = talker_of(talker);
+    let (period, limit) = (end.period, end.limit);
+    Row::new(
+        name,
+        talker_ticks(Proved, talker),
+        talker_ticks(Behind, talker),
+        move || {
+            (end.period, end.limit) = (period, limit);
+            black_box(&mut end).tick()
+        },
+    )
+}
+
+fn talker_rows() -> Vec<Row> {
+    let talker = talking();
+    let due = FlatTalker {
+        period: 49,
+        ..talker
+    };
+    let said = Message {
+        outcome: Outcome::Continue,
+        version: [2, 0, 1],
+    };
+    let bytes = version::build(said, 9);
+    let mut end = talker_of(talker);
+    let place = end.ns;
+    vec![
+        talker_tick("talker's tick, S1", talker),
+        talker_tick("talker's tick, S1: message", due),
+        Row::new(
+            "talker hears a version of its own, S1",
+            talker_hears(Proved, talker, bytes),
+            talker_hears(Behind, talker, bytes),
+            move || {
+                (end.ns, end.outcome) = (place, Outcome::Continue);
+                black_box(&mut end).hear(*black_box(&bytes))
+            },
         ),
         talk_row(),
     ]
 }
 
 /// Both sides connect, tick, and hear every message until both have agreed; the calls that it took.
-fn proved_talk(charger: &[u8], vehicle: &[u8]) -> u64 {
-    let lists = [charger, vehicle].map(|bytes| Proved.version_list(bytes).versions);
+fn talk(face: impl Around, charger: &[u8], vehicle: &[u8]) -> u64 {
+    let lists = [charger, vehicle].map(|bytes| face.version_list(bytes).versions);
     let mut said = [0, 1].map(|side| {
-        let talker = Proved.talker_make(side, lists[usize::from(side)], 1);
-        Proved.talker_connect(talker)
+        let talker = face.talker_make(side, lists[usize::from(side)], 1);
+        face.talker_connect(talker)
     });
     let mut calls = 6;
     while said.iter().any(|answer| answer.next.state == 1) {
@@ -92,7 +189,7 @@ fn proved_talk(charger: &[u8], vehicle: &[u8]) -> u64 {
             let other = said[1 - side];
             if other.emits {
                 let bytes = FlatBytes { bytes: other.bytes };
-                let answer = Proved.talker_hear(said[side].next, bytes);
+                let answer = face.talker_hear(said[side].next, bytes);
                 calls += 1;
                 said[1 - side].emits = false;
                 said[side].next = answer.next;
@@ -102,15 +199,15 @@ fn proved_talk(charger: &[u8], vehicle: &[u8]) -> u64 {
             }
         }
         for answer in said.iter_mut().filter(|answer| !answer.emits) {
-            *answer = Proved.talker_tick(answer.next);
+            *answer = face.talker_tick(answer.next);
             calls += 1;
         }
     }
     calls
 }
 
-/// The same with the reference.
-fn reference_talk(charger: &[u8], vehicle: &[u8]) -> u64 {
+/// The same with the reference's own functions.
+fn direct_talk(charger: &[u8], vehicle: &[u8]) -> u64 {
     let lists = [charger, vehicle].map(|bytes| versions(bytes).expect("a good list"));
     let sides = [Side::Charger, Side::Vehicle];
     let mut talkers =
@@ -141,54 +238,115 @@ fn reference_talk(charger: &[u8], vehicle: &[u8]) -> u64 {
     calls
 }
 
+fn talks(face: impl Around + Copy) -> impl FnMut() -> u64 {
+    let (charger, vehicle) = (CHARGER.concat(), VEHICLE.concat());
+    assert_eq!(
+        talk(face, &charger, &vehicle),
+        direct_talk(&charger, &vehicle)
+    );
+    given((charger, vehicle), move |(charger, vehicle)| {
+        talk(face, charger, vehicle)
+    })
+}
+
 fn talk_row() -> Row {
     let (charger, vehicle) = (CHARGER.concat(), VEHICLE.concat());
-    let (ours, theirs) = ((charger.clone(), vehicle.clone()), (charger, vehicle));
-    let calls = proved_talk(&ours.0, &ours.1);
-    assert_eq!(calls, reference_talk(&theirs.0, &theirs.1));
+    let calls = direct_talk(&charger, &vehicle);
     Row::new(
         &format!("a version talk, {calls} calls"),
-        move || proved_talk(black_box(&ours.0), black_box(&ours.1)),
-        move || reference_talk(black_box(&theirs.0), black_box(&theirs.1)),
+        talks(Proved),
+        talks(Behind),
+        given((charger, vehicle), |(charger, vehicle)| {
+            direct_talk(charger, vehicle)
+        }),
     )
 }
 
+fn reads_group(face: impl Around, bytes: [u8; 8]) -> impl FnMut() -> FlatGroupReading {
+    given(bytes, move |bytes| face.group_read(bytes))
+}
+
+fn writes_group(face: impl Around, group: FlatGroup) -> impl FnMut() -> FlatGroupWriting {
+    let mut bytes = [0; 8];
+    move || {
+        let bytes = black_box(&mut bytes);
+        face.group_write(*black_box(&group), bytes)
+    }
+}
+
+fn finds_group(face: impl Around, code: u8) -> impl FnMut() -> FlatFinding {
+    given(code, move |&code| face.group_find(code))
+}
+
+/// Finding, reading and writing a group.
+fn group_calls(flat: FlatGroup, group: Group) -> [Row; 3] {
+    let (mut lent, mut other) = ([0; 8], [0; 8]);
+    Proved.group_write(flat, &mut lent);
+    groups::write(group, &mut other).expect("a good group");
+    assert_eq!(lent, other);
+    let code = flat.code;
+    let bytes = lent;
+    [
+        Row::new(
+            &format!("group {code:x}, find its row"),
+            finds_group(Proved, code),
+            finds_group(Behind, code),
+            given(code, |&code| groups::row_of(code)),
+        ),
+        Row::new(
+            &format!("group {code:x}, read"),
+            reads_group(Proved, bytes),
+            reads_group(Behind, bytes),
+            given(bytes, |bytes| groups::read(bytes)),
+        ),
+        Row::new(
+            &format!("group {code:x}, write"),
+            writes_group(Proved, flat),
+            writes_group(Behind, flat),
+            move || {
+                let bytes = black_box(&mut other);
+                groups::write(*black_box(&group), bytes)
+            },
+        ),
+    ]
+}
+
 fn group_rows() -> Vec<Row> {
-    let flat = FlatGroup {
+    let ready = FlatGroup {
+        code: 0x71,
+        first: 1,
+        ..FlatGroup::default()
+    };
+    let battery = FlatGroup {
         code: 0x77,
         first: 40000,
         second: 0xFFFF,
         third: 90,
         fourth: 0xFE,
     };
-    let group = Group::Battery {
-        highest_voltage: Reading::Value(40000),
-        lowest_voltage: Reading::Invalid,
-        highest_temperature: Reading::Value(40),
-        lowest_temperature: Reading::Abnormal,
-    };
-    let (mut ours, mut theirs) = ([0; 8], [0; 8]);
-    Proved.group_write(flat, &mut ours);
-    groups::write(group, &mut theirs).expect("a good group");
-    assert_eq!(ours, theirs);
-    let bytes = ours;
-    vec![
-        Row::new(
-            "group 77, read",
-            move || Proved.group_read(black_box(&bytes)),
-            move || groups::read(black_box(&bytes)),
+    let calls = [
+        group_calls(ready, Group::ChargerReady { ready: 1 }),
+        group_calls(
+            battery,
+            Group::Battery {
+                highest_voltage: Reading::Value(40000),
+                lowest_voltage: Reading::Invalid,
+                highest_temperature: Reading::Value(40),
+                lowest_temperature: Reading::Abnormal,
+            },
         ),
-        Row::new(
-            "group 77, write",
-            move || Proved.group_write(black_box(flat), black_box(&mut ours)),
-            move || groups::write(black_box(group), black_box(&mut theirs)),
-        ),
-    ]
+    ];
+    calls.into_iter().flatten().collect()
 }
 
 pub fn rows() -> Vec<Row> {
-    [identifier_rows(), version_rows(), group_rows()]
-        .into_iter()
-        .flatten()
-        .collect()
+    [
+        identifier_rows(),
+        version_rows(),
+        talker_rows(),
+        group_rows(),
+    ]
+    .into_iter()
+    .flatten()
+    .collect()
 }

@@ -1,16 +1,17 @@
-//! Rows of the two ends. The proved code takes and returns a state by value; the reference's state is copied and changed.
+//! Rows of the two ends. Behind the face a state is taken and returned by value; the reference's own is copied and changed.
 
 use std::hint::black_box;
 
 use compare::reference::receiver::Receiver;
 use compare::reference::sender::{self, Sender};
+use face::behind::Behind;
 use face::call::pool;
 use face::ends::{frame_of, receiver_of, sender_of};
 use face::ffi::Proved;
 use face::interface::Ends;
 use face::values::*;
 
-use crate::measure::Row;
+use crate::measure::{given, Row};
 
 /// A message of this length.
 fn message(length: usize) -> &'static [u8] {
@@ -66,57 +67,92 @@ fn over(sender: FlatSender) -> FlatSender {
     }
 }
 
+type Message = &'static [u8];
+
+fn begins(face: impl Ends, sender: FlatSender, message: Message) -> impl FnMut() -> SenderAnswer {
+    given((sender, message), move |(sender, message)| {
+        face.sender_begin(*sender, message)
+    })
+}
+
+fn ticks(face: impl Ends, sender: FlatSender, message: Message) -> impl FnMut() -> SenderAnswer {
+    given((sender, message), move |(sender, message)| {
+        face.sender_tick(*sender, message)
+    })
+}
+
+fn hears(face: impl Ends, sender: FlatSender, frame: FlatFrame) -> impl FnMut() -> SenderAnswer {
+    given((sender, frame), move |(sender, frame)| {
+        face.sender_hear(*sender, *frame)
+    })
+}
+
+fn posts(face: impl Ends, sender: FlatSender, message: Message) -> impl FnMut() -> SenderAnswer {
+    given((sender, message), move |(sender, message)| {
+        face.sender_post(*sender, message)
+    })
+}
+
+fn makes_sender(face: impl Ends) -> impl FnMut() -> SenderMade {
+    given((2, 10, 60000), move |&(gap, timeout, limit)| {
+        face.sender_make(gap, timeout, limit)
+    })
+}
+
 fn begin(name: &str, length: usize) -> Row {
     let sender = idle_sender();
-    let (native, message) = (sender_of(sender), message(length));
+    let message = message(length);
     Row::new(
         name,
-        move || Proved.sender_begin(black_box(sender), black_box(message)),
-        move || {
-            let mut end = black_box(&native).clone();
-            let answer = end.begin(black_box(message));
+        begins(Proved, sender, message),
+        begins(Behind, sender, message),
+        given((sender_of(sender), message), |(sender, message)| {
+            let mut end = sender.clone();
+            let answer = end.begin(message);
             (end, answer)
-        },
+        }),
     )
 }
 
 fn tick(name: &str, sender: FlatSender, length: usize) -> Row {
-    let (native, message) = (sender_of(sender), message(length));
+    let message = message(length);
     Row::new(
         name,
-        move || Proved.sender_tick(black_box(sender), black_box(message)),
-        move || {
-            let mut end = black_box(&native).clone();
-            let answer = end.tick(black_box(message));
+        ticks(Proved, sender, message),
+        ticks(Behind, sender, message),
+        given((sender_of(sender), message), |(sender, message)| {
+            let mut end = sender.clone();
+            let answer = end.tick(message);
             (end, answer)
-        },
+        }),
     )
 }
 
 fn hear(name: &str, sender: FlatSender, frame: FlatFrame) -> Row {
-    let (native, heard) = (sender_of(sender), frame_of(frame));
     Row::new(
         name,
-        move || Proved.sender_hear(black_box(sender), black_box(frame)),
-        move || {
-            let mut end = black_box(&native).clone();
-            let answer = end.hear(black_box(heard));
+        hears(Proved, sender, frame),
+        hears(Behind, sender, frame),
+        given((sender_of(sender), frame_of(frame)), |(sender, frame)| {
+            let mut end = sender.clone();
+            let answer = end.hear(*frame);
             (end, answer)
-        },
+        }),
     )
 }
 
 fn post() -> Row {
     let sender = idle_sender();
-    let (native, message) = (sender_of(sender), message(8));
+    let message = message(8);
     Row::new(
         "post",
-        move || Proved.sender_post(black_box(sender), black_box(message)),
-        move || {
-            let end = black_box(&native).clone();
-            let answer = end.post(black_box(message));
+        posts(Proved, sender, message),
+        posts(Behind, sender, message),
+        given((sender_of(sender), message), |(sender, message)| {
+            let end = sender.clone();
+            let answer = end.post(message);
             (end, answer)
-        },
+        }),
     )
 }
 
@@ -124,8 +160,11 @@ pub fn sender_rows() -> Vec<Row> {
     vec![
         Row::new(
             "make",
-            || Proved.sender_make(black_box(2), black_box(10), black_box(60000)),
-            || Sender::make(black_box(2), black_box(10), black_box(60000)),
+            makes_sender(Proved),
+            makes_sender(Behind),
+            given((2, 10, 60000), |&(gap, timeout, limit)| {
+                Sender::make(gap, timeout, limit)
+            }),
         ),
         begin("begin, long", 1785),
         begin("begin, short", 8),
@@ -176,28 +215,55 @@ fn delivered() -> FlatReceiver {
     }
 }
 
+fn makes_receiver(face: impl Ends) -> impl FnMut() -> ReceiverMade {
+    given((10, 10, 1785), move |&(timeout, window, capacity)| {
+        face.receiver_make(timeout, window, capacity)
+    })
+}
+
+fn receiver_ticks(face: impl Ends, receiver: FlatReceiver) -> impl FnMut() -> ReceiverAnswer {
+    given(receiver, move |receiver| face.receiver_tick(*receiver))
+}
+
+fn receiver_hears(
+    face: impl Ends,
+    receiver: FlatReceiver,
+    frame: FlatFrame,
+    lent: usize,
+) -> impl FnMut() -> ReceiverAnswer {
+    let (mut buffer, flat) = (vec![0; lent], (receiver, frame));
+    move || {
+        let buffer = black_box(&mut buffer);
+        let (receiver, frame) = black_box(&flat);
+        face.receiver_hear(*receiver, *frame, buffer)
+    }
+}
+
 fn receiver_tick(name: &str, receiver: FlatReceiver) -> Row {
-    let native = receiver_of(receiver);
     Row::new(
         name,
-        move || Proved.receiver_tick(black_box(receiver)),
-        move || {
-            let mut end = black_box(&native).clone();
+        receiver_ticks(Proved, receiver),
+        receiver_ticks(Behind, receiver),
+        given(receiver_of(receiver), |receiver| {
+            let mut end = receiver.clone();
             let answer = end.tick();
             (end, answer)
-        },
+        }),
     )
 }
 
 fn receiver_hear(name: &str, receiver: FlatReceiver, frame: FlatFrame, lent: usize) -> Row {
-    let (native, heard) = (receiver_of(receiver), frame_of(frame));
-    let (mut ours, mut theirs) = (vec![0; lent], vec![0; lent]);
+    let native = (receiver_of(receiver), frame_of(frame));
+    let mut buffer = vec![0; lent];
     Row::new(
         name,
-        move || Proved.receiver_hear(black_box(receiver), black_box(frame), black_box(&mut ours)),
+        receiver_hears(Proved, receiver, frame, lent),
+        receiver_hears(Behind, receiver, frame, lent),
         move || {
-            let mut end = black_box(&native).clone();
-            let answer = end.hear(black_box(heard), black_box(&mut theirs));
+            let buffer = black_box(&mut buffer);
+            let (receiver, frame) = black_box(&native);
+            let mut end = receiver.clone();
+            let answer = end.hear(*frame, buffer);
             (end, answer)
         },
     )
@@ -212,8 +278,11 @@ pub fn receiver_rows() -> Vec<Row> {
     vec![
         Row::new(
             "make",
-            || Proved.receiver_make(black_box(10), black_box(10), black_box(1785)),
-            || Receiver::make(black_box(10), black_box(10), black_box(1785)),
+            makes_receiver(Proved),
+            makes_receiver(Behind),
+            given((10, 10, 1785), |&(timeout, window, capacity)| {
+                Receiver::make(timeout, window, capacity)
+            }),
         ),
         receiver_tick("tick, Idle", idle_receiver()),
         receiver_tick("tick, Open", open()),
@@ -234,22 +303,22 @@ pub fn receiver_rows() -> Vec<Row> {
     ]
 }
 
-/// Both ends of the proved code from begin to sent, nothing lost; how many calls that took.
-fn proved_transfer(message: &[u8], buffer: &mut [u8]) -> u64 {
-    let mut receiver = Proved.receiver_make(10, 10, 1785).end;
-    let mut said = Proved.sender_begin(Proved.sender_make(1, 10, 60000).end, message);
+/// Both ends behind a face from begin to sent, nothing lost; how many calls that took.
+fn transfer(face: impl Ends, message: &[u8], buffer: &mut [u8]) -> u64 {
+    let mut receiver = face.receiver_make(10, 10, 1785).end;
+    let mut said = face.sender_begin(face.sender_make(1, 10, 60000).end, message);
     let mut calls = 3;
     while said.outcome != 2 {
         if !said.emits {
-            said = Proved.sender_tick(said.next, message);
+            said = face.sender_tick(said.next, message);
             calls += 1;
             continue;
         }
-        let heard = Proved.receiver_hear(receiver, said.frame, buffer);
+        let heard = face.receiver_hear(receiver, said.frame, buffer);
         receiver = heard.next;
         calls += 1;
         if heard.emits {
-            said = Proved.sender_hear(said.next, heard.frame);
+            said = face.sender_hear(said.next, heard.frame);
             calls += 1;
         } else {
             said.emits = false;
@@ -258,8 +327,8 @@ fn proved_transfer(message: &[u8], buffer: &mut [u8]) -> u64 {
     calls
 }
 
-/// The same with the reference.
-fn reference_transfer(message: &[u8], buffer: &mut [u8]) -> u64 {
+/// The same with the reference's own functions.
+fn direct_transfer(message: &[u8], buffer: &mut [u8]) -> u64 {
     let mut receiver = Receiver::make(10, 10, 1785).expect("good settings");
     let mut sender = Sender::make(1, 10, 60000).expect("good settings");
     let mut said = sender.begin(message).expect("a good length");
@@ -280,19 +349,25 @@ fn reference_transfer(message: &[u8], buffer: &mut [u8]) -> u64 {
     calls
 }
 
+fn transfers(face: impl Ends + Copy, message: Message) -> impl FnMut() -> u64 {
+    let mut buffer = vec![0; 1785];
+    let calls = transfer(face, message, &mut buffer);
+    assert_eq!(&buffer[..message.len()], message);
+    assert_eq!(calls, direct_transfer(message, &mut buffer));
+    move || transfer(face, black_box(message), black_box(&mut buffer))
+}
+
 pub fn transfer_rows() -> Vec<Row> {
-    let lengths = [9, 100, 1785];
-    let row = |&length: &usize| {
+    let row = |length: usize| {
         let message = message(length);
-        let (mut ours, mut theirs) = (vec![0; 1785], vec![0; 1785]);
-        let calls = proved_transfer(message, &mut ours);
-        assert_eq!(calls, reference_transfer(message, &mut theirs));
-        assert_eq!((&ours, &ours[..length]), (&theirs, message));
+        let mut buffer = vec![0; 1785];
+        let calls = direct_transfer(message, &mut buffer);
         Row::new(
             &format!("clean transfer of {length} bytes, {calls} calls"),
-            move || proved_transfer(black_box(message), black_box(&mut ours)),
-            move || reference_transfer(black_box(message), black_box(&mut theirs)),
+            transfers(Proved, message),
+            transfers(Behind, message),
+            move || direct_transfer(black_box(message), black_box(&mut buffer)),
         )
     };
-    lengths.iter().map(row).collect()
+    [9, 100, 1785].map(row).into()
 }

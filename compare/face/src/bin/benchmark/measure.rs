@@ -1,5 +1,7 @@
-//! Rows of a table: the same call on the proved code and on the reference, timed by turns.
+//! Rows of a table: the same call on the proved code, on the reference behind the same boundary and on the reference
+//! directly, timed by turns.
 
+use std::fmt::Debug;
 use std::hint::black_box;
 use std::time::{Duration, Instant};
 
@@ -7,55 +9,56 @@ use std::time::{Duration, Instant};
 const ROUND: Duration = Duration::from_millis(1);
 
 /// Makes so many calls.
-type Calls = Box<dyn FnMut(u64)>;
+pub type Calls = Box<dyn FnMut(u64)>;
 
+/// The sides of a row are the proved code, the reference behind the same boundary, and the reference directly.
 pub struct Row {
-    name: String,
-    proved: Calls,
-    reference: Calls,
-}
-
-/// Nanoseconds of a call, round by round.
-struct Times {
-    proved: Vec<f64>,
-    reference: Vec<f64>,
+    pub name: String,
+    pub sides: [Calls; 3],
 }
 
 impl Row {
-    pub fn new<T, U>(
+    /// The first two must answer alike.
+    pub fn new<T: PartialEq + Debug, U>(
         name: &str,
-        proved: impl FnMut() -> T + 'static,
-        reference: impl FnMut() -> U + 'static,
+        mut proved: impl FnMut() -> T + 'static,
+        mut behind: impl FnMut() -> T + 'static,
+        direct: impl FnMut() -> U + 'static,
     ) -> Row {
+        assert_eq!(proved(), behind(), "{name}");
         Row {
             name: name.to_string(),
-            proved: many(proved),
-            reference: many(reference),
+            sides: [many(proved), many(behind), many(direct)],
         }
-    }
-
-    fn measure(&mut self, rounds: usize) -> Times {
-        let proved = enough(&mut self.proved);
-        let reference = enough(&mut self.reference);
-        let mut times = Times {
-            proved: Vec::new(),
-            reference: Vec::new(),
-        };
-        for _ in 0..rounds {
-            times.proved.push(nanoseconds(&mut self.proved, proved));
-            times
-                .reference
-                .push(nanoseconds(&mut self.reference, reference));
-        }
-        times
     }
 }
 
+/// Nanoseconds of a call of each side, round by round, by turns.
+pub fn by_turns<const SIDES: usize>(
+    sides: &mut [Calls; SIDES],
+    rounds: usize,
+) -> [Vec<f64>; SIDES] {
+    let counts = sides.each_mut().map(enough);
+    let mut times = [const { Vec::new() }; SIDES];
+    for _ in 0..rounds {
+        for (side, calls) in sides.iter_mut().enumerate() {
+            times[side].push(nanoseconds(calls, counts[side]));
+        }
+    }
+    times
+}
+
+/// A call of which the compiler does not know what it is given. That is hidden all at once and where it lies, so that nothing
+/// of it is copied but by the call.
+pub fn given<G, T>(given: G, call: impl Fn(&G) -> T) -> impl FnMut() -> T {
+    move || call(black_box(&given))
+}
+
 /// The answer of every call counts as used.
-fn many<T>(mut call: impl FnMut() -> T + 'static) -> Calls {
+pub fn many<T>(mut call: impl FnMut() -> T + 'static) -> Calls {
     Box::new(move |count| {
         for _ in 0..count {
-            black_box(call());
+            black_box(&call());
         }
     })
 }
@@ -95,27 +98,32 @@ pub fn spread(mut numbers: Vec<f64>) -> Spread {
     }
 }
 
+/// Of the ratios within a round.
+pub fn ratio(upper: &[f64], lower: &[f64]) -> Spread {
+    let pairs = upper.iter().zip(lower);
+    spread(pairs.map(|(upper, lower)| upper / lower).collect())
+}
+
 pub fn print_table(title: &str, rows: Vec<Row>, rounds: usize) {
-    println!("\n{title}: ns, median of {rounds} rounds; ratio proved to reference");
+    println!("\n{title}: ns, median of {rounds} rounds; the ratios are proved to reference");
     println!();
-    println!("| | proved | reference | ratio | least | greatest |");
-    println!("|---|---:|---:|---:|---:|---:|");
+    println!(
+        "| | proved | reference, same face | reference, direct | ratio, same face | least | greatest | ratio, direct |"
+    );
+    println!("|---|---:|---:|---:|---:|---:|---:|---:|");
     for mut row in rows {
-        let times = row.measure(rounds);
-        let pairs = times.proved.iter().zip(&times.reference);
-        let ratio = spread(
-            pairs
-                .map(|(proved, reference)| proved / reference)
-                .collect(),
-        );
+        let [proved, behind, direct] = by_turns(&mut row.sides, rounds);
+        let (same, own) = (ratio(&proved, &behind), ratio(&proved, &direct));
         println!(
-            "| {} | {:.1} | {:.1} | {:.2} | {:.2} | {:.2} |",
+            "| {} | {:.1} | {:.1} | {:.1} | {:.2} | {:.2} | {:.2} | {:.2} |",
             row.name,
-            spread(times.proved).median,
-            spread(times.reference).median,
-            ratio.median,
-            ratio.least,
-            ratio.most
+            spread(proved).median,
+            spread(behind).median,
+            spread(direct).median,
+            same.median,
+            same.least,
+            same.most,
+            own.median
         );
     }
 }

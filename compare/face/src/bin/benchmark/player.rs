@@ -8,7 +8,7 @@ use std::time::Instant;
 use compare::reference::player::{build, play, Settings};
 use face::call::pool;
 
-use crate::measure::spread;
+use crate::measure::{ratio, spread};
 
 const COUNTS: [usize; 3] = [1000, 10000, 60000];
 /// Runs of each program on each pack in a round, of which the quickest counts.
@@ -161,12 +161,7 @@ fn measure(
 }
 
 fn print_row(name: &str, count: usize, lines: usize, [proved, reference]: [Vec<f64>; 2]) {
-    let pairs = proved.iter().zip(&reference);
-    let ratio = spread(
-        pairs
-            .map(|(proved, reference)| proved / reference)
-            .collect(),
-    );
+    let ratio = ratio(&proved, &reference);
     let (proved, reference) = (spread(proved).median, spread(reference).median);
     println!(
         "| {name} | {count} | {lines} | {proved:.1} | {reference:.1} | {:.1} | {:.1} | {:.2} | {:.2} | {:.2} |",
