@@ -5,6 +5,7 @@ use Prim.Native.Nat.{ℕ, _≤_}
 use mathlib.Core.Path.{_≡_, refl, sym, ap, _∙_}
 use mathlib.Core.Bool.{Bool, true, false, false≢true}
 use mathlib.Core.List.{List, [], _∷_, _++_, map, append-nil}
+use mathlib.Core.Logic.{_⊎_, inl, inr}
 use native.Mathlib.Omega.{arith}
 use borrow.Author.Needs.{length-unmapped}
 use borrow.Author.Tests.{eqb-true, eqb-false, ne-eqb}
@@ -395,9 +396,16 @@ pub turn-2 : (w : World) (m : List ℕ) (event number : ℕ) (p : Page) {x : Tur
 unfolding callFor pick
 turn-2 w m event number p k = turns w m event number p receiverTick (rw k refl)
 
-pub turn-3 : (w : World) (m : List ℕ) (event number : ℕ) (p : Page) {x : Turned} → event ≡ 3 → Answered w number p x (hearForward (w .buffer)) → x ≡ turnOf w m event number p
+-- 3 hears, 5 repeats
+pub turn-3-5 : (w : World) (m : List ℕ) (event number : ℕ) (p : Page) {x : Turned} → (event ≡ 3) ⊎ (event ≡ 5)
+    → Answered w number p x (pick (eqb event 3) (hearForward (w .buffer)) (repeatForward (w .buffer)))
+    → x ≡ turnOf w m event number p
 unfolding callFor pick
-turn-3 w m event number p k = turns w m event number p (hearForward (w .buffer)) (rw k refl)
+turn-3-5 w m event number p k = turns w m event number p (pick (eqb event 3) (hearForward (w .buffer)) (repeatForward (w .buffer))) (go k)
+  where
+    go : (event ≡ 3) ⊎ (event ≡ 5) → callFor w m event ≡ pick (eqb event 3) (hearForward (w .buffer)) (repeatForward (w .buffer))
+    go (inl k) = rw k refl
+    go (inr k) = rw k refl
 
 pub turn-4 : (ends last : Ends) (forward back buffer m : List ℕ) (event number : ℕ) (p : Page) → event ≡ 4
     → ((f b lent : List ℕ) → worldOf last f b lent ≡ playerStep (worldOf ends f b lent) loseForward .world)
@@ -405,14 +413,6 @@ pub turn-4 : (ends last : Ends) (forward back buffer m : List ℕ) (event number
 unfolding callFor pick playerStep stepOf eventText framesText senderReport receiverReport put
 turn-4 ends last forward back buffer m event number p k l =
     turns (worldOf ends forward back buffer) m event number p loseForward (rw k refl) (ap (λ (w : World). turned w p) (l forward back buffer))
-
-pub turn-5 : (w : World) (m : List ℕ) (event number : ℕ) (p : Page) {x : Turned} → event ≡ 5 → Answered w number p x (repeatForward (w .buffer)) → x ≡ turnOf w m event number p
-unfolding callFor pick
-turn-5 w m event number p k = turns w m event number p (repeatForward (w .buffer)) (rw k refl)
-
-pub turn-6 : (w : World) (m : List ℕ) (event number : ℕ) (p : Page) {x : Turned} → event ≡ 6 → Answered w number p x hearBack → x ≡ turnOf w m event number p
-unfolding callFor pick
-turn-6 w m event number p k = turns w m event number p hearBack (rw k refl)
 
 pub turn-7 : (ends last : Ends) (forward back buffer m : List ℕ) (event number : ℕ) (p : Page) → event ≡ 7
     → ((f b lent : List ℕ) → worldOf last f b lent ≡ playerStep (worldOf ends f b lent) loseBack .world)
@@ -424,11 +424,12 @@ turn-7 ends last forward back buffer m event number p k l =
 abbrev Not : ℕ → ℕ → Type 0
 Not event k = event ≡ k → ⊥
 
-pub turn-8 : (w : World) (m : List ℕ) (event number : ℕ) (p : Page) {x : Turned}
-    → ((((((Unit {0} × Not event 1) × Not event 2) × Not event 3) × Not event 4) × Not event 5) × Not event 6) × Not event 7
-    → Answered w number p x repeatBack
+-- 6 hears; what is none of the others repeats
+pub turn-6-8 : (w : World) (m : List ℕ) (event number : ℕ) (p : Page) {x : Turned}
+    → (((((Unit {0} × Not event 1) × Not event 2) × ((event ≡ 3) ⊎ (event ≡ 5) → ⊥)) × Not event 4) × Not event 7)
+    → Answered w number p x (pick (eqb event 6) hearBack repeatBack)
     → x ≡ turnOf w m event number p
 unfolding callFor
-turn-8 w m event number p (((((((_, n1), n2), n3), n4), n5), n6), n7) =
-    turns w m event number p repeatBack
-    (sym (pick-false _ (ne-eqb _ 1 n1) (pick-false _ (ne-eqb _ 2 n2) (pick-false _ (ne-eqb _ 3 n3) (pick-false _ (ne-eqb _ 4 n4) (pick-false _ (ne-eqb _ 5 n5) (pick-false _ (ne-eqb _ 6 n6) (pick-false _ (ne-eqb _ 7 n7) refl))))))))
+turn-6-8 w m event number p (((((_, n1), n2), n3), n4), n7) =
+    turns w m event number p (pick (eqb event 6) hearBack repeatBack)
+    (sym (pick-false _ (ne-eqb _ 1 n1) (pick-false _ (ne-eqb _ 2 n2) (pick-false _ (ne-eqb _ 3 (λ e. n3 (inl e))) (pick-false _ (ne-eqb _ 4 n4) (pick-false _ (ne-eqb _ 5 (λ e. n3 (inr e))) (ap (pick (eqb event 6) hearBack) (pick-false _ (ne-eqb _ 7 n7) refl))))))))

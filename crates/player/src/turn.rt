@@ -3,6 +3,7 @@ ghost use mathlib.Core.Path.{_≡_};
 ghost use mathlib.Core.List.{List, _++_};
 ghost use Prim.Native.Nat.{ℕ};
 ghost use lib.ListN.{length, take};
+ghost use Rattle.frame.specs.Choice.{pick};
 ghost use Rattle.line.specs.Ring.{framesIn};
 ghost use Rattle.player.specs.State.{worldOf, turned, printed, turnOf, senderAnswered, receiverAnswered, senderSaid, receiverSaid};
 ghost use Rattle.receiver.specs.Told as receiver-told;
@@ -152,7 +153,7 @@ impl Ends {
         Turn { ends, at: next }
     }
 
-    // The same; most answers say nothing, and then nothing but the receiver changes.
+    // The same for a tick: most say nothing, and then nothing but the receiver changes.
     fn receiver_answered(
         self,
         a: receiver::Answer,
@@ -192,7 +193,7 @@ impl Ends {
     {
         let s = self.sender;
         let a = s.begin(message);
-        self.sender_answered(a, 0, forward, out, 0)
+        self.sender_spoke(a, 0, forward, out, 0)
     }
 
     fn tick_sender(
@@ -245,7 +246,7 @@ impl Ends {
         let f = line.head(forward);
         let r = self.receiver;
         let a = r.hear(f, buffer);
-        self.receiver_answered(a, number, back, out, at)
+        self.receiver_spoke(a, number, back, out, at)
     }
 
     // The first frame of back is heard, if there is one, and stays where it is.
@@ -306,9 +307,10 @@ impl Ends {
         }
     }
 
-    // The first frame of forward is heard, if there is one, and taken away.
+    // The first frame of forward is heard, if there is one, and taken away where `takes` is true.
     fn hear_forward(
         self,
+        takes: bool,
         number: u16,
         buffer: &mut [u8],
         forward: &[u8],
@@ -318,17 +320,22 @@ impl Ends {
     ) -> Turn
         requires { ⌜ (length (now forward) ≡ 576) × (length (now back) ≡ 576) ⌝ }
         ensures { λ r. ⌜ turned (worldOf (r .ends) (now (forward .entry)) (now (back .exit)) (now (buffer .exit))) (page (now (out .exit)) (r .at))
-            ≡ printed (playerStep (worldOf self (now (forward .entry)) (now (back .entry)) (now (buffer .entry))) (hearForward (now (buffer .entry)))) number (page (now (out .entry)) at) ⌝ }
+            ≡ printed (playerStep (worldOf self (now (forward .entry)) (now (back .entry)) (now (buffer .entry))) (pick takes (hearForward (now (buffer .entry))) (repeatForward (now (buffer .entry))))) number (page (now (out .entry)) at) ⌝ }
     {
         let turn = self.repeat_forward(number, buffer, forward, back, out, at);
-        let heard = turn.ends;
-        let ends = heard.lose_forward();
-        Turn { ends, at: turn.at }
+        if takes {
+            let heard = turn.ends;
+            let ends = heard.lose_forward();
+            Turn { ends, at: turn.at }
+        } else {
+            turn
+        }
     }
 
-    // The first frame of back is heard, if there is one, and taken away.
+    // The first frame of back is heard, if there is one, and taken away where `takes` is true.
     fn hear_back(
         self,
+        takes: bool,
         number: u16,
         forward: &mut [u8],
         back: &[u8],
@@ -338,12 +345,16 @@ impl Ends {
         requires { ⌜ (length (now forward) ≡ 576) × (length (now back) ≡ 576) ⌝ }
         ensures { λ r. ⌜ ((buffer : List ℕ) →
             turned (worldOf (r .ends) (now (forward .exit)) (now (back .entry)) buffer) (page (now (out .exit)) (r .at))
-            ≡ printed (playerStep (worldOf self (now (forward .entry)) (now (back .entry)) buffer) hearBack) number (page (now (out .entry)) at)) ⌝ }
+            ≡ printed (playerStep (worldOf self (now (forward .entry)) (now (back .entry)) buffer) (pick takes hearBack repeatBack)) number (page (now (out .entry)) at)) ⌝ }
     {
         let turn = self.repeat_back(number, forward, back, out, at);
-        let heard = turn.ends;
-        let ends = heard.lose_back();
-        Turn { ends, at: turn.at }
+        if takes {
+            let heard = turn.ends;
+            let ends = heard.lose_back();
+            Turn { ends, at: turn.at }
+        } else {
+            turn
+        }
     }
 
     // Document 01, The player: "1, 2 sender, receiver tick; 3, 4, 5 forward hear, lose, repeat; 6, 7, 8 back".
@@ -365,18 +376,16 @@ impl Ends {
         match event {
             1 => self.tick_sender(number, message, forward, out, at),
             2 => self.tick_receiver(number, back, out, at),
-            3 => self.hear_forward(number, buffer, forward, back, out, at),
+            3 | 5 => self.hear_forward(event == 3, number, buffer, forward, back, out, at),
             4 => Turn {
                 ends: self.lose_forward(),
                 at,
             },
-            5 => self.repeat_forward(number, buffer, forward, back, out, at),
-            6 => self.hear_back(number, forward, back, out, at),
             7 => Turn {
                 ends: self.lose_back(),
                 at,
             },
-            _ => self.repeat_back(number, forward, back, out, at),
+            _ => self.hear_back(event == 6, number, forward, back, out, at),
         }
     }
 }

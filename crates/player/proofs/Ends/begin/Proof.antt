@@ -8,8 +8,8 @@ use Rattle.player.proofs.Ends.begin.Tie as tie
 begin-requires : tie.Need-begin-requires
 begin-requires c κs = search needs
 
-sender-answered-requires : tie.Need-sender-answered-requires
-sender-answered-requires c κs = search needs
+sender-spoke-requires : tie.Need-sender-spoke-requires
+sender-spoke-requires c κs = search needs
 
 same-length : tie.Need-same-length
 same-length c = search needs
@@ -20,8 +20,8 @@ same-length-2 c = search needs
 returns : tie.Need-returns
 returns c =
     let answered = c .before .before .before .before in
-    begins _ _ _ _ _ _ (answered .before .before .before .begin .ensures) (answered .sender-answered .ensures)
+    begins _ _ _ _ _ _ (answered .before .before .before .begin .ensures) (answered .sender-spoke .ensures)
 
 pub begin-spec : {M : Type 1} → statement M
 begin-spec =
-    tie.close (tie.spec begin-requires sender-answered-requires same-length same-length-2 returns)
+    tie.close (tie.spec begin-requires sender-spoke-requires same-length same-length-2 returns)

@@ -1,6 +1,7 @@
--- `player::Ends::hear_forward` meets its contract. Hearing is repeating and then losing.
+-- `player::Ends::hear_forward` meets its contract. Hearing and taking away is repeating and then losing.
 -- Assumes nothing.
 use borrow.Author.Needs.{needs}
+use Rattle.frame.specs.Choice.{pick}
 use Rattle.player.proofs.Turns.{hears-forward}
 use Rattle.player.proofs.Ends.hear_forward.Statement.{statement}
 use Rattle.player.proofs.Ends.hear_forward.Tie as tie
@@ -21,7 +22,21 @@ same-length-3 : tie.Need-same-length-3
 same-length-3 c = search needs
 
 returns : tie.Need-returns
-returns c = hears-forward _ _ _ _ _ _ _ _ _ _ _ (c .before .before .before .before .before .before .before .before .repeat-forward .ensures) (c .lose-forward .ensures)
+unfolding pick
+returns c = rw (c .before .before .if1 .taken) (hears-forward _ _ _ _ _ _ _ _ _ _ _ (c .before .before .before .before .before .before .before .before .before .repeat-forward .ensures) (c .lose-forward .ensures))
+
+same-length-4 : tie.Need-same-length-4
+same-length-4 c = search needs
+
+same-length-5 : tie.Need-same-length-5
+same-length-5 c = search needs
+
+same-length-6 : tie.Need-same-length-6
+same-length-6 c = search needs
+
+returns-2 : tie.Need-returns-2
+unfolding pick
+returns-2 c = rw (c .if1 .left) (c .before .before .before .before .before .before .before .repeat-forward .ensures)
 
 pub hear-forward-spec : {M : Type 1} → statement M
 hear-forward-spec =
@@ -32,4 +47,8 @@ hear-forward-spec =
     same-length
     same-length-2
     same-length-3
-    returns)
+    returns
+    same-length-4
+    same-length-5
+    same-length-6
+    returns-2)

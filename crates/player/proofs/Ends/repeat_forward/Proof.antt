@@ -18,8 +18,8 @@ head-requires c κs = search needs
 hear-requires : tie.Need-hear-requires
 hear-requires c κs = search needs
 
-receiver-answered-requires : tie.Need-receiver-answered-requires
-receiver-answered-requires c κs = search needs
+receiver-spoke-requires : tie.Need-receiver-spoke-requires
+receiver-spoke-requires c κs = search needs
 
 same-length : tie.Need-same-length
 same-length c = search needs
@@ -35,7 +35,7 @@ returns-2 c =
     let answered = c .before .before .before .before in
     let heard = answered .before .before .before .before .before in
     let tested = heard .before .before .before .before in
-    repeat-forward-some _ _ _ _ _ _ _ _ _ _ _ (tested .before .is-empty .ensures) (tested .if1 .left) (tested .before .before .before .before .before .before .before .pre .0) (heard .before .before .before .head .ensures) (heard .hear .ensures) (answered .receiver-answered .ensures)
+    repeat-forward-some _ _ _ _ _ _ _ _ _ _ _ (tested .before .is-empty .ensures) (tested .if1 .left) (tested .before .before .before .before .before .before .before .pre .0) (heard .before .before .before .head .ensures) (heard .hear .ensures) (answered .receiver-spoke .ensures)
 
 pub repeat-forward-spec : {M : Type 1} → statement M
 repeat-forward-spec =
@@ -45,7 +45,7 @@ repeat-forward-spec =
     returns
     head-requires
     hear-requires
-    receiver-answered-requires
+    receiver-spoke-requires
     same-length
     same-length-2
     same-length-3

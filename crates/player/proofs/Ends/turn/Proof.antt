@@ -1,7 +1,7 @@
 -- `player::Ends::turn` meets its contract. By the event's number.
 -- Assumes nothing.
 use borrow.Author.Needs.{needs}
-use Rattle.player.proofs.Turns.{turn-1, turn-2, turn-3, turn-4, turn-5, turn-6, turn-7, turn-8}
+use Rattle.player.proofs.Turns.{turn-1, turn-2, turn-3-5, turn-4, turn-6-8, turn-7}
 use Rattle.player.proofs.Ends.turn.Statement.{statement}
 use Rattle.player.proofs.Ends.turn.Tie as tie
 
@@ -17,17 +17,11 @@ hear-forward-requires c κs = search needs
 lose-forward-requires : tie.Need-lose-forward-requires
 lose-forward-requires c κs = search needs
 
-repeat-forward-requires : tie.Need-repeat-forward-requires
-repeat-forward-requires c κs = search needs
-
-hear-back-requires : tie.Need-hear-back-requires
-hear-back-requires c κs = search needs
-
 lose-back-requires : tie.Need-lose-back-requires
 lose-back-requires c κs = search needs
 
-repeat-back-requires : tie.Need-repeat-back-requires
-repeat-back-requires c κs = search needs
+hear-back-requires : tie.Need-hear-back-requires
+hear-back-requires c κs = search needs
 
 same-length : tie.Need-same-length
 same-length c = search needs
@@ -60,10 +54,13 @@ same-length-8 : tie.Need-same-length-8
 same-length-8 c = search needs
 
 returns-3 : tie.Need-returns-3
-returns-3 c = turn-3 _ _ _ _ _ (c .before .before .before .before .before .before .before .before .before .before .before .match .keys3) (c .before .before .before .before .before .before .hear-forward .ensures)
+returns-3 c = turn-3-5 _ _ _ _ _ (c .before .before .before .before .before .before .before .before .before .before .before .match .keys3) (c .before .before .before .before .before .before .hear-forward .ensures)
 
 returns-4 : tie.Need-returns-4
 returns-4 c = turn-4 _ _ _ _ _ _ _ _ _ (c .before .match .keys4) (c .lose-forward .ensures)
+
+returns-5 : tie.Need-returns-5
+returns-5 c = turn-7 _ _ _ _ _ _ _ _ _ (c .before .match .keys5) (c .lose-back .ensures)
 
 same-length-9 : tie.Need-same-length-9
 same-length-9 c = search needs
@@ -74,38 +71,8 @@ same-length-10 c = search needs
 same-length-11 : tie.Need-same-length-11
 same-length-11 c = search needs
 
-same-length-12 : tie.Need-same-length-12
-same-length-12 c = search needs
-
-returns-5 : tie.Need-returns-5
-returns-5 c = turn-5 _ _ _ _ _ (c .before .before .before .before .before .before .before .before .before .before .before .match .keys5) (c .before .before .before .before .before .before .repeat-forward .ensures)
-
-same-length-13 : tie.Need-same-length-13
-same-length-13 c = search needs
-
-same-length-14 : tie.Need-same-length-14
-same-length-14 c = search needs
-
-same-length-15 : tie.Need-same-length-15
-same-length-15 c = search needs
-
 returns-6 : tie.Need-returns-6
-returns-6 c = turn-6 _ _ _ _ _ (c .before .before .before .before .before .before .before .before .match .keys6) (c .before .before .before .before .hear-back .ensures _)
-
-returns-7 : tie.Need-returns-7
-returns-7 c = turn-7 _ _ _ _ _ _ _ _ _ (c .before .match .keys7) (c .lose-back .ensures)
-
-same-length-16 : tie.Need-same-length-16
-same-length-16 c = search needs
-
-same-length-17 : tie.Need-same-length-17
-same-length-17 c = search needs
-
-same-length-18 : tie.Need-same-length-18
-same-length-18 c = search needs
-
-returns-8 : tie.Need-returns-8
-returns-8 c = turn-8 _ _ _ _ _ (c .before .before .before .before .before .before .before .before .match .rest) (c .before .before .before .before .repeat-back .ensures _)
+returns-6 c = turn-6-8 _ _ _ _ _ (c .before .before .before .before .before .before .before .before .match .rest) (c .before .before .before .before .hear-back .ensures _)
 
 pub turn-spec : {M : Type 1} → statement M
 turn-spec =
@@ -115,10 +82,8 @@ turn-spec =
     tick-receiver-requires
     hear-forward-requires
     lose-forward-requires
-    repeat-forward-requires
-    hear-back-requires
     lose-back-requires
-    repeat-back-requires
+    hear-back-requires
     same-length
     same-length-2
     returns
@@ -131,17 +96,8 @@ turn-spec =
     same-length-8
     returns-3
     returns-4
+    returns-5
     same-length-9
     same-length-10
     same-length-11
-    same-length-12
-    returns-5
-    same-length-13
-    same-length-14
-    same-length-15
-    returns-6
-    returns-7
-    same-length-16
-    same-length-17
-    same-length-18
-    returns-8)
+    returns-6)
