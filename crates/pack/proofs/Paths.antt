@@ -8,7 +8,7 @@ use native.Mathlib.Numerals.{add-one}
 use lib.ListN.{length, getD, drop, drop-of-length-le, List·getD-eq-default}
 use lib.Seq.{drop-cons}
 use Rattle.frame.proofs.Choice.{pick-true, pick-false}
-use Rattle.pack.specs.Pack.{Contents, held, refused, byteAt, laidOut, bodiesIn, eventsOf, isEvent, allEvents, bodiesOf}
+use Rattle.pack.specs.Pack.{held, refused, byteAt, laidOut, bodiesIn, eventsOf, isEvent, allEvents, bodiesOf}
 use Rattle.pack.specs.declared.Bodies.{Bodies}
 
 pub byte-past : (pack : List ℕ) (place : ℕ) → length pack ≤ place → 0 ≡ byteAt pack place

@@ -1,8 +1,6 @@
 // Reading a run pack: its settings, and where its message and its events are.
 ghost use mathlib.Core.Path.{_≡_};
-ghost use mathlib.Core.Bool.{_&&_};
 ghost use Prim.Native.Nat.{_≤_};
-ghost use lib.Dec.{leb};
 ghost use lib.ListN.{drop};
 ghost use Rattle.pack.specs.Pack.{
   toldReading,

@@ -17,10 +17,10 @@ use Rattle.frame.specs.Choice.{pick}
 use Rattle.frame.specs.Count.{incrementOf, frameCountOf}
 use Rattle.frame.specs.Frames.{informationOf, byteOf, wordAt, announcementOf, smRmOf, smUrmOf}
 use Rattle.frame.specs.declared.Frame.{Frame}
-use Rattle.frame.specs.Reading.{Judgement, accepted, refused, toldReading, readOf}
+use Rattle.frame.specs.Reading.{toldReading, readOf}
 use Rattle.frame.specs.declared.Reading.{Reading}
 use Rattle.frame.specs.declared.Reading.the-variants.{Kind, Refused}
-use Rattle.sender.specs.Begin.{settingsFit, makeOf, begunWith, beginLong, beginShort, beginIdle, beginPhase, beginOf, postOf}
+use Rattle.sender.specs.Begin.{settingsFit, makeOf, begunWith, beginLong, beginShort, beginIdle, postOf}
 use Rattle.sender.specs.Hear.{taking, unlessBad, ackOpening, ackWindow, hearAck, hearNack, ifWhole, hearEnd, hearShortAck, hearKind, hearRead, hearOf}
 use Rattle.sender.specs.Parts.{openingAgain, sendingNext, waitingAgain, shortAgain, lentTo, ifFirst, refusalOf}
 use Rattle.sender.specs.State.{aged, counted, inPhase}

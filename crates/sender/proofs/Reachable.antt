@@ -3,24 +3,23 @@
 -- starts from 1 to N and ends from its start to N.
 -- Assumes nothing.
 use Prim.Native.Nat.{ℕ, _+_, _-_, _≤_, _<_, min}
-use mathlib.Core.Path.{_≡_, refl, sym, subst}
-use mathlib.Core.Bool.{Bool, true, false, _&&_, _||_, and-eq-true-iff, false≢true, true≢false}
+use mathlib.Core.Path.{_≡_, refl, subst}
+use mathlib.Core.Bool.{Bool, true, false, _||_, and-eq-true-iff, true≢false}
 use mathlib.Core.List.{List}
 use native.Mathlib.Omega.{arith}
-use borrow.Author.Tests.{leb-true, leb-false, ltb-true, ltb-false, eqb-true, eqb-false, le-leb, lt-leb}
-use lib.Dec.{eqb, leb, ltb}
+use borrow.Author.Tests.{leb-true, leb-false, ltb-false, eqb-true, eqb-false, le-leb, lt-leb}
+use lib.Dec.{eqb, leb}
 use lib.ListN.{length}
 use Rattle.frame.specs.Choice.{pick}
 use Rattle.frame.specs.Count.{frameCountOf, incrementOf}
-use Rattle.frame.specs.Frames.{byteOf, wordAt}
 use Rattle.frame.specs.Reading.{Judgement, accepted, refused, readOf}
 use Rattle.frame.specs.declared.Frame.{Frame}
 use Rattle.sender.specs.Begin.{settingsFit, makeOf, beginLong, beginShort, beginIdle, beginPhase, beginOf, postOf}
 use Rattle.sender.specs.Hear.{taking, unlessBad, ackOpening, ackWindow, hearAck, hearNack, ifWhole, hearEnd, hearShortAck, hearKind, hearRead, hearOf}
-use Rattle.sender.specs.Reachable.{Reachable, fresh, begun, ticked, heard, posted, SettingsWithin, TransferWithin, LongWithin, ShortWithin, PhaseWithin, Within, Counts, OfTransfer, OfWait, OfGap, OfMisses, Exact}
+use Rattle.sender.specs.Reachable.{Reachable, fresh, begun, ticked, heard, posted, SettingsWithin, TransferWithin, LongWithin, PhaseWithin, Within, Counts, OfTransfer, OfWait, OfGap, OfMisses, Exact}
 use Rattle.sender.specs.State.{aged, counted, inPhase}
 use Rattle.sender.specs.Tick.{tickOpening, afterFrame, tickSending, tickWaiting, tickShort, tickPhase, tickOf}
-use Rattle.sender.specs.Told.{Made, made, unmade, Told}
+use Rattle.sender.specs.Told.{made, Told}
 use Rattle.sender.specs.declared.Announced.{Announced}
 use Rattle.sender.specs.declared.Awaited.{Awaited}
 use Rattle.sender.specs.declared.Phase.{Phase}

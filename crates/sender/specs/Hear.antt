@@ -1,7 +1,7 @@
 -- Document 01, The sender: Hearing.
 use Prim.Native.Nat.{ℕ, _+_, _-_, min}
-use mathlib.Core.Bool.{Bool, true, false, _&&_, _||_}
-use lib.Dec.{eqb, leb, ltb}
+use mathlib.Core.Bool.{_&&_, _||_}
+use lib.Dec.{eqb, ltb}
 use Rattle.frame.specs.Choice.{pick}
 use Rattle.frame.specs.Frames.{byteOf, wordAt}
 use Rattle.frame.specs.Reading.{Judgement, accepted, refused, readOf}

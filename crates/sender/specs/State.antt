@@ -1,5 +1,4 @@
 -- The sender's state as the rules change it.
-use Prim.Native.Nat.{ℕ}
 use Rattle.frame.specs.Count.{incrementOf}
 use Rattle.sender.specs.declared.Transfer.{Transfer}
 use Rattle.sender.specs.declared.Phase.{Phase}

@@ -1,6 +1,5 @@
 // The lines: of a frame, and of each report.
 ghost use mathlib.Core.Path.{_≡_};
-ghost use mathlib.Core.List.{[], _∷_};
 ghost use Rattle.text.specs.Page.{page, put};
 ghost use Rattle.text.specs.Text.{
   headOf,

@@ -1,7 +1,7 @@
 -- The step over both ends is two calls of demand 3 on an empty forward line: the sender's tick, and the hearing of what it
 -- put there. So what is proved of the calls holds of the function that takes the step.
 use mathlib.Core.Bool.{Bool, true, false}
-use mathlib.Core.List.{List, [], _∷_, _++_}
+use mathlib.Core.List.{List, []}
 use mathlib.Core.Path.{_≡_, refl, sym, ap, _∙_, subst}
 use Prim.Native.Nat.{ℕ}
 use Rattle.receiver.specs.Hear as receiver-hear
@@ -13,7 +13,7 @@ use Rattle.sender.specs.Told as sender
 use Rattle.sender.specs.declared.Sender.{Sender}
 use Rattle.transport.specs.Across.{Across, across, acrossOf, handing}
 use Rattle.transport.specs.Step.{bySender, givenForward, stepOf, gone}
-use Rattle.transport.specs.World.{World, Call, senderTick, hearForward, nobody}
+use Rattle.transport.specs.World.{World, senderTick, hearForward, nobody}
 
 -- the ends after a tick and a hearing of forward, which was empty before
 pub record Ends (w : World) (a : Across) : Type 0 where

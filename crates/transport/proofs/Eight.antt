@@ -1,12 +1,12 @@
 -- Document 01, Frames: every frame that an end answers with has "eight data bytes", and so has every short delivery of a
 -- frame of eight, whatever the end's state.
 -- Assumes nothing.
-use Prim.Native.Nat.{ℕ, zero, suc, _≤_}
+use Prim.Native.Nat.{ℕ, zero, suc}
 use mathlib.Core.List.{List, [], _∷_}
 use mathlib.Core.Path.{_≡_, refl, ap}
 use lib.ListN.{length}
 use Rattle.frame.proofs.Choice.{pick-elim, read-elim}
-use Rattle.frame.specs.Frames.{byteOf, fillTo, blankOf, announcementOf, informationOf, lmAckOf, lmNackOf, endOfAckOf, smRmOf, smAckOf}
+use Rattle.frame.specs.Frames.{fillTo, blankOf, announcementOf, informationOf, lmAckOf, lmNackOf, endOfAckOf, smRmOf, smAckOf}
 use Rattle.frame.specs.Reading.{Judgement}
 use Rattle.frame.specs.declared.Frame.{Frame}
 use Rattle.receiver.specs.Hear as hearing

@@ -1,7 +1,6 @@
 -- `sender::Sender::ack_opening` meets its contract. Void numbers, a start above N and a start other than 1, in the
 -- code's order, are the definition's tests.
 -- Assumes nothing.
-use borrow.Author.Needs.{needs}
 use Rattle.sender.proofs.Laws.{ack-paths}
 use Rattle.sender.proofs.Sender.ack_opening.Statement.{statement}
 use Rattle.sender.proofs.Sender.ack_opening.Tie as tie

@@ -1,7 +1,6 @@
 -- `sender::Sender::ack_window` meets its contract. Void numbers, a start above N, below and at the last start taken,
 -- in the code's order, are the definition's tests.
 -- Assumes nothing.
-use borrow.Author.Needs.{needs}
 use Rattle.sender.proofs.Laws.{ack-paths}
 use Rattle.sender.proofs.Sender.ack_window.Statement.{statement}
 use Rattle.sender.proofs.Sender.ack_window.Tie as tie

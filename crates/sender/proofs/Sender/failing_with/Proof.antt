@@ -1,7 +1,6 @@
 -- `sender::Sender::failing_with` meets its contract. The state, the frame and the counts are those that `in_phase`,
 -- `lm_nack` and `counted` promise.
 -- Assumes nothing.
-use borrow.Author.Needs.{needs}
 use Rattle.sender.proofs.Sender.failing_with.Statement.{statement}
 use Rattle.sender.proofs.Sender.failing_with.Tie as tie
 

@@ -1,7 +1,6 @@
 -- `sender::Sender::hear` meets its contract. A reading is its kind or its refusal's number, and the definition goes
 -- by what `read` promises.
 -- Assumes nothing.
-use borrow.Author.Needs.{needs}
 use Rattle.sender.proofs.Laws.{hear-paths}
 use Rattle.sender.proofs.Sender.hear.Statement.{statement}
 use Rattle.sender.proofs.Sender.hear.Tie as tie

@@ -1,7 +1,6 @@
 -- `sender::Sender::hear_ack` meets its contract. In each arm the phase is its variant, at which the definition
 -- computes.
 -- Assumes nothing.
-use borrow.Author.Needs.{needs}
 use Rattle.sender.specs.Hear.{hearAck}
 use Rattle.sender.proofs.Laws.{at-with-two}
 use Rattle.sender.proofs.Sender.hear_ack.Statement.{statement}

@@ -1,7 +1,6 @@
 -- `sender::Sender::hear_short_ack` meets its contract. In each arm the phase is its variant, at which the definition
 -- computes.
 -- Assumes nothing.
-use borrow.Author.Needs.{needs}
 use Rattle.sender.specs.Hear.{hearShortAck}
 use Rattle.sender.specs.Parts.{ifFirst}
 use Rattle.sender.proofs.Laws.{at-with}

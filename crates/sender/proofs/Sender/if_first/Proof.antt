@@ -1,6 +1,5 @@
 -- `sender::Sender::if_first` meets its contract. The test of the first byte is the definition's.
 -- Assumes nothing.
-use borrow.Author.Needs.{needs}
 use Rattle.sender.proofs.Laws.{sent-paths}
 use Rattle.sender.proofs.Sender.if_first.Statement.{statement}
 use Rattle.sender.proofs.Sender.if_first.Tie as tie

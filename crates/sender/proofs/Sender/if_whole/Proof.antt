@@ -1,6 +1,5 @@
 -- `sender::Sender::if_whole` meets its contract. The test is what `is_whole` promises.
 -- Assumes nothing.
-use borrow.Author.Needs.{needs}
 use Rattle.sender.proofs.Laws.{sent-paths}
 use Rattle.sender.proofs.Sender.if_whole.Statement.{statement}
 use Rattle.sender.proofs.Sender.if_whole.Tie as tie

@@ -1,6 +1,5 @@
 -- `sender::Sender::make` meets its contract. Settings that fit make the idle sender, others are refused 1.
 -- Assumes nothing.
-use borrow.Author.Needs.{needs}
 use Rattle.sender.proofs.Laws.{make-paths}
 use Rattle.sender.proofs.Sender.make.Statement.{statement}
 use Rattle.sender.proofs.Sender.make.Tie as tie

@@ -1,6 +1,5 @@
 -- `sender::Sender::post` meets its contract. The range of the match is the definition's test of the length.
 -- Assumes nothing.
-use borrow.Author.Needs.{needs}
 use Rattle.sender.proofs.Laws.{post-paths}
 use mathlib.Core.Logic.{⊎-elim}
 use Rattle.sender.proofs.Sender.post.Statement.{statement}

@@ -1,6 +1,5 @@
 -- `sender::Sender::refusing` meets its contract. The frame is the blank one that `blank` promises.
 -- Assumes nothing.
-use borrow.Author.Needs.{needs}
 use Rattle.sender.proofs.Sender.refusing.Statement.{statement}
 use Rattle.sender.proofs.Sender.refusing.Tie as tie
 

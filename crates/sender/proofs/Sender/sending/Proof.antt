@@ -1,7 +1,6 @@
 -- `sender::Sender::sending` meets its contract. The state and the frame are those that `in_phase` and `blank`
 -- promise.
 -- Assumes nothing.
-use borrow.Author.Needs.{needs}
 use Rattle.sender.proofs.Sender.sending.Statement.{statement}
 use Rattle.sender.proofs.Sender.sending.Tie as tie
 

@@ -1,7 +1,6 @@
 -- `sender::Sender::tick` meets its contract. The lent length is the definition's first test; then each arm's phase is
 -- its variant.
 -- Assumes nothing.
-use borrow.Author.Needs.{needs}
 use Rattle.sender.proofs.Laws.{tick-paths}
 use Rattle.sender.proofs.Sender.tick.Statement.{statement}
 use Rattle.sender.proofs.Sender.tick.Tie as tie

@@ -1,7 +1,6 @@
 -- `sender::Sender::tick_opening` meets its contract. The tests of M, T and the third miss, in the code's order, are
 -- the definition's.
 -- Assumes nothing.
-use borrow.Author.Needs.{needs}
 use Rattle.sender.proofs.Laws.{pacing-paths}
 use Rattle.sender.proofs.Sender.tick_opening.Statement.{statement}
 use Rattle.sender.proofs.Sender.tick_opening.Tie as tie

@@ -1,6 +1,5 @@
 -- `sender::Sender::tick_sending` meets its contract. The tests of M and G, in the code's order, are the definition's.
 -- Assumes nothing.
-use borrow.Author.Needs.{needs}
 use Rattle.sender.proofs.Laws.{pacing-paths}
 use Rattle.sender.proofs.Sender.tick_sending.Statement.{statement}
 use Rattle.sender.proofs.Sender.tick_sending.Tie as tie

@@ -1,6 +1,5 @@
 -- `sender::Sender::tick_short` meets its contract. The tests of M and T, in the code's order, are the definition's.
 -- Assumes nothing.
-use borrow.Author.Needs.{needs}
 use Rattle.sender.proofs.Laws.{pacing-paths}
 use Rattle.sender.proofs.Sender.tick_short.Statement.{statement}
 use Rattle.sender.proofs.Sender.tick_short.Tie as tie

@@ -1,6 +1,5 @@
 -- `sender::Sender::waiting_again` meets its contract. The state and the frame are those that the callees promise.
 -- Assumes nothing.
-use borrow.Author.Needs.{needs}
 use Rattle.sender.proofs.Laws.{out-paths}
 use Rattle.sender.proofs.Sender.waiting_again.Statement.{statement}
 use Rattle.sender.proofs.Sender.waiting_again.Tie as tie

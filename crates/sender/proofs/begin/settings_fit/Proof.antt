@@ -1,7 +1,6 @@
 -- `sender::begin::settings_fit` meets its contract. The code's `&&` is the next setting's test where one passes, else
 -- that one's.
 -- Assumes nothing.
-use borrow.Author.Needs.{needs}
 use Rattle.sender.proofs.Laws.{and-paths}
 use Rattle.sender.proofs.begin.settings_fit.Statement.{statement}
 use Rattle.sender.proofs.begin.settings_fit.Tie as tie
