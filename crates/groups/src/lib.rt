@@ -3,7 +3,7 @@ ghost use mathlib.Core.Path.{_≡_};
 ghost use Prim.Native.Nat.{_≤_};
 ghost use Rattle.groups.specs.Answer.{toldFinding};
 ghost use Rattle.groups.specs.Table.{kindFrom, rowFrom, kindAt, findOf};
-ghost use Rattle.groups.specs.Format.{sizeOf, kindsFor, allowed, listed, values, allAllowed};
+ghost use Rattle.groups.specs.Format.{sizeOf, kindsOf, allowed, values, allAllowed};
 
 pub mod read;
 pub mod write;
@@ -69,14 +69,6 @@ pub enum Reading {
 pub enum Writing {
     Done,
     Refused(u8),
-}
-
-// The kinds of a row's fields.
-struct Kinds {
-    first: Kind,
-    second: Kind,
-    third: Kind,
-    fourth: Kind,
 }
 
 // A line of each table: a kind's width, low, high and marks; a group's code, length, sender, reliability and fields.
@@ -158,6 +150,12 @@ fn kind_of(line: KindLine) -> Kind
     }
 }
 
+fn width_of(line: KindLine) -> Width
+    ensures { λ r. ⌜ r ≡ line .0 ⌝ }
+{
+    line.0
+}
+
 fn row_of(line: GroupLine) -> Row
     ensures { λ r. ⌜ r ≡ rowFrom line ⌝ }
 {
@@ -179,49 +177,24 @@ pub fn find(code: u8) -> Finding
     ensures { λ r. ⌜ toldFinding r ≡ findOf code ⌝ }
 {
     let groups = GROUPS;
-    let mut i = 0;
-    while i < groups.len() {
-        let line = groups[i];
-        if line.0 == code {
-            return Finding::Row(row_of(line));
-        }
-        i += 1;
-    }
-    Finding::Refused(9)
-}
-
-// The kind at a place, none past the table's end.
-fn kind_at(place: usize) -> Kind
-    ensures { λ r. ⌜ r ≡ kindAt place ⌝ }
-{
-    let kinds = KINDS;
-    if place < kinds.len() {
-        kind_of(kinds[place])
-    } else {
-        kind_of(kinds[NONE])
+    match code {
+        0x71 => Finding::Row(row_of(groups[0])),
+        0x72 => Finding::Row(row_of(groups[1])),
+        0x73 => Finding::Row(row_of(groups[2])),
+        0x74 => Finding::Row(row_of(groups[3])),
+        0x75 => Finding::Row(row_of(groups[4])),
+        0x76 => Finding::Row(row_of(groups[5])),
+        0x77 => Finding::Row(row_of(groups[6])),
+        0x78 => Finding::Row(row_of(groups[7])),
+        0x79 => Finding::Row(row_of(groups[8])),
+        _ => Finding::Refused(9),
     }
 }
 
-fn kinds_of(row: Row) -> Kinds
-    ensures { λ r. ⌜ r ≡ kindsFor row ⌝ }
+// How many bytes a field of a width has.
+fn size(width: Width) -> usize
+    ensures { λ r. ⌜ (r ≡ sizeOf width) × (r ≤ 2) ⌝ }
 {
-    let first = kind_at(row.first);
-    let second = kind_at(row.second);
-    let third = kind_at(row.third);
-    let fourth = kind_at(row.fourth);
-    Kinds {
-        first,
-        second,
-        third,
-        fourth,
-    }
-}
-
-// How many bytes a field of a kind has.
-fn size(kind: Kind) -> usize
-    ensures { λ r. ⌜ (r ≡ sizeOf (kind .width)) × (r ≤ 2) ⌝ }
-{
-    let width = kind.width;
     match width {
         Width::None => 0,
         Width::Byte => 1,
@@ -237,13 +210,52 @@ fn allows(kind: Kind, value: u16) -> bool
     inside | (value == kind.mark) | (value == kind.other)
 }
 
-// The kinds of a group's fields allow its values.
-fn all_allowed(kinds: Kinds, group: Group) -> bool
-    ensures { λ r. ⌜ r ≡ allAllowed (listed kinds) (values group) ⌝ }
+// The kind at a place, none past the table's end: its width, and that it allows a value.
+fn width_at(place: usize) -> Width
+    ensures { λ r. ⌜ r ≡ kindAt place .width ⌝ }
 {
-    let first = allows(kinds.first, group.first);
-    let second = allows(kinds.second, group.second);
-    let third = allows(kinds.third, group.third);
-    let fourth = allows(kinds.fourth, group.fourth);
+    let kinds = KINDS;
+    match place {
+        1 => width_of(kinds[1]),
+        2 => width_of(kinds[2]),
+        3 => width_of(kinds[3]),
+        4 => width_of(kinds[4]),
+        5 => width_of(kinds[5]),
+        6 => width_of(kinds[6]),
+        7 => width_of(kinds[7]),
+        8 => width_of(kinds[8]),
+        9 => width_of(kinds[9]),
+        10 => width_of(kinds[10]),
+        _ => width_of(kinds[0]),
+    }
+}
+
+fn allows_at(place: usize, value: u16) -> bool
+    ensures { λ r. ⌜ r ≡ allowed (kindAt place) value ⌝ }
+{
+    let kinds = KINDS;
+    match place {
+        1 => allows(kind_of(kinds[1]), value),
+        2 => allows(kind_of(kinds[2]), value),
+        3 => allows(kind_of(kinds[3]), value),
+        4 => allows(kind_of(kinds[4]), value),
+        5 => allows(kind_of(kinds[5]), value),
+        6 => allows(kind_of(kinds[6]), value),
+        7 => allows(kind_of(kinds[7]), value),
+        8 => allows(kind_of(kinds[8]), value),
+        9 => allows(kind_of(kinds[9]), value),
+        10 => allows(kind_of(kinds[10]), value),
+        _ => allows(kind_of(kinds[0]), value),
+    }
+}
+
+// The kinds of a row's fields allow a group's values.
+fn all_allowed(row: Row, group: Group) -> bool
+    ensures { λ r. ⌜ r ≡ allAllowed (kindsOf row) (values group) ⌝ }
+{
+    let first = allows_at(row.first, group.first);
+    let second = allows_at(row.second, group.second);
+    let third = allows_at(row.third, group.third);
+    let fourth = allows_at(row.fourth, group.fourth);
     first & (second & (third & fourth))
 }
