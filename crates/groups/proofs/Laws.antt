@@ -14,12 +14,11 @@ use Rattle.groups.specs.Answer.{Answer, given, refused, toldFinding}
 use Rattle.frame.specs.Choice.{pick}
 use Rattle.groups.specs.Format.{sizeOf, sizesOf, valueOf, bytesOf, fieldsOf, groupOf, groupFrom, bytesFor, kindsOf, values, allAllowed, allFiller}
 use Rattle.groups.specs.Reading.{judged, readRow, readBy, readOf}
-use Rattle.groups.specs.Table.{kindLines, kindFrom, noField, kindAt, rowFrom, findIn, findOf}
+use Rattle.groups.specs.Table.{kindLines, kindFrom, noField, kindAt, findOf}
 use Rattle.groups.specs.Writing.{Outcome, outcome, writeRow, writeBy, writeOf}
 use Rattle.groups.specs.declared.Finding.{Finding}
 use Rattle.groups.specs.declared.Finding.the-variants as findings
 use Rattle.groups.specs.declared.Group.{Group}
-use Rattle.groups.specs.declared.GroupLine.{GroupLine}
 use Rattle.groups.specs.declared.Kind.{Kind}
 use Rattle.groups.specs.declared.Row.{Row}
 use Rattle.groups.specs.declared.Width.{Width}

@@ -150,12 +150,6 @@ fn kind_of(line: KindLine) -> Kind
     }
 }
 
-fn width_of(line: KindLine) -> Width
-    ensures { λ r. ⌜ r ≡ line .0 ⌝ }
-{
-    line.0
-}
-
 fn row_of(line: GroupLine) -> Row
     ensures { λ r. ⌜ r ≡ rowFrom line ⌝ }
 {
@@ -172,7 +166,14 @@ fn row_of(line: GroupLine) -> Row
     }
 }
 
-// The row of a code, or refusal 9.
+// A line's width.
+fn width_of(line: KindLine) -> Width
+    ensures { λ r. ⌜ r ≡ line .0 ⌝ }
+{
+    line.0
+}
+
+// The row of a code, or refusal 9. Each line is taken at a constant place, as below, so that no table is copied.
 pub fn find(code: u8) -> Finding
     ensures { λ r. ⌜ toldFinding r ≡ findOf code ⌝ }
 {
@@ -210,7 +211,7 @@ fn allows(kind: Kind, value: u16) -> bool
     inside | (value == kind.mark) | (value == kind.other)
 }
 
-// The kind at a place, none past the table's end: its width, and that it allows a value.
+// The width of the kind at a place, none past the table's end.
 fn width_at(place: usize) -> Width
     ensures { λ r. ⌜ r ≡ kindAt place .width ⌝ }
 {
@@ -230,6 +231,7 @@ fn width_at(place: usize) -> Width
     }
 }
 
+// The kind at a place allows a value.
 fn allows_at(place: usize, value: u16) -> bool
     ensures { λ r. ⌜ r ≡ allowed (kindAt place) value ⌝ }
 {
