@@ -217,17 +217,17 @@ fn width_at(place: usize) -> Width
 {
     let kinds = KINDS;
     match place {
-        1 => width_of(kinds[1]),
-        2 => width_of(kinds[2]),
-        3 => width_of(kinds[3]),
-        4 => width_of(kinds[4]),
-        5 => width_of(kinds[5]),
-        6 => width_of(kinds[6]),
-        7 => width_of(kinds[7]),
-        8 => width_of(kinds[8]),
-        9 => width_of(kinds[9]),
-        10 => width_of(kinds[10]),
-        _ => width_of(kinds[0]),
+        READY => width_of(kinds[READY]),
+        VOLTAGE => width_of(kinds[VOLTAGE]),
+        CURRENT => width_of(kinds[CURRENT]),
+        MODE => width_of(kinds[MODE]),
+        CHARGE => width_of(kinds[CHARGE]),
+        MINUTES => width_of(kinds[MINUTES]),
+        REASON => width_of(kinds[REASON]),
+        CELL => width_of(kinds[CELL]),
+        HEAT => width_of(kinds[HEAT]),
+        PAUSE => width_of(kinds[PAUSE]),
+        _ => width_of(kinds[NONE]),
     }
 }
 
@@ -237,17 +237,17 @@ fn allows_at(place: usize, value: u16) -> bool
 {
     let kinds = KINDS;
     match place {
-        1 => allows(kind_of(kinds[1]), value),
-        2 => allows(kind_of(kinds[2]), value),
-        3 => allows(kind_of(kinds[3]), value),
-        4 => allows(kind_of(kinds[4]), value),
-        5 => allows(kind_of(kinds[5]), value),
-        6 => allows(kind_of(kinds[6]), value),
-        7 => allows(kind_of(kinds[7]), value),
-        8 => allows(kind_of(kinds[8]), value),
-        9 => allows(kind_of(kinds[9]), value),
-        10 => allows(kind_of(kinds[10]), value),
-        _ => allows(kind_of(kinds[0]), value),
+        READY => allows(kind_of(kinds[READY]), value),
+        VOLTAGE => allows(kind_of(kinds[VOLTAGE]), value),
+        CURRENT => allows(kind_of(kinds[CURRENT]), value),
+        MODE => allows(kind_of(kinds[MODE]), value),
+        CHARGE => allows(kind_of(kinds[CHARGE]), value),
+        MINUTES => allows(kind_of(kinds[MINUTES]), value),
+        REASON => allows(kind_of(kinds[REASON]), value),
+        CELL => allows(kind_of(kinds[CELL]), value),
+        HEAT => allows(kind_of(kinds[HEAT]), value),
+        PAUSE => allows(kind_of(kinds[PAUSE]), value),
+        _ => allows(kind_of(kinds[NONE]), value),
     }
 }
 
