@@ -1,11 +1,20 @@
 -- `groups::allows_at` meets its contract. In each arm the place is a number at which the definition computes the line of the code's table;
 -- the last arm's place is 0 or past the table, where the definition has no field.
 -- Assumes nothing.
+use Prim.Native.Nat.{ℕ}
+use mathlib.Core.Path.{_≡_, _∙_}
+use mathlib.Core.Bool.{Bool}
 use borrow.Author.Needs.{needs}
+use Rattle.groups.specs.Format.{allowed}
 use Rattle.groups.specs.Table.{kindLines, kindAt}
+use Rattle.groups.specs.declared.Kind.{Kind}
 use Rattle.groups.proofs.Laws.{missed, kind-none}
 use Rattle.groups.proofs.allows_at.Statement.{statement}
 use Rattle.groups.proofs.allows_at.Tie as tie
+
+-- what a kind allows, another that is the same allows
+by-kind : (b : Bool) (k l : Kind) (v : ℕ) → b ≡ allowed k v → k ≡ l → b ≡ allowed l v
+by-kind b k l v h e = cc
 
 array-copy-out-kind-of : tie.Need-array-copy-out-kind-of
 array-copy-out-kind-of c = search needs
@@ -108,47 +117,49 @@ allows-requires-11 c κs = search needs
 
 returns : tie.Need-returns
 unfolding kindAt kindLines
-returns c = rw (c .before .before .before .match .keys1) (cc)
+returns c = rw (c .before .before .before .match .keys1) (by-kind _ _ _ _ (c .allows .ensures) (c .before .kind-of .ensures))
 
 returns-2 : tie.Need-returns-2
 unfolding kindAt kindLines
-returns-2 c = rw (c .before .before .before .match .keys2) (cc)
+returns-2 c = rw (c .before .before .before .match .keys2) (by-kind _ _ _ _ (c .allows2 .ensures) (c .before .kind-of2 .ensures))
 
 returns-3 : tie.Need-returns-3
 unfolding kindAt kindLines
-returns-3 c = rw (c .before .before .before .match .keys3) (cc)
+returns-3 c = rw (c .before .before .before .match .keys3) (by-kind _ _ _ _ (c .allows3 .ensures) (c .before .kind-of3 .ensures))
 
 returns-4 : tie.Need-returns-4
 unfolding kindAt kindLines
-returns-4 c = rw (c .before .before .before .match .keys4) (cc)
+returns-4 c = rw (c .before .before .before .match .keys4) (by-kind _ _ _ _ (c .allows4 .ensures) (c .before .kind-of4 .ensures))
 
 returns-5 : tie.Need-returns-5
 unfolding kindAt kindLines
-returns-5 c = rw (c .before .before .before .match .keys5) (cc)
+returns-5 c = rw (c .before .before .before .match .keys5) (by-kind _ _ _ _ (c .allows5 .ensures) (c .before .kind-of5 .ensures))
 
 returns-6 : tie.Need-returns-6
 unfolding kindAt kindLines
-returns-6 c = rw (c .before .before .before .match .keys6) (cc)
+returns-6 c = rw (c .before .before .before .match .keys6) (by-kind _ _ _ _ (c .allows6 .ensures) (c .before .kind-of6 .ensures))
 
 returns-7 : tie.Need-returns-7
 unfolding kindAt kindLines
-returns-7 c = rw (c .before .before .before .match .keys7) (cc)
+returns-7 c = rw (c .before .before .before .match .keys7) (by-kind _ _ _ _ (c .allows7 .ensures) (c .before .kind-of7 .ensures))
 
 returns-8 : tie.Need-returns-8
 unfolding kindAt kindLines
-returns-8 c = rw (c .before .before .before .match .keys8) (cc)
+returns-8 c = rw (c .before .before .before .match .keys8) (by-kind _ _ _ _ (c .allows8 .ensures) (c .before .kind-of8 .ensures))
 
 returns-9 : tie.Need-returns-9
 unfolding kindAt kindLines
-returns-9 c = rw (c .before .before .before .match .keys9) (cc)
+returns-9 c = rw (c .before .before .before .match .keys9) (by-kind _ _ _ _ (c .allows9 .ensures) (c .before .kind-of9 .ensures))
 
 returns-10 : tie.Need-returns-10
 unfolding kindAt kindLines
-returns-10 c = rw (c .before .before .before .match .keys10) (cc)
+returns-10 c = rw (c .before .before .before .match .keys10) (by-kind _ _ _ _ (c .allows10 .ensures) (c .before .kind-of10 .ensures))
 
 returns-11 : tie.Need-returns-11
 unfolding kindLines
-returns-11 c = cc (kind-none _ (missed _ 0 10 (c .before .before .before .match .rest)))
+returns-11 c =
+    by-kind _ _ _ _ (c .allows11 .ensures)
+    (c .before .kind-of11 .ensures ∙ kind-none _ (missed _ 0 10 (c .before .before .before .match .rest)))
 
 pub allows-at-spec : {M : Type 1} → statement M
 allows-at-spec =
