@@ -6,7 +6,7 @@ use mathlib.Core.Path.{_≡_, refl}
 use mathlib.Core.List.{List, [], _∷_, map}
 use Rattle.groups.specs.Answer.{Answer, given, refused}
 use Rattle.frame.specs.Choice.{pick}
-use Rattle.groups.specs.Format.{kindsFor, values, allowed, groupFrom, allFiller}
+use Rattle.groups.specs.Format.{values, allowed, groupFrom, allFiller}
 use Rattle.groups.specs.Reading.{judged, readRow, readBy, readOf}
 use Rattle.groups.specs.Table.{kindLines, groupLines, kindAt, findIn, findOf}
 use Rattle.groups.specs.declared.Group.{Group}
@@ -66,5 +66,5 @@ cases =
     ∷ []
 
 pub read-as-worked : map (λ (c : List ℕ × List ℕ). flat (readOf (c .0))) cases ≡ map (λ (c : List ℕ × List ℕ). c .1) cases
-unfolding readOf readBy readRow judged findOf findIn groupLines kindLines kindsFor kindAt allowed groupFrom allFiller pick
+unfolding readOf readBy readRow judged findOf findIn groupLines kindLines kindAt allowed groupFrom allFiller pick
 read-as-worked = refl

@@ -12,40 +12,35 @@ use lib.ListN.{length, getD, drop, set, replicate, length-append, length-drop, d
 use lib.Seq.{sets, sets-eq, drop-cons, drop-drop, getD-drop, take-append-seam, drop-append-add}
 use Rattle.groups.specs.Answer.{Answer, given, refused, toldFinding}
 use Rattle.frame.specs.Choice.{pick}
-use Rattle.groups.specs.Format.{sizeOf, sizesOf, valueOf, bytesOf, fieldsOf, groupOf, groupFrom, bytesFor, kindsFor, kindsOf, listed, values, allAllowed, allFiller}
+use Rattle.groups.specs.Format.{sizeOf, sizesOf, valueOf, bytesOf, fieldsOf, groupOf, groupFrom, bytesFor, kindsOf, values, allAllowed, allFiller}
 use Rattle.groups.specs.Reading.{judged, readRow, readBy, readOf}
-use Rattle.groups.specs.Table.{kindLines, kindFrom, noField, kindAt, rowFrom, findIn, findOf}
+use Rattle.groups.specs.Table.{kindLines, kindFrom, noField, kindAt, findOf}
 use Rattle.groups.specs.Writing.{Outcome, outcome, writeRow, writeBy, writeOf}
 use Rattle.groups.specs.declared.Finding.{Finding}
 use Rattle.groups.specs.declared.Finding.the-variants as findings
 use Rattle.groups.specs.declared.Group.{Group}
-use Rattle.groups.specs.declared.GroupLine.{GroupLine}
 use Rattle.groups.specs.declared.Kind.{Kind}
-use Rattle.groups.specs.declared.Kinds.{Kinds}
 use Rattle.groups.specs.declared.Row.{Row}
 use Rattle.groups.specs.declared.Width.{Width}
 use Rattle.groups.specs.declared.Width.the-variants.{None, Byte, Word}
 
--- Looking for a code from line i on: it is found there, or further on, or not at all.
-module _ (code : ℕ) (lines : List GroupLine) (i : ℕ) where
-  pub find-here : (d : GroupLine) → i < length lines → getD lines i d .0 ≡ code
-      → given (rowFrom (getD lines i d)) ≡ findIn code (drop i lines)
-  unfolding findIn pick
-  find-here d h e = rw (drop-cons lines i d h, eq-eqb _ _ e)
+-- A number that is none of the n after a first one: past the first it is past the last. So is what a match on them leaves.
+abbrev pub Missed : ℕ → ℕ → ℕ → Type 0
+Missed x first zero = Unit
+Missed x first (suc n) = Missed x first n × (x ≡ first + suc n → ⊥)
 
-  pub find-on : (d : GroupLine) → i < length lines → (getD lines i d .0 ≡ code → ⊥)
-      → findIn code (drop i lines) ≡ findIn code (drop (i + 1) lines)
-  unfolding findIn pick
-  find-on d h e = rw (add-one, drop-cons lines i d h, ne-eqb _ _ e)
+pub missed : (x first n : ℕ) → Missed x first n → first < x → first + n < x
+missed x first zero none past = omega arith
+missed x first (suc n) none past =
+    let far : first + n < x = missed x first n (none .0) past in
+    let other : x ≡ first + suc n → ⊥ = none .1 in
+    omega arith
 
-  pub find-ends : length lines ≤ i → refused 9 ≡ findIn code (drop i lines)
-  unfolding findIn
-  find-ends h = rw (drop-of-length-le lines h)
-
--- Past the table of kinds there is no field.
-pub kind-past : (place : ℕ) → length kindLines ≤ place → kindFrom noField ≡ kindAt place
-unfolding kindAt
-kind-past place h = rw (List·getD-eq-default kindLines noField h)
+-- At place 0 and past the table of kinds there is no field.
+pub kind-none : (place : ℕ) → (0 < place → length kindLines ≤ place) → kindFrom noField ≡ kindAt place
+unfolding kindAt kindLines
+kind-none zero past = refl
+kind-none (suc i) past = rw (List·getD-eq-default kindLines noField (past (omega arith)))
 
 -- Judging filler from place i on: it goes on past 0xFF, stops at another byte, and passes at the end.
 module _ (s : List ℕ) (i : ℕ) where
@@ -70,12 +65,12 @@ pub value-word : (w : Width) (s : List ℕ) (at a b : ℕ) → w ≡ Word → a 
 value-word w s at a b e h k = rw (e, getD-drop at s 0 0, getD-drop at s 1 0, add-zero, h, k)
 
 -- Four fields one after the other, each at the place where the one before it ends.
-pub group-whole : (code : ℕ) (x : Kinds) (s : List ℕ) (n m l a b c d : ℕ) → n ≡ sizeOf (x .first .width)
-    → m ≡ sizeOf (x .second .width) → l ≡ sizeOf (x .third .width) → a ≡ valueOf (x .first .width) (drop 1 s)
-    → b ≡ valueOf (x .second .width) (drop (1 + n) s) → c ≡ valueOf (x .third .width) (drop (1 + n + m) s)
-    → d ≡ valueOf (x .fourth .width) (drop (1 + n + m + l) s) → groupOf code (a ∷ b ∷ c ∷ d ∷ []) ≡ groupFrom code (listed x) s
+pub group-whole : (code : ℕ) (x : Row) (s : List ℕ) (p q r t : Width) (n m l a b c d : ℕ) → p ≡ kindAt (x .first) .width
+    → q ≡ kindAt (x .second) .width → r ≡ kindAt (x .third) .width → t ≡ kindAt (x .fourth) .width → n ≡ sizeOf p → m ≡ sizeOf q
+    → l ≡ sizeOf r → a ≡ valueOf p (drop 1 s) → b ≡ valueOf q (drop (1 + n) s) → c ≡ valueOf r (drop (1 + n + m) s)
+    → d ≡ valueOf t (drop (1 + n + m + l) s) → groupOf code (a ∷ b ∷ c ∷ d ∷ []) ≡ groupFrom code (kindsOf x) s
 unfolding groupFrom
-group-whole code x s n m l a b c d e f g ha hb hc hd =
+group-whole code x s p q r t n m l a b c d ep eq er et e f g ha hb hc hd =
     let sb : drop (1 + n) s ≡ drop n (drop 1 s) = sym (drop-drop n 1 s) in
     let sc : drop (1 + n + m) s ≡ drop m (drop (1 + n) s) = sym (drop-drop m (1 + n) s) in
     let sd : drop (1 + n + m + l) s ≡ drop l (drop (1 + n + m) s) = sym (drop-drop l (1 + n + m) s) in
@@ -120,22 +115,21 @@ drop-replicate (suc n) zero a = rw zero-sub
 drop-replicate (suc n) (suc m) a = rw suc-sub-suc (drop-replicate n m a)
 
 -- The code and four fields, stored over eight bytes of filler, are the group's bytes.
-pub store-whole : (code : ℕ) (x : Kinds) (a b c d n m l size : ℕ) (filled headed one two three four : List ℕ)
-    → four ≡ sets three (1 + n + m + l) (bytesOf (x .fourth .width) d)
-    → three ≡ sets two (1 + n + m) (bytesOf (x .third .width) c)
-    → two ≡ sets one (1 + n) (bytesOf (x .second .width) b)
-    → one ≡ sets headed 1 (bytesOf (x .first .width) a) → headed ≡ set filled 0 code → filled ≡ replicate size 255
-    → size ≡ 8 → sizesOf (listed x) ≤ 7 → n ≡ sizeOf (x .first .width) → m ≡ sizeOf (x .second .width)
-    → l ≡ sizeOf (x .third .width) → four ≡ bytesFor code (listed x) (a ∷ b ∷ c ∷ d ∷ [])
+pub store-whole : (code : ℕ) (x : Row) (p q r t : Width) (a b c d n m l size : ℕ) (filled headed one two three four : List ℕ)
+    → four ≡ sets three (1 + n + m + l) (bytesOf t d) → three ≡ sets two (1 + n + m) (bytesOf r c)
+    → two ≡ sets one (1 + n) (bytesOf q b) → one ≡ sets headed 1 (bytesOf p a) → headed ≡ set filled 0 code
+    → filled ≡ replicate size 255 → size ≡ 8 → sizesOf (kindsOf x) ≤ 7 → n ≡ sizeOf p → m ≡ sizeOf q → l ≡ sizeOf r
+    → p ≡ kindAt (x .first) .width → q ≡ kindAt (x .second) .width → r ≡ kindAt (x .third) .width → t ≡ kindAt (x .fourth) .width
+    → four ≡ bytesFor code (kindsOf x) (a ∷ b ∷ c ∷ d ∷ [])
 unfolding bytesFor
-store-whole code x a b c d n m l size filled headed one two three four h5 h4 h3 h2 h1 h0 eight fit e f g =
+store-whole code x p q r t a b c d n m l size filled headed one two three four h5 h4 h3 h2 h1 h0 eight fit e f g ep eq er et =
     let start : headed ≡ code ∷ replicate 7 255 =
     h1 ∙ ap (λ (l : List ℕ). set l 0 code) (h0 ∙ ap (λ (n : ℕ). replicate n 255) eight) in
-    let all : four ≡ storeAll (listed x) (a ∷ b ∷ c ∷ d ∷ []) 1 (code ∷ replicate 7 255) =
-    rw (h5, h4, h3, h2, start, g, f, e) in
+    let all : four ≡ storeAll (kindsOf x) (a ∷ b ∷ c ∷ d ∷ []) 1 (code ∷ replicate 7 255) =
+    rw (h5, h4, h3, h2, start, g, f, e, ep, eq, er, et) in
     all
-    ∙ store-all (listed x) (a ∷ b ∷ c ∷ d ∷ []) (code ∷ []) (replicate 7 255) refl fit
-    ∙ rw (drop-replicate (sizesOf (listed x)) 7 255)
+    ∙ store-all (kindsOf x) (a ∷ b ∷ c ∷ d ∷ []) (code ∷ []) (replicate 7 255) refl fit
+    ∙ rw (drop-replicate (sizesOf (kindsOf x)) 7 255)
 
 -- Filling goes byte by byte and ends at the length.
 pub fill-ends : (s t : List ℕ) (i : ℕ) → i ≤ length s → length s ≤ i → t ≡ replicate i 255 ++ drop i s
@@ -175,15 +169,14 @@ module _ (s : List ℕ) where
     unfolding readRow pick
     read-unfilled h = rw (← f, h)
 
-    module _ (y : Kinds) (g : Group) (fine : Bool) (ey : y ≡ kindsFor x) (eg : g ≡ groupFrom code (listed y) s)
-        (ef : fine ≡ allAllowed (listed y) (values g)) where
+    module _ (g : Group) (fine : Bool) (eg : g ≡ groupFrom code (kindsOf x) s) (ef : fine ≡ allAllowed (kindsOf x) (values g)) where
       pub read-fine : filler ≡ true → fine ≡ true → given g ≡ readRow s code x
       unfolding readRow judged pick
-      read-fine h k = rw (← f, h, ← ey, ← eg, ← ef, k)
+      read-fine h k = rw (← f, h, ← eg, ← ef, k)
 
       pub read-value : filler ≡ true → fine ≡ false → refused 10 ≡ readRow s code x
       unfolding readRow judged pick
-      read-value h k = rw (← f, h, ← ey, ← eg, ← ef, k)
+      read-value h k = rw (← f, h, ← eg, ← ef, k)
 
 -- And so does writing, by the length, the code's row and the values.
 module _ (g : Group) (s : List ℕ) where
@@ -201,20 +194,16 @@ module _ (g : Group) (s : List ℕ) where
   unfolding writeOf writeBy pick
   write-unknown r n eight e f = rw (eq-eqb _ _ eight, ← f, e)
 
-  module _ (x : Row) (y : Kinds) (fine : Bool) (ey : y ≡ kindsFor x) (ef : fine ≡ allAllowed (listed y) (values g)) where
-    pub write-fine : (t : List ℕ) → fine ≡ true → t ≡ bytesFor (g .code) (listed y) (values g)
+  module _ (x : Row) (fine : Bool) (ef : fine ≡ allAllowed (kindsOf x) (values g)) where
+    pub write-fine : (t : List ℕ) → fine ≡ true → t ≡ bytesFor (g .code) (kindsOf x) (values g)
         → outcome (given tt) t ≡ writeRow g s x
     unfolding writeRow pick
-    write-fine t k h = rw (← ey, ← ef, k, h)
+    write-fine t k h = rw (← ef, k, h)
 
     pub write-value : fine ≡ false → outcome (refused 10) s ≡ writeRow g s x
     unfolding writeRow pick
-    write-value k = rw (← ey, ← ef, k)
-
--- The kinds of a row that was found have at most seven bytes, those that were asked for too.
-pub kinds-fit : (x : Row) (y : Kinds) → y ≡ kindsFor x → sizesOf (kindsOf x) ≤ 7 → sizesOf (listed y) ≤ 7
-kinds-fit x y e h = rw e h
+    write-value k = rw (← ef, k)
 
 pub ruleset reading = (read-length, read-known, read-unknown, read-unfilled, read-fine, read-value)
 
-pub ruleset writing = (write-length, write-known, write-unknown, write-fine, write-value, kinds-fit)
+pub ruleset writing = (write-length, write-known, write-unknown, write-fine, write-value)

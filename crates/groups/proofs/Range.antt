@@ -12,7 +12,7 @@ use lib.Dec.{eqb, leb}
 use lib.ListN.{length, getD, drop}
 use Rattle.groups.specs.Answer.{Answer, given, refused}
 use Rattle.frame.specs.Choice.{pick}
-use Rattle.groups.specs.Format.{kindsFor, kindsOf, values, allowed, allAllowed, groupFrom, bytesFor, allFiller}
+use Rattle.groups.specs.Format.{kindsOf, values, allowed, allAllowed, groupFrom, bytesFor, allFiller}
 use Rattle.groups.specs.Reading.{judged, readRow, readBy, readOf}
 use Rattle.groups.specs.Table.{kindLines, groupLines, rowFrom, kindAt, findOf}
 use Rattle.groups.specs.Writing.{Outcome, outcome, writeRow, writeBy, writeOf}
@@ -126,7 +126,7 @@ abbrev missingTest : Row → Bool
 missingTest x = Bool·beq (anyMarked (kindsOf x)) (eqb (x .code) 0x77)
 
 missing-tested : every (λ l. missingTest (rowFrom l)) groupLines ≡ true
-unfolding groupLines kindLines kindsFor kindAt allowed
+unfolding groupLines kindLines kindAt allowed
 missing-tested = refl
 
 same : (a b : Bool) → Bool·beq a b ≡ true → a ≡ b

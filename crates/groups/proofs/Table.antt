@@ -6,12 +6,13 @@ use mathlib.Core.Path.{_≡_, refl, sym, ap, _∙_}
 use mathlib.Core.Bool.{Bool, true, false, _&&_, _||_, and-eq-true-iff}
 use mathlib.Core.List.{List, [], _∷_}
 use native.Mathlib.Omega.{arith}
-use borrow.Author.Tests.{ltb-true, leb-true, eqb-true}
+use borrow.Author.Tests.{ltb-true, leb-true, eqb-true, ne-eqb}
 use lib.Dec.{eqb, leb, ltb}
 use lib.ListN.{getD}
-use Rattle.groups.specs.Answer.{given, toldFinding}
+use Rattle.groups.specs.Answer.{given, refused, toldFinding}
 use Rattle.frame.specs.Choice.{pick}
-use Rattle.groups.specs.Format.{sizesOf, kindsFor, kindsOf, allowed, allAllowed}
+use Rattle.frame.proofs.Choice.{pick-false}
+use Rattle.groups.specs.Format.{sizesOf, kindsOf, allowed, allAllowed}
 use Rattle.groups.specs.Table.{kindLines, groupLines, kindFrom, rowFrom, noField, kindAt, findIn, findOf}
 use Rattle.groups.specs.declared.Finding.{Finding}
 use Rattle.groups.specs.declared.Finding.the-variants as findings
@@ -53,12 +54,29 @@ module _ (test : Row → Bool) (code : ℕ) (x : Row) where
       let both = and-eq-true-iff (test (rowFrom l)) (every (λ l. test (rowFrom l)) rest) .0 h in
       at-line l rest (eqb (l .0) code) refl (both .0) (at-code rest (both .1)) e
 
+-- The codes go from 0x71 to 0x79, and no other code is found.
+find-none-in : (code first last : ℕ) → (first < code → last < code) → (lines : List GroupLine)
+    → every (λ l. ltb first (l .0) && leb (l .0) last) lines ≡ true → refused 9 ≡ findIn code lines
+unfolding findIn
+find-none-in code first last out [] h = refl
+find-none-in code first last out (l ∷ rest) h =
+    let both = and-eq-true-iff (ltb first (l .0) && leb (l .0) last) (every (λ l. ltb first (l .0) && leb (l .0) last) rest) .0 h in
+    let ends = and-eq-true-iff (ltb first (l .0)) (leb (l .0) last) .0 (both .0) in
+    let low : first < l .0 = ltb-true _ _ (ends .0) in
+    let high : l .0 ≤ last = leb-true _ _ (ends .1) in
+    let other : l .0 ≡ code → ⊥ = λ e. (let far : last < code = out (omega arith) in omega arith) in
+    pick-false _ (ne-eqb _ _ other) (find-none-in code first last out rest (both .1))
+
+pub find-none : (code : ℕ) → (0x70 < code → 0x79 < code) → refused 9 ≡ findOf code
+unfolding findOf groupLines
+find-none code out = find-none-in code 0x70 0x79 out groupLines refl
+
 -- The fields of a row and its code fill its length, which is at most eight.
 abbrev rowFits : Row → Bool
 rowFits x = eqb (1 + sizesOf (kindsOf x)) (x .length) && leb (x .length) 8
 
 rows-fit : every (λ l. rowFits (rowFrom l)) groupLines ≡ true
-unfolding groupLines kindLines kindsFor kindAt
+unfolding groupLines kindLines kindAt
 rows-fit = refl
 
 pub record Known (code : ℕ) (x : Row) : Type 0 where
@@ -135,6 +153,5 @@ unfolding kindAt
 at-kind place = at-place (λ l. kindFits (kindFrom l)) kindLines noField kinds-fit refl place
 
 pub all-fit : (x : Row) (vs : List ℕ) → allAllowed (kindsOf x) vs ≡ true → Fit (kindsOf x) vs
-unfolding kindsFor
 all-fit x vs a =
     fit-all (kindsOf x) vs (simp (at-kind (x .first), at-kind (x .second), at-kind (x .third), at-kind (x .fourth))) a

@@ -4,25 +4,17 @@ use Prim.Native.Nat.{ℕ, _+_, _-_, _*_, _/_, _%_}
 use mathlib.Core.Bool.{Bool, true, _&&_, _||_}
 use mathlib.Core.List.{List, [], _∷_, _++_}
 use lib.Dec.{eqb, leb}
-use lib.ListN.{length, getD, drop, replicate}
+use lib.ListN.{getD, drop, replicate}
 use Rattle.groups.specs.Table.{kindAt}
 use Rattle.groups.specs.declared.Group.{Group}
 use Rattle.groups.specs.declared.Kind.{Kind}
-use Rattle.groups.specs.declared.Kinds.{Kinds}
 use Rattle.groups.specs.declared.Row.{Row}
 use Rattle.groups.specs.declared.Width.{Width}
 use Rattle.groups.specs.declared.Width.the-variants.{None, Byte, Word}
 
 -- the kinds of a row's four places, and a group's four values, as lists
-unfoldable pub kindsFor : Row → Kinds
-kindsFor x =
-    record { first = kindAt (x .first); second = kindAt (x .second); third = kindAt (x .third); fourth = kindAt (x .fourth) }
-
-abbrev pub listed : Kinds → List Kind
-listed x = x .first ∷ x .second ∷ x .third ∷ x .fourth ∷ []
-
 abbrev pub kindsOf : Row → List Kind
-kindsOf x = listed (kindsFor x)
+kindsOf x = kindAt (x .first) ∷ kindAt (x .second) ∷ kindAt (x .third) ∷ kindAt (x .fourth) ∷ []
 
 abbrev pub values : Group → List ℕ
 values x = x .first ∷ x .second ∷ x .third ∷ x .fourth ∷ []

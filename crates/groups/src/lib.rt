@@ -3,7 +3,7 @@ ghost use mathlib.Core.Path.{_≡_};
 ghost use Prim.Native.Nat.{_≤_};
 ghost use Rattle.groups.specs.Answer.{toldFinding};
 ghost use Rattle.groups.specs.Table.{kindFrom, rowFrom, kindAt, findOf};
-ghost use Rattle.groups.specs.Format.{sizeOf, kindsFor, allowed, listed, values, allAllowed};
+ghost use Rattle.groups.specs.Format.{sizeOf, kindsOf, allowed, values, allAllowed};
 
 pub mod read;
 pub mod write;
@@ -69,14 +69,6 @@ pub enum Reading {
 pub enum Writing {
     Done,
     Refused(u8),
-}
-
-// The kinds of a row's fields.
-struct Kinds {
-    first: Kind,
-    second: Kind,
-    third: Kind,
-    fourth: Kind,
 }
 
 // A line of each table: a kind's width, low, high and marks; a group's code, length, sender, reliability and fields.
@@ -174,54 +166,36 @@ fn row_of(line: GroupLine) -> Row
     }
 }
 
-// The row of a code, or refusal 9.
+// A line's width.
+fn width_of(line: KindLine) -> Width
+    ensures { λ r. ⌜ r ≡ line .0 ⌝ }
+{
+    line.0
+}
+
+// The row of a code, or refusal 9. Each line is taken at a constant place, as below, so that no table is copied.
 pub fn find(code: u8) -> Finding
     ensures { λ r. ⌜ toldFinding r ≡ findOf code ⌝ }
 {
     let groups = GROUPS;
-    let mut i = 0;
-    while i < groups.len() {
-        let line = groups[i];
-        if line.0 == code {
-            return Finding::Row(row_of(line));
-        }
-        i += 1;
-    }
-    Finding::Refused(9)
-}
-
-// The kind at a place, none past the table's end.
-fn kind_at(place: usize) -> Kind
-    ensures { λ r. ⌜ r ≡ kindAt place ⌝ }
-{
-    let kinds = KINDS;
-    if place < kinds.len() {
-        kind_of(kinds[place])
-    } else {
-        kind_of(kinds[NONE])
+    match code {
+        0x71 => Finding::Row(row_of(groups[0])),
+        0x72 => Finding::Row(row_of(groups[1])),
+        0x73 => Finding::Row(row_of(groups[2])),
+        0x74 => Finding::Row(row_of(groups[3])),
+        0x75 => Finding::Row(row_of(groups[4])),
+        0x76 => Finding::Row(row_of(groups[5])),
+        0x77 => Finding::Row(row_of(groups[6])),
+        0x78 => Finding::Row(row_of(groups[7])),
+        0x79 => Finding::Row(row_of(groups[8])),
+        _ => Finding::Refused(9),
     }
 }
 
-fn kinds_of(row: Row) -> Kinds
-    ensures { λ r. ⌜ r ≡ kindsFor row ⌝ }
+// How many bytes a field of a width has.
+fn size(width: Width) -> usize
+    ensures { λ r. ⌜ (r ≡ sizeOf width) × (r ≤ 2) ⌝ }
 {
-    let first = kind_at(row.first);
-    let second = kind_at(row.second);
-    let third = kind_at(row.third);
-    let fourth = kind_at(row.fourth);
-    Kinds {
-        first,
-        second,
-        third,
-        fourth,
-    }
-}
-
-// How many bytes a field of a kind has.
-fn size(kind: Kind) -> usize
-    ensures { λ r. ⌜ (r ≡ sizeOf (kind .width)) × (r ≤ 2) ⌝ }
-{
-    let width = kind.width;
     match width {
         Width::None => 0,
         Width::Byte => 1,
@@ -237,13 +211,53 @@ fn allows(kind: Kind, value: u16) -> bool
     inside | (value == kind.mark) | (value == kind.other)
 }
 
-// The kinds of a group's fields allow its values.
-fn all_allowed(kinds: Kinds, group: Group) -> bool
-    ensures { λ r. ⌜ r ≡ allAllowed (listed kinds) (values group) ⌝ }
+// The width of the kind at a place, none past the table's end.
+fn width_at(place: usize) -> Width
+    ensures { λ r. ⌜ r ≡ kindAt place .width ⌝ }
 {
-    let first = allows(kinds.first, group.first);
-    let second = allows(kinds.second, group.second);
-    let third = allows(kinds.third, group.third);
-    let fourth = allows(kinds.fourth, group.fourth);
+    let kinds = KINDS;
+    match place {
+        READY => width_of(kinds[READY]),
+        VOLTAGE => width_of(kinds[VOLTAGE]),
+        CURRENT => width_of(kinds[CURRENT]),
+        MODE => width_of(kinds[MODE]),
+        CHARGE => width_of(kinds[CHARGE]),
+        MINUTES => width_of(kinds[MINUTES]),
+        REASON => width_of(kinds[REASON]),
+        CELL => width_of(kinds[CELL]),
+        HEAT => width_of(kinds[HEAT]),
+        PAUSE => width_of(kinds[PAUSE]),
+        _ => width_of(kinds[NONE]),
+    }
+}
+
+// The kind at a place allows a value.
+fn allows_at(place: usize, value: u16) -> bool
+    ensures { λ r. ⌜ r ≡ allowed (kindAt place) value ⌝ }
+{
+    let kinds = KINDS;
+    match place {
+        READY => allows(kind_of(kinds[READY]), value),
+        VOLTAGE => allows(kind_of(kinds[VOLTAGE]), value),
+        CURRENT => allows(kind_of(kinds[CURRENT]), value),
+        MODE => allows(kind_of(kinds[MODE]), value),
+        CHARGE => allows(kind_of(kinds[CHARGE]), value),
+        MINUTES => allows(kind_of(kinds[MINUTES]), value),
+        REASON => allows(kind_of(kinds[REASON]), value),
+        CELL => allows(kind_of(kinds[CELL]), value),
+        HEAT => allows(kind_of(kinds[HEAT]), value),
+        PAUSE => allows(kind_of(kinds[PAUSE]), value),
+        _ => allows(kind_of(kinds[NONE]), value),
+    }
+}
+
+// The kinds of a row's fields allow a group's values.
+fn all_allowed(row: Row, group: Group) -> bool
+    ensures { λ r. ⌜ r ≡ allAllowed (kindsOf row) (values group) ⌝ }
+{
+    let first = allows_at(row.first, group.first);
+    let second = allows_at(row.second, group.second);
+    let third = allows_at(row.third, group.third);
+    let fourth = allows_at(row.fourth, group.fourth);
     first & (second & (third & fourth))
 }

@@ -3,20 +3,18 @@ ghost use mathlib.Core.Path.{_≡_};
 ghost use Prim.Native.Nat.{_≤_};
 ghost use lib.ListN.{getD, drop};
 ghost use Rattle.groups.specs.Answer.{toldReading};
-ghost use Rattle.groups.specs.Format.{valueOf, groupFrom, listed, allFiller};
+ghost use Rattle.groups.specs.Format.{kindsOf, valueOf, groupFrom, allFiller};
 ghost use Rattle.groups.specs.Reading.{readRow, readOf};
 use crate::FILLER;
 use crate::Finding;
 use crate::Group;
-use crate::Kind;
-use crate::Kinds;
 use crate::Reading;
 use crate::Row;
 use crate::Width;
 use crate::all_allowed;
 use crate::find;
-use crate::kinds_of;
 use crate::size;
+use crate::width_at;
 
 // The byte at a place, 0 past the end.
 fn byte_at(bytes: &[u8], at: usize) -> u16
@@ -30,11 +28,10 @@ fn byte_at(bytes: &[u8], at: usize) -> u16
 }
 
 // The value of a field that starts at a place.
-fn value_at(bytes: &[u8], at: usize, kind: Kind) -> u16
+fn value_at(bytes: &[u8], at: usize, width: Width) -> u16
     requires { ⌜ at ≤ 7 ⌝ }
-    ensures { λ r. ⌜ r ≡ valueOf (kind .width) (drop at (now (bytes .entry))) ⌝ }
+    ensures { λ r. ⌜ r ≡ valueOf width (drop at (now (bytes .entry))) ⌝ }
 {
-    let width = kind.width;
     match width {
         Width::None => 0,
         Width::Byte => byte_at(bytes, at),
@@ -43,16 +40,20 @@ fn value_at(bytes: &[u8], at: usize, kind: Kind) -> u16
 }
 
 // The code and the fields, one after the other from place 1 on.
-fn group_at(bytes: &[u8], code: u8, kinds: Kinds) -> Group
-    ensures { λ r. ⌜ r ≡ groupFrom code (listed kinds) (now (bytes .entry)) ⌝ }
+fn group_at(bytes: &[u8], code: u8, row: Row) -> Group
+    ensures { λ r. ⌜ r ≡ groupFrom code (kindsOf row) (now (bytes .entry)) ⌝ }
 {
-    let at = 1 + size(kinds.first);
-    let next = at + size(kinds.second);
-    let last = next + size(kinds.third);
-    let first = value_at(bytes, 1, kinds.first);
-    let second = value_at(bytes, at, kinds.second);
-    let third = value_at(bytes, next, kinds.third);
-    let fourth = value_at(bytes, last, kinds.fourth);
+    let one = width_at(row.first);
+    let two = width_at(row.second);
+    let three = width_at(row.third);
+    let four = width_at(row.fourth);
+    let at = 1 + size(one);
+    let next = at + size(two);
+    let last = next + size(three);
+    let first = value_at(bytes, 1, one);
+    let second = value_at(bytes, at, two);
+    let third = value_at(bytes, next, three);
+    let fourth = value_at(bytes, last, four);
     Group {
         code,
         first,
@@ -82,9 +83,8 @@ fn read_row(bytes: &[u8], code: u8, row: Row) -> Reading
 {
     let length = row.length;
     if all_filler(bytes, length) {
-        let kinds = kinds_of(row);
-        let group = group_at(bytes, code, kinds);
-        if all_allowed(kinds, group) {
+        let group = group_at(bytes, code, row);
+        if all_allowed(row, group) {
             Reading::Group(group)
         } else {
             Reading::Refused(10)

@@ -4,20 +4,18 @@ ghost use Prim.Native.Nat.{_≤_};
 ghost use lib.ListN.{set, length, replicate};
 ghost use lib.Seq.{sets};
 ghost use Rattle.groups.specs.Answer.{toldWriting};
-ghost use Rattle.groups.specs.Format.{bytesOf, listed, values, sizesOf, kindsOf, bytesFor};
+ghost use Rattle.groups.specs.Format.{bytesOf, values, sizesOf, kindsOf, bytesFor};
 ghost use Rattle.groups.specs.Writing.{outcome, writeRow, writeOf};
 use crate::FILLER;
 use crate::Finding;
 use crate::Group;
-use crate::Kind;
-use crate::Kinds;
 use crate::Row;
 use crate::Width;
 use crate::Writing;
 use crate::all_allowed;
 use crate::find;
-use crate::kinds_of;
 use crate::size;
+use crate::width_at;
 
 // Every byte becomes filler.
 fn fill(bytes: &mut [u8])
@@ -40,11 +38,10 @@ fn put_byte(bytes: &mut [u8], at: usize, byte: u8)
 }
 
 // The bytes of a field that starts at a place.
-fn put(bytes: &mut [u8], at: usize, kind: Kind, value: u16)
+fn put(bytes: &mut [u8], at: usize, width: Width, value: u16)
     requires { ⌜ at ≤ 7 ⌝ }
-    ensures { λ r. ⌜ now (bytes .exit) ≡ sets (now (bytes .entry)) at (bytesOf (kind .width) value) ⌝ }
+    ensures { λ r. ⌜ now (bytes .exit) ≡ sets (now (bytes .entry)) at (bytesOf width value) ⌝ }
 {
-    let width = kind.width;
     let low = (value % 256) as u8;
     let high = (value / 256) as u8;
     match width {
@@ -58,19 +55,23 @@ fn put(bytes: &mut [u8], at: usize, kind: Kind, value: u16)
 }
 
 // The code and the fields, one after the other, and filler after them.
-fn store(bytes: &mut [u8], group: Group, kinds: Kinds)
-    requires { ⌜ (length (now bytes) ≡ 8) × (sizesOf (listed kinds) ≤ 7) ⌝ }
-    ensures { λ r. ⌜ now (bytes .exit) ≡ bytesFor (group .code) (listed kinds) (values group) ⌝ }
+fn store(bytes: &mut [u8], group: Group, row: Row)
+    requires { ⌜ (length (now bytes) ≡ 8) × (sizesOf (kindsOf row) ≤ 7) ⌝ }
+    ensures { λ r. ⌜ now (bytes .exit) ≡ bytesFor (group .code) (kindsOf row) (values group) ⌝ }
 {
-    let at = 1 + size(kinds.first);
-    let next = at + size(kinds.second);
-    let last = next + size(kinds.third);
+    let one = width_at(row.first);
+    let two = width_at(row.second);
+    let three = width_at(row.third);
+    let four = width_at(row.fourth);
+    let at = 1 + size(one);
+    let next = at + size(two);
+    let last = next + size(three);
     fill(bytes);
     put_byte(bytes, 0, group.code);
-    put(bytes, 1, kinds.first, group.first);
-    put(bytes, at, kinds.second, group.second);
-    put(bytes, next, kinds.third, group.third);
-    put(bytes, last, kinds.fourth, group.fourth);
+    put(bytes, 1, one, group.first);
+    put(bytes, at, two, group.second);
+    put(bytes, next, three, group.third);
+    put(bytes, last, four, group.fourth);
 }
 
 // A group of a row: refusal 10 for a value.
@@ -78,9 +79,8 @@ fn write_row(bytes: &mut [u8], group: Group, row: Row) -> Writing
     requires { ⌜ (length (now bytes) ≡ 8) × (sizesOf (kindsOf row) ≤ 7) ⌝ }
     ensures { λ r. ⌜ outcome (toldWriting r) (now (bytes .exit)) ≡ writeRow group (now (bytes .entry)) row ⌝ }
 {
-    let kinds = kinds_of(row);
-    if all_allowed(kinds, group) {
-        store(bytes, group, kinds);
+    if all_allowed(row, group) {
+        store(bytes, group, row);
         Writing::Done
     } else {
         Writing::Refused(10)

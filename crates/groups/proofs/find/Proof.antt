@@ -1,81 +1,136 @@
--- `groups::find` meets its contract. The code's table is the definition's. The invariant: looking through the whole table finds what
--- looking from line i on finds. The measure is what is left of the table.
+-- `groups::find` meets its contract. In each arm the code is a number at which the definition computes the line of the code's table;
+-- in the last it is in no line.
 -- Assumes nothing.
-use Prim.Native.Nat.{_-_}
-use mathlib.Core.Path.{_≡_, refl, _∙_, sym, ap}
 use borrow.Author.Needs.{needs}
-use mathlib.Core.Bool.{false}
-use lib.ListN.{length, drop}
+use Rattle.frame.specs.Choice.{pick}
 use Rattle.groups.specs.Table.{groupLines, findIn, findOf}
-use Rattle.groups.specs.Answer.{given}
-use Rattle.groups.specs.declared.GroupLine.{GroupLine}
-use Rattle.groups.specs.declared.Sender.the-variants.{Charger}
-use Rattle.groups.proofs.Laws.{find-here, find-on, find-ends}
+use Rattle.groups.proofs.Laws.{missed}
+use Rattle.groups.proofs.Table.{find-none}
 use Rattle.groups.proofs.find.Statement.{statement}
 use Rattle.groups.proofs.find.Tie as tie
 
--- what an array of lines is taken to hold past its end, where nothing reads
-abbrev blank : GroupLine
-blank = (0, 0, Charger, false, 0, 0, 0, 0)
+array-copy-out-row-of : tie.Need-array-copy-out-row-of
+array-copy-out-row-of c = search needs
 
-abbrev Inv-loop : tie.InvT-loop
-Inv-loop code groups i₀ i = findOf code ≡ findIn code (drop i groupLines)
-
-abbrev μ-loop : tie.MeasureT-loop
-μ-loop code groups i₀ i = length groupLines - i
-
-loop-holds : tie.Need-loop-holds Inv-loop μ-loop
-unfolding findOf
-loop-holds c = refl
-
-mul-line : tie.Need-mul-line Inv-loop μ-loop
-unfolding groupLines
-mul-line c = search needs
-
-array-copy-out-line : tie.Need-array-copy-out-line Inv-loop μ-loop
-unfolding groupLines
-array-copy-out-line c = search needs
-
-row-of-requires : tie.Need-row-of-requires Inv-loop μ-loop
+row-of-requires : tie.Need-row-of-requires
 row-of-requires c κs = search needs
 
-returns : tie.Need-returns Inv-loop μ-loop
-unfolding groupLines
-returns c =
-    ap given (c .row-of .ensures)
-    ∙ find-here _ groupLines _ blank (c .before .before .before .before .loop-test .taken) (c .before .if1 .taken)
-    ∙ sym (c .before .before .before .before .before .loop .inv)
+array-copy-out-row-of-2 : tie.Need-array-copy-out-row-of-2
+array-copy-out-row-of-2 c = search needs
 
-add-i : tie.Need-add-i Inv-loop μ-loop
-unfolding groupLines
-add-i c = search needs
+row-of-requires-2 : tie.Need-row-of-requires-2
+row-of-requires-2 c κs = search needs
 
-loop-less : tie.Need-loop-less Inv-loop μ-loop
-unfolding groupLines
-loop-less c = search needs
+array-copy-out-row-of-3 : tie.Need-array-copy-out-row-of-3
+array-copy-out-row-of-3 c = search needs
 
-loop-again : tie.Need-loop-again Inv-loop μ-loop
-unfolding groupLines
-loop-again c =
-    c .before .before .before .before .loop .inv
-    ∙ find-on _ groupLines _ blank (c .before .before .before .loop-test .taken) (c .if1 .left)
+row-of-requires-3 : tie.Need-row-of-requires-3
+row-of-requires-3 c κs = search needs
 
-returns-2 : tie.Need-returns-2 Inv-loop μ-loop
-unfolding groupLines
-returns-2 c = find-ends _ groupLines _ (c .loop-test .left) ∙ sym (c .before .loop .inv)
+array-copy-out-row-of-4 : tie.Need-array-copy-out-row-of-4
+array-copy-out-row-of-4 c = search needs
+
+row-of-requires-4 : tie.Need-row-of-requires-4
+row-of-requires-4 c κs = search needs
+
+array-copy-out-row-of-5 : tie.Need-array-copy-out-row-of-5
+array-copy-out-row-of-5 c = search needs
+
+row-of-requires-5 : tie.Need-row-of-requires-5
+row-of-requires-5 c κs = search needs
+
+array-copy-out-row-of-6 : tie.Need-array-copy-out-row-of-6
+array-copy-out-row-of-6 c = search needs
+
+row-of-requires-6 : tie.Need-row-of-requires-6
+row-of-requires-6 c κs = search needs
+
+array-copy-out-row-of-7 : tie.Need-array-copy-out-row-of-7
+array-copy-out-row-of-7 c = search needs
+
+row-of-requires-7 : tie.Need-row-of-requires-7
+row-of-requires-7 c κs = search needs
+
+array-copy-out-row-of-8 : tie.Need-array-copy-out-row-of-8
+array-copy-out-row-of-8 c = search needs
+
+row-of-requires-8 : tie.Need-row-of-requires-8
+row-of-requires-8 c κs = search needs
+
+array-copy-out-row-of-9 : tie.Need-array-copy-out-row-of-9
+array-copy-out-row-of-9 c = search needs
+
+row-of-requires-9 : tie.Need-row-of-requires-9
+row-of-requires-9 c κs = search needs
+
+returns : tie.Need-returns
+unfolding findOf findIn groupLines pick
+returns c = rw (c .before .before .match .keys1, c .row-of .ensures)
+
+returns-2 : tie.Need-returns-2
+unfolding findOf findIn groupLines pick
+returns-2 c = rw (c .before .before .match .keys2, c .row-of2 .ensures)
+
+returns-3 : tie.Need-returns-3
+unfolding findOf findIn groupLines pick
+returns-3 c = rw (c .before .before .match .keys3, c .row-of3 .ensures)
+
+returns-4 : tie.Need-returns-4
+unfolding findOf findIn groupLines pick
+returns-4 c = rw (c .before .before .match .keys4, c .row-of4 .ensures)
+
+returns-5 : tie.Need-returns-5
+unfolding findOf findIn groupLines pick
+returns-5 c = rw (c .before .before .match .keys5, c .row-of5 .ensures)
+
+returns-6 : tie.Need-returns-6
+unfolding findOf findIn groupLines pick
+returns-6 c = rw (c .before .before .match .keys6, c .row-of6 .ensures)
+
+returns-7 : tie.Need-returns-7
+unfolding findOf findIn groupLines pick
+returns-7 c = rw (c .before .before .match .keys7, c .row-of7 .ensures)
+
+returns-8 : tie.Need-returns-8
+unfolding findOf findIn groupLines pick
+returns-8 c = rw (c .before .before .match .keys8, c .row-of8 .ensures)
+
+returns-9 : tie.Need-returns-9
+unfolding findOf findIn groupLines pick
+returns-9 c = rw (c .before .before .match .keys9, c .row-of9 .ensures)
+
+returns-10 : tie.Need-returns-10
+returns-10 c = find-none _ (missed _ 0x70 9 (c .match .rest))
 
 pub find-spec : {M : Type 1} → statement M
 find-spec =
     tie.close
     (tie.spec
-    Inv-loop
-    μ-loop
-    loop-holds
-    mul-line
-    array-copy-out-line
+    array-copy-out-row-of
     row-of-requires
+    array-copy-out-row-of-2
+    row-of-requires-2
+    array-copy-out-row-of-3
+    row-of-requires-3
+    array-copy-out-row-of-4
+    row-of-requires-4
+    array-copy-out-row-of-5
+    row-of-requires-5
+    array-copy-out-row-of-6
+    row-of-requires-6
+    array-copy-out-row-of-7
+    row-of-requires-7
+    array-copy-out-row-of-8
+    row-of-requires-8
+    array-copy-out-row-of-9
+    row-of-requires-9
     returns
-    add-i
-    loop-less
-    loop-again
-    returns-2)
+    returns-2
+    returns-3
+    returns-4
+    returns-5
+    returns-6
+    returns-7
+    returns-8
+    returns-9
+    returns-10)

@@ -5,6 +5,18 @@ use Rattle.groups.proofs.Laws.{group-whole}
 use Rattle.groups.proofs.read.group_at.Statement.{statement}
 use Rattle.groups.proofs.read.group_at.Tie as tie
 
+width-at-requires : tie.Need-width-at-requires
+width-at-requires c κs = search needs
+
+width-at-requires-2 : tie.Need-width-at-requires-2
+width-at-requires-2 c κs = search needs
+
+width-at-requires-3 : tie.Need-width-at-requires-3
+width-at-requires-3 c κs = search needs
+
+width-at-requires-4 : tie.Need-width-at-requires-4
+width-at-requires-4 c κs = search needs
+
 size-requires : tie.Need-size-requires
 size-requires c κs = search needs
 
@@ -42,6 +54,10 @@ pub group-at-spec : {M : Type 1} → statement M
 group-at-spec =
     tie.close
     (tie.spec
+    width-at-requires
+    width-at-requires-2
+    width-at-requires-3
+    width-at-requires-4
     size-requires
     add-at
     size-requires-2

@@ -8,9 +8,6 @@ use Rattle.groups.proofs.read.read_row.Tie as tie
 all-filler-requires : tie.Need-all-filler-requires
 all-filler-requires c κs = search needs
 
-kinds-of-requires : tie.Need-kinds-of-requires
-kinds-of-requires c κs = search needs
-
 group-at-requires : tie.Need-group-at-requires
 group-at-requires c κs = search needs
 
@@ -31,7 +28,6 @@ read-row-spec =
     tie.close
     (tie.spec
     all-filler-requires
-    kinds-of-requires
     group-at-requires
     all-allowed-requires
     returns

@@ -5,6 +5,18 @@ use Rattle.groups.proofs.Laws.{store-whole}
 use Rattle.groups.proofs.write.store.Statement.{statement}
 use Rattle.groups.proofs.write.store.Tie as tie
 
+width-at-requires : tie.Need-width-at-requires
+width-at-requires c κs = search needs
+
+width-at-requires-2 : tie.Need-width-at-requires-2
+width-at-requires-2 c κs = search needs
+
+width-at-requires-3 : tie.Need-width-at-requires-3
+width-at-requires-3 c κs = search needs
+
+width-at-requires-4 : tie.Need-width-at-requires-4
+width-at-requires-4 c κs = search needs
+
 size-requires : tie.Need-size-requires
 size-requires c κs = search needs
 
@@ -52,15 +64,22 @@ returns c =
     let head = first .before .before .before .before in
     let filled = head .before .before .before .before in
     let sized = filled .before .before in
-    let start = sized .before .before .before .before in
-    store-whole _ _ _ _ _ _ _ _ _ _ _ _ _ _ _ _ (c .before .before .put4 .ensures) (third .put3 .ensures) (second .put2 .ensures)
-    (first .put .ensures) (head .put-byte .ensures) (filled .fill .ensures) (start .pre .0) (start .pre .1)
+    let wide = sized .before .before .before in
+    let start = wide .before .before .before .before .before in
+    store-whole _ (start .args .row) _ _ _ _ _ _ _ _ _ _ _ _ _ _ _ _ _ _ (c .before .before .put4 .ensures) (third .put3 .ensures)
+    (second .put2 .ensures) (first .put .ensures) (head .put-byte .ensures) (filled .fill .ensures) (start .pre .0) (start .pre .1)
     (sized .before .before .size .ensures .0) (sized .before .size2 .ensures .0) (sized .size3 .ensures .0)
+    (wide .before .before .before .width-at .ensures) (wide .before .before .width-at2 .ensures) (wide .before .width-at3 .ensures)
+    (wide .width-at4 .ensures)
 
 pub store-spec : {M : Type 1} → statement M
 store-spec =
     tie.close
     (tie.spec
+    width-at-requires
+    width-at-requires-2
+    width-at-requires-3
+    width-at-requires-4
     size-requires
     add-at
     size-requires-2

@@ -5,14 +5,11 @@ use Rattle.groups.proofs.Laws.{writing}
 use Rattle.groups.proofs.write.write_row.Statement.{statement}
 use Rattle.groups.proofs.write.write_row.Tie as tie
 
-kinds-of-requires : tie.Need-kinds-of-requires
-kinds-of-requires c κs = search needs
-
 all-allowed-requires : tie.Need-all-allowed-requires
 all-allowed-requires c κs = search needs
 
 store-requires : tie.Need-store-requires
-store-requires c κs = search (needs, writing)
+store-requires c κs = search needs
 
 same-length : tie.Need-same-length
 same-length c = search needs
@@ -25,5 +22,4 @@ returns-2 c = search writing
 
 pub write-row-spec : {M : Type 1} → statement M
 write-row-spec =
-    tie.close
-    (tie.spec kinds-of-requires all-allowed-requires store-requires same-length returns returns-2)
+    tie.close (tie.spec all-allowed-requires store-requires same-length returns returns-2)
