@@ -74,6 +74,7 @@ side-by-side n true true e d =
 side-by-side n true false e d = ne-eqb (n / 16777216 % 4) 0 (λ z. eqb-false (n / 16777216 % 2) 0 d (omega (arith, z)))
 side-by-side n false dp e d = ne-eqb (n / 16777216 % 4) 0 (λ z. eqb-false (n / 33554432 % 2) 0 e (omega (arith, z)))
 
+-- So the number's own test is that of its parts.
 pub fits-at-once : (n : ℕ) → (ltb n 536870912 && eqb (n / 16777216 % 4) 0) ≡ fitsOf (partsOf n)
 unfolding partsOf
 fits-at-once n =
