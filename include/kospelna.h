@@ -215,7 +215,7 @@ uint32_t kospelna_vehicle_version(void); /* the identifier of the vehicle's vers
 
 /* The versions that an end supports, rising. */
 typedef struct kospelna_versions {
-    uint8_t count;       /* 1 to 8 */
+    uint32_t count;      /* 1 to 8 */
     uint32_t numbers[8]; /* the first count of them; the rest are 0 */
 } kospelna_versions;
 
@@ -250,7 +250,7 @@ typedef struct kospelna_talker {
     uint8_t control;  /* the control-pilot byte of its messages */
     uint8_t state;    /* 0 S0 start, 1 S1 negotiating, 2 S2 agreed on a version below 2.0.0, 3 S3 agreed, 4 S4 failed,
                          5 S5 left; any other number is read as 0 */
-    uint8_t place;    /* Ns, the place in numbers of the version that its messages name, from 0 */
+    uint32_t place;   /* Ns, the place in numbers of the version that its messages name, from 0 */
     uint8_t verdict;  /* the result that its messages carry: 0 continue, 1 success, 2 failure; any other is read as 0 */
     uint16_t period;  /* T1 in ticks: a message every 50 */
     uint16_t age;     /* Tout0 in ticks: failed at 15000 */

@@ -196,6 +196,24 @@ static void other_calls(void)
     CHECK(answer.next.side == 0 && answer.next.state == 1 && answer.next.verdict == 0 && answer.emits);
 }
 
+/* A count and a place are whole words, which nobody judges: Ns is one before the count, and past the eighth place is
+ * version 0. */
+static void wide_numbers(void)
+{
+    const uint8_t zero[8] = {0x00, 0x00, 0x00, 0x00, 0x00, 0x0A, 0x01, 0xFF};
+    struct kospelna_versions versions = kospelna_version_list(vehicle_versions, 6).versions;
+    versions.count = 0x10002;
+    struct kospelna_talker talker = kospelna_talker_make(1, versions, 0x0A);
+    CHECK(talker.place == 0x10001 && talker.versions.count == 0x10002);
+
+    struct kospelna_talker_answer answer = kospelna_talker_connect(talker);
+    CHECK(answer.emits && same(answer.bytes, zero));
+    CHECK(answer.next.place == 0x10001 && answer.next.versions.count == 0x10002);
+
+    versions.count = 0;
+    CHECK(kospelna_talker_make(1, versions, 0x0A).place == 0);
+}
+
 int main(void)
 {
     identifier();
@@ -203,6 +221,7 @@ int main(void)
     message();
     talk();
     other_calls();
+    wide_numbers();
     if (!wrong)
         puts("around: all as expected");
     return wrong;

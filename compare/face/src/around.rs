@@ -11,6 +11,7 @@ use compare::reference::{refusal, Refused};
 use compare::vectors::{number, raw, version_message, versions, write};
 
 use crate::interface::Around;
+use crate::lists::{standing, version_at};
 use crate::values::*;
 use crate::Reference;
 
@@ -112,11 +113,18 @@ impl Around for Reference {
         }
     }
 
-    /// Of a list that listing answered: a reference's talker is made of no other.
+    /// A reference's talker is made of a list that listing answers. Of any other list it is made as of a single version, but
+    /// for that list and a place one before its count.
     fn talker_make(&self, side: u8, versions: FlatVersions, control: u8) -> FlatTalker {
-        let list = list_of(versions);
-        let made = Talker::make(side_of(side), &list, control);
-        flat_talker(&made.expect("a list that was accepted"))
+        let make = |list: &[Version]| Talker::make(side_of(side), list, control);
+        let made = match make(&list_of(versions)) {
+            Ok(made) if versions.count <= 8 => flat_talker(&made),
+            _ => FlatTalker {
+                place: versions.count.saturating_sub(1),
+                ..flat_talker(&make(&[[0; 3]]).expect("one version is a list"))
+            },
+        };
+        FlatTalker { versions, ..made }
     }
 
     fn talker_connect(&self, talker: FlatTalker) -> FlatAnswer {
@@ -224,7 +232,7 @@ fn version_of(number: u32) -> Version {
 }
 
 fn list_of(versions: FlatVersions) -> Vec<Version> {
-    let standing = versions.numbers.iter().take(usize::from(versions.count));
+    let standing = standing(&versions).iter();
     standing.map(|&number| version_of(number)).collect()
 }
 
@@ -234,7 +242,7 @@ fn flat_versions(list: &[Version]) -> FlatVersions {
         *place = number(version);
     }
     FlatVersions {
-        count: list.len() as u8,
+        count: list.len() as u32,
         numbers,
     }
 }
@@ -276,15 +284,26 @@ fn state_number(state: State) -> u8 {
     }
 }
 
+/// The list, and Ns in it. A version whose place is past the list goes to the list's end.
+fn list_and_ns(flat: FlatTalker) -> (Vec<Version>, usize) {
+    let mut list = list_of(flat.versions);
+    let ns = list.len().min(flat.place as usize);
+    if ns == list.len() {
+        list.push(version_of(version_at(&flat.versions, flat.place)));
+    }
+    (list, ns)
+}
+
 /// In S1 the timers are open; in the vehicle's S3 `timing` says whether they are.
 pub fn talker_of(flat: FlatTalker) -> Talker {
     let state = state_of(flat.state);
+    let (versions, ns) = list_and_ns(flat);
     Talker {
         side: side_of(flat.side),
-        versions: list_of(flat.versions),
+        versions,
         pilot: flat.control,
         state,
-        ns: flat.place.into(),
+        ns,
         outcome: verdict_of(flat.verdict),
         period: flat.period,
         limit: flat.age,
@@ -301,7 +320,7 @@ pub fn flat_talker(end: &Talker) -> FlatTalker {
         versions: flat_versions(&end.versions),
         control: end.pilot,
         state: state_number(end.state),
-        place: end.ns as u8,
+        place: end.ns as u32,
         verdict: end.outcome.number(),
         period: if talking || timing { end.period } else { 0 },
         age: if talking { end.limit } else { 0 },
@@ -309,13 +328,14 @@ pub fn flat_talker(end: &Talker) -> FlatTalker {
     }
 }
 
-/// A call of a talker. Its report is the state entered: S2 and S3 agreed, S4 failed, S5 left.
+/// A call of a talker. Its report is the state entered: S2 and S3 agreed, S4 failed, S5 left. Its list stays, and
+/// so does a place past the list where the reference leaves Ns.
 fn called(
     talker: FlatTalker,
     call: impl Fn(&mut Talker) -> Result<Option<[u8; 8]>, Refused>,
 ) -> FlatAnswer {
     let mut end = talker_of(talker);
-    let before = end.state;
+    let (before, ns) = (end.state, end.ns);
     let (said, refused) = match call(&mut end) {
         Ok(said) => (said, None),
         Err(Refused(number)) => (None, Some(number)),
@@ -328,8 +348,17 @@ fn called(
         State::S5 => (4, 0),
         State::S0 | State::S1 => (0, 0),
     };
+    let next = flat_talker(&end);
     FlatAnswer {
-        next: flat_talker(&end),
+        next: FlatTalker {
+            versions: talker.versions,
+            place: if end.ns == ns {
+                talker.place
+            } else {
+                next.place
+            },
+            ..next
+        },
         emits: said.is_some(),
         bytes: said.unwrap_or_default(),
         outcome,

@@ -85,7 +85,7 @@ boundary! {
             outcome: 0,
             refusal: 0,
             versions: FlatVersions {
-                count: length as u8,
+                count: length as u32,
                 numbers: [0; 8],
             },
         }

@@ -7,14 +7,15 @@
 //! - N is that of L at the sender, which is 1785 at most (the reference counts N from L), 1 in Short;
 //! - the gap is 1 to 255 and the window 1 to 255 (bytes in the reference, and no end has 0);
 //! - at a receiver's tick the number expected is 1 to N (w − e + 1 is below 0 otherwise);
-//! - a talker has a list that was accepted, its place is in it, and its timers stand as its state has them.
+//! - a talker's timers stand as its state has them; its versions are below 2^24; and where the version at its place is not
+//!   in its list, it hears no continue with that version (the reference keeps it after the list, and finds it there).
 
 use compare::packs::random::Random;
 use compare::reference::frame::frames_for;
 
 use crate::call::Call;
 use crate::frames::{self, EDGE_LENGTHS};
-use crate::lists::{accepted, message};
+use crate::lists::{self, message, standing, three, unjudged, version_at};
 use crate::sessions::{part, wrong_buffer};
 use crate::values::*;
 
@@ -174,15 +175,33 @@ pub fn talker_call(random: &mut Random) -> Call {
     match random.weighted(&[10, 35, 35, 7, 7, 6]) {
         0 => Call::TalkerConnect(talker),
         1 => Call::TalkerTick(talker),
-        2 => Call::TalkerHear(talker, message(random, &talker.versions)),
+        2 => Call::TalkerHear(talker, heard(random, &talker)),
         3 => Call::TalkerStop(talker),
         4 => Call::TalkerGreet(talker),
         _ => Call::TalkerFunctionsHeard(talker),
     }
 }
 
+/// A message, at times with the version at Ns, which is no continue where the list has not that version.
+fn heard(random: &mut Random, talker: &FlatTalker) -> FlatBytes {
+    let own = version_at(&talker.versions, talker.place);
+    let mut heard = message(random, &talker.versions);
+    let [_, result, version @ .., _, _, _] = &mut heard.bytes;
+    if random.percent(20) {
+        *version = three(own);
+    }
+    if *version == three(own) && *result == 0 && !standing(&talker.versions).contains(&own) {
+        *result = 1;
+    }
+    heard
+}
+
 fn talker(random: &mut Random) -> FlatTalker {
-    let versions = accepted(random);
+    let versions = lists::forged(random);
+    let place = match random.percent(80) {
+        true => random.between(0, standing(&versions).len().max(1) - 1) as u32,
+        false => unjudged(random),
+    };
     let number = |random: &mut Random, most: usize| match random.percent(95) {
         true => random.between(0, most) as u8,
         false => random.byte(),
@@ -199,7 +218,7 @@ fn talker(random: &mut Random) -> FlatTalker {
         versions,
         control: random.byte(),
         state,
-        place: random.between(0, usize::from(versions.count) - 1) as u8,
+        place,
         verdict: number(random, 2),
         period: if state == 1 || timing { period } else { 0 },
         age: if state == 1 { age } else { 0 },

@@ -33,9 +33,54 @@ pub fn accepted(random: &mut Random) -> FlatVersions {
     let mut numbers = [0; 8];
     numbers[..count].copy_from_slice(&rising(random, count));
     FlatVersions {
-        count: count as u8,
+        count: count as u32,
         numbers,
     }
+}
+
+/// Past the eight places of a list, and where fewer bytes would hold another number.
+const WIDE: [u32; 10] = [
+    8,
+    9,
+    255,
+    256,
+    257,
+    258,
+    65535,
+    65536,
+    0x8000_0000,
+    u32::MAX,
+];
+
+/// A count or a place, which nobody judges.
+pub fn unjudged(random: &mut Random) -> u32 {
+    match random.weighted(&[30, 60, 10]) {
+        0 => random.between(0, 8) as u32,
+        1 => random.pick(&WIDE),
+        _ => u32::from_be_bytes(random_bytes(random)),
+    }
+}
+
+/// A list as listing answers it, at times with another count.
+pub fn forged(random: &mut Random) -> FlatVersions {
+    let list = accepted(random);
+    match random.percent(80) {
+        true => list,
+        false => FlatVersions {
+            count: unjudged(random),
+            ..list
+        },
+    }
+}
+
+/// The versions that stand in a list: as many as it counts, eight at most.
+pub fn standing(list: &FlatVersions) -> &[u32] {
+    &list.numbers[..list.count.min(8) as usize]
+}
+
+/// The version at a place of a list, 0 past the eighth.
+pub fn version_at(list: &FlatVersions, place: u32) -> u32 {
+    list.numbers.get(place as usize).copied().unwrap_or(0)
 }
 
 /// The lent bytes of a list: good, of too few or too many versions, not rising, or with bytes left over.
@@ -74,7 +119,7 @@ pub fn three(version: u32) -> [u8; 3] {
 /// A message with a version of the list or another, seldom one that cannot be read.
 pub fn message(random: &mut Random, versions: &FlatVersions) -> FlatBytes {
     let version = match random.weighted(&[60, 30, 10]) {
-        0 => versions.numbers[random.between(0, usize::from(versions.count) - 1)],
+        0 => versions.numbers[random.between(0, standing(versions).len().max(1) - 1)],
         1 => random.pick(&VERSIONS),
         _ => u32::from_be_bytes(random_bytes(random)),
     };

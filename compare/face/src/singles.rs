@@ -5,7 +5,7 @@ use compare::reference::groups::ROWS;
 
 use crate::call::Call;
 use crate::frames::random_bytes;
-use crate::lists::{accepted, lent, message};
+use crate::lists::{accepted, forged, lent, message};
 use crate::values::*;
 
 pub fn identifier_call(random: &mut Random) -> Call {
@@ -73,11 +73,7 @@ pub fn version_call(random: &mut Random) -> Call {
             let versions = accepted(random);
             Call::MessageRead(message(random, &versions))
         }
-        _ => Call::TalkerMake(
-            random.pick(&[0, 1, 2, 255]),
-            accepted(random),
-            random.byte(),
-        ),
+        _ => Call::TalkerMake(random.pick(&[0, 1, 2, 255]), forged(random), random.byte()),
     }
 }
 

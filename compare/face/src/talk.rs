@@ -5,7 +5,7 @@ use compare::packs::random::Random;
 use crate::call::{Answer, Call, Mismatch, Pair};
 use crate::frames::random_bytes;
 use crate::interface::Face;
-use crate::lists::{accepted, message, three};
+use crate::lists::{accepted, message, standing, three};
 use crate::values::*;
 
 /// Steps of one side, but for the ticks of both.
@@ -110,8 +110,7 @@ impl Sides {
 pub fn draw(random: &mut Random) -> Talk {
     let versions = [accepted(random), accepted(random)];
     let lists = versions.map(|list| {
-        let standing = &list.numbers[..usize::from(list.count)];
-        standing
+        standing(&list)
             .iter()
             .flat_map(|&version| three(version))
             .collect()

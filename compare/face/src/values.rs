@@ -122,7 +122,7 @@ pub struct FlatParted {
 #[repr(C)]
 #[derive(Clone, Copy, Debug, Default, PartialEq, Eq)]
 pub struct FlatVersions {
-    pub count: u8,
+    pub count: u32,
     pub numbers: [u32; 8],
 }
 
@@ -165,7 +165,7 @@ pub struct FlatTalker {
     pub versions: FlatVersions,
     pub control: u8,
     pub state: u8,
-    pub place: u8,
+    pub place: u32,
     pub verdict: u8,
     pub period: u16,
     pub age: u16,

@@ -126,6 +126,17 @@ fn talker(state: u8) -> FlatTalker {
     }
 }
 
+/// Continue with the version at Ns, which is past the list: to the face it is no version of the list.
+#[test]
+fn a_place_past_the_list() {
+    let past = FlatTalker {
+        place: 8,
+        ..talker(1)
+    };
+    let zero = FlatBytes { bytes: [0; 8] };
+    differs(Call::TalkerHear(past, zero));
+}
+
 /// A talker's counts past their limits, and timers that its state has not.
 #[test]
 fn talkers() {

@@ -49,7 +49,7 @@ use version::Versions;
 
 #[repr(C)]
 pub struct FlatVersions {
-    pub count: u8,
+    pub count: u32,
     pub numbers: [u32; 8],
 }
 
@@ -90,7 +90,7 @@ pub struct FlatTalker {
     pub versions: FlatVersions,
     pub control: u8,
     pub state: u8,
-    pub place: u8,
+    pub place: u32,
     pub verdict: u8,
     pub period: u16,
     pub age: u16,

@@ -69,7 +69,7 @@ unfolding joinOf
 parted-joined x n h =
     let both = gave (fitsOf x) (numberOf x) n h in
     let e : x ≡ partsOf n = parts-number x (within x (both .0)) ∙ ap partsOf (both .1) in
-    sym (part-given x n (fitsOf x) (both .0) refl e)
+    sym (part-given x n (fitsOf x) (both .0) (ap fitsOf e) e)
 
 -- Joining the parts of an accepted identifier gives it back.
 pub joined-parted : (n : ℕ) (x : Parts) → partOf n ≡ given x → joinOf x ≡ given n

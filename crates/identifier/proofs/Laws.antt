@@ -1,10 +1,10 @@
 -- Laws on the tests of the definitions.
 -- Assumes nothing.
-use Prim.Native.Nat.{ℕ, _/_, _%_}
-use mathlib.Core.Path.{_≡_, refl}
-use mathlib.Core.Bool.{Bool, true, false, _&&_, and-eq-true-iff, and-true}
+use Prim.Native.Nat.{ℕ, _+_, _*_, _/_, _%_}
+use mathlib.Core.Path.{_≡_, refl, sym, ap, _∙_}
+use mathlib.Core.Bool.{Bool, true, false, _&&_, and-eq-true-iff, and-true, and-assoc}
 use native.Mathlib.Omega.{arith}
-use borrow.Author.Tests.{ltb-true, ltb-false, eqb-true, lt-ltb, le-ltb, eq-eqb}
+use borrow.Author.Tests.{ltb-true, ltb-false, eqb-true, eqb-false, lt-ltb, le-ltb, eq-eqb, ne-eqb}
 use lib.Dec.{eqb, ltb}
 use Rattle.frame.specs.Choice.{pick}
 use Rattle.identifier.specs.Identifier.{numberOf, partsOf, fitsOf, Within}
@@ -65,6 +65,23 @@ fits-number n =
       and-true,
     )
 
+-- EDP and DP lie side by side: both are 0 just if the number that they make is.
+side-by-side : (n : ℕ) (edp dp : Bool) → eqb (n / 33554432 % 2) 0 ≡ edp → eqb (n / 16777216 % 2) 0 ≡ dp
+    → eqb (n / 16777216 % 4) 0 ≡ (edp && dp)
+side-by-side n true true e d =
+    let made : n / 16777216 % 4 ≡ n / 33554432 % 2 * 2 + n / 16777216 % 2 = omega arith in
+    eq-eqb (n / 16777216 % 4) 0 (omega (arith, eqb-true (n / 33554432 % 2) 0 e, eqb-true (n / 16777216 % 2) 0 d))
+side-by-side n true false e d = ne-eqb (n / 16777216 % 4) 0 (λ z. eqb-false (n / 16777216 % 2) 0 d (omega (arith, z)))
+side-by-side n false dp e d = ne-eqb (n / 16777216 % 4) 0 (λ z. eqb-false (n / 33554432 % 2) 0 e (omega (arith, z)))
+
+-- So the number's own test is that of its parts.
+pub fits-at-once : (n : ℕ) → (ltb n 536870912 && eqb (n / 16777216 % 4) 0) ≡ fitsOf (partsOf n)
+unfolding partsOf
+fits-at-once n =
+    ap (λ (b : Bool). ltb n 536870912 && b) (side-by-side n _ _ refl refl)
+    ∙ sym (and-assoc (ltb n 536870912) (eqb (partsOf n .edp) 0) (eqb (partsOf n .dp) 0))
+    ∙ sym (fits-number n)
+
 -- Joining goes by the test of the parts.
 pub join-given : (x : Parts) (n : ℕ) (fits : Bool) → fits ≡ true → fits ≡ fitsOf x → n ≡ numberOf x → given n ≡ joinOf x
 unfolding joinOf pick
@@ -75,12 +92,12 @@ unfolding joinOf pick
 join-refused x fits t e = rw (← e, t)
 
 -- And so does parting, of the parts of the number.
-pub part-given : (x : Parts) (n : ℕ) (fits : Bool) → fits ≡ true → fits ≡ fitsOf x → x ≡ partsOf n → given x ≡ partOf n
+pub part-given : (x : Parts) (n : ℕ) (fits : Bool) → fits ≡ true → fits ≡ fitsOf (partsOf n) → x ≡ partsOf n → given x ≡ partOf n
 unfolding partOf pick
-part-given x n fits t e v = rw (v, ← fits-number n, ← v, ← e, t)
+part-given x n fits t e v = rw (v, ← fits-number n, ← e, t)
 
-pub part-refused : (x : Parts) (n : ℕ) (fits : Bool) → fits ≡ false → fits ≡ fitsOf x → x ≡ partsOf n → refused 8 ≡ partOf n
+pub part-refused : (n : ℕ) (fits : Bool) → fits ≡ false → fits ≡ fitsOf (partsOf n) → refused 8 ≡ partOf n
 unfolding partOf pick
-part-refused x n fits t e v = rw (← fits-number n, ← v, ← e, t)
+part-refused n fits t e = rw (← fits-number n, ← e, t)
 
 pub ruleset joining = (within, join-given, join-refused, part-given, part-refused)

@@ -83,13 +83,19 @@ fn parts_of(identifier: u32) -> Parts
     }
 }
 
+// The parts of an identifier fit: it has 29 bits, and those of EDP and DP are 0.
+fn parts_fit(identifier: u32) -> bool
+    ensures { λ r. ⌜ r ≡ fitsOf (partsOf identifier) ⌝ }
+{
+    (identifier < 536870912) & (identifier / 16777216 % 4 == 0)
+}
+
 // The parts of an identifier, or refusal 8.
 pub fn part(identifier: u32) -> Parted
     ensures { λ r. ⌜ toldParted r ≡ partOf identifier ⌝ }
 {
-    let parts = parts_of(identifier);
-    if fits(parts) {
-        Parted::Into(parts)
+    if parts_fit(identifier) {
+        Parted::Into(parts_of(identifier))
     } else {
         Parted::Refused(8)
     }

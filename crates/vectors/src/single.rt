@@ -171,7 +171,7 @@ fn named() {
 
 // How many versions stand, and the eight places.
 fn places(v: Versions) {
-    print::number(v.count as u16);
+    print::number((v.count % 65536) as u16);
     let numbers = v.numbers;
     print::longs(&numbers);
 }

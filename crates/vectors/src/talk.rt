@@ -61,7 +61,7 @@ fn state(s: State) -> u16 {
 }
 
 // The version at a place.
-fn version_at(v: Versions, place: u8) -> u32 {
+fn version_at(v: Versions, place: u32) -> u32 {
     let numbers = v.numbers;
     if place < 8 {
         numbers[place as usize]

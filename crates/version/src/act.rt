@@ -46,7 +46,7 @@ pub(crate) fn moved(
     t: Talker,
     state: State,
     verdict: Verdict,
-    place: u8,
+    place: u32,
     period: u16,
     age: u16,
     timing: bool,
@@ -187,7 +187,7 @@ fn fail(t: Talker) -> Answer
 }
 
 // A place that was found, else the other.
-fn place_or(found: Found, place: u8) -> u8
+fn place_or(found: Found, place: u32) -> u32
     ensures { λ r. ⌜ r ≡ placeOr (toldFound found) place ⌝ }
 {
     match found {

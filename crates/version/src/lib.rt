@@ -8,9 +8,10 @@ mod vehicle;
 pub mod wire;
 
 // The versions that an end supports, as numbers (major, minor and temporary version as the digits of base 256), rising.
-// The first count of them stand; the places after them hold 0.
+// The first count of them stand; the places after them hold 0. The count is as wide as a number, so that a list has no gap
+// and is copied as it lies.
 pub struct Versions {
-    pub count: u8,
+    pub count: u32,
     pub numbers: [u32; 8],
 }
 
@@ -69,7 +70,7 @@ pub struct Talker {
     pub versions: Versions,
     pub control: u8,
     pub state: State,
-    pub place: u8,
+    pub place: u32,
     pub verdict: Verdict,
     pub period: u16,
     pub age: u16,

@@ -24,7 +24,7 @@ use crate::Versions;
 // A place in a list, if there is one.
 pub(crate) enum Found {
     Nowhere,
-    Here(u8),
+    Here(u32),
 }
 
 // A version as a number, major first.
@@ -106,7 +106,7 @@ pub fn list(bytes: &[u8]) -> Listed
     if all_rising(bytes) {
         let numbers = numbers_of(bytes);
         let versions = Versions {
-            count: count as u8,
+            count: count as u32,
             numbers,
         };
         Listed {
@@ -119,7 +119,7 @@ pub fn list(bytes: &[u8]) -> Listed
 }
 
 // The version at a place; 0 past the eighth.
-pub(crate) fn version_at(versions: Versions, place: u8) -> u32
+pub(crate) fn version_at(versions: Versions, place: u32) -> u32
     ensures { λ r. ⌜ r ≡ at versions place ⌝ }
 {
     let numbers = versions.numbers;
@@ -131,7 +131,7 @@ pub(crate) fn version_at(versions: Versions, place: u8) -> u32
 }
 
 // The place of the highest version.
-pub(crate) fn last_place(versions: Versions) -> u8
+pub(crate) fn last_place(versions: Versions) -> u32
     ensures { λ r. ⌜ r ≡ highest versions ⌝ }
 {
     let count = versions.count;
@@ -155,7 +155,7 @@ pub(crate) fn find(versions: Versions, version: u32) -> Found
     let mut i: usize = 0;
     while i < count {
         if numbers[i] == version {
-            return Found::Here(i as u8);
+            return Found::Here(i as u32);
         }
         i += 1;
     }
@@ -171,7 +171,7 @@ pub(crate) fn find_below(versions: Versions, version: u32) -> Found
     while 0 < i {
         i -= 1;
         if numbers[i] < version {
-            return Found::Here(i as u8);
+            return Found::Here(i as u32);
         }
     }
     Found::Nowhere

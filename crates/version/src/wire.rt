@@ -43,13 +43,14 @@ fn verdict_byte(verdict: Verdict) -> u8
     }
 }
 
-// The result of a byte that is 0, 1 or 2.
+// The result of a byte that is 0, 1 or 2. With an arm for each of them, the compiled code takes the byte itself.
 fn verdict_of(byte: u8) -> Verdict
     ensures { λ r. ⌜ r ≡ verdictOf byte ⌝ }
 {
     match byte {
         0 => Verdict::Continue,
         1 => Verdict::Success,
+        2 => Verdict::Failure,
         _ => Verdict::Failure,
     }
 }

@@ -40,10 +40,18 @@ pub const MISTAKES: &[(&str, Mistake)] = &[
     ("CAN type 1 is read", Mistake::MessageRead(can_1)),
     ("made at the lowest version", Mistake::TalkerMake(at_lowest)),
     (
+        "made at the count's low byte",
+        Mistake::TalkerMake(at_low_byte),
+    ),
+    (
         "connect says success",
         Mistake::TalkerConnect(connect_success),
     ),
     ("a period of 49", Mistake::TalkerTick(period_49)),
+    (
+        "a place is taken modulo 256",
+        Mistake::TalkerTick(place_modulo),
+    ),
     (
         "the period before the limit",
         Mistake::TalkerTick(period_first),
@@ -170,6 +178,10 @@ fn at_lowest(talker: &mut FlatTalker) {
     talker.place = 0;
 }
 
+fn at_low_byte(talker: &mut FlatTalker) {
+    talker.place = (talker.versions.count % 256).saturating_sub(1);
+}
+
 fn connect_success(_: FlatTalker, a: &mut FlatAnswer) {
     if a.emits {
         (a.next.verdict, a.bytes[1]) = (1, 1);
@@ -180,6 +192,12 @@ fn period_49(t: FlatTalker, a: &mut FlatAnswer) {
     if t.state == 1 && t.period == 48 && a.outcome == 0 {
         *a = Reference.talker_tick(FlatTalker { period: 49, ..t });
     }
+}
+
+fn place_modulo(t: FlatTalker, a: &mut FlatAnswer) {
+    let place = t.place % 256;
+    *a = Reference.talker_tick(FlatTalker { place, ..t });
+    a.next.place = t.place;
 }
 
 fn period_first(t: FlatTalker, a: &mut FlatAnswer) {

@@ -1,15 +1,15 @@
--- `identifier::part` meets its contract. The parts of a number fit just if the number is below 2 to the 29 and EDP and DP are 0.
+-- `identifier::part` meets its contract. What `parts_fit` promises is the definition's test.
 -- Assumes nothing.
 use borrow.Author.Needs.{needs}
 use Rattle.identifier.proofs.Laws.{joining}
 use Rattle.identifier.proofs.part.Statement.{statement}
 use Rattle.identifier.proofs.part.Tie as tie
 
+parts-fit-requires : tie.Need-parts-fit-requires
+parts-fit-requires c κs = search needs
+
 parts-of-requires : tie.Need-parts-of-requires
 parts-of-requires c κs = search needs
-
-fits-requires : tie.Need-fits-requires
-fits-requires c κs = search needs
 
 returns : tie.Need-returns
 returns c = search joining
@@ -18,4 +18,4 @@ returns-2 : tie.Need-returns-2
 returns-2 c = search joining
 
 pub part-spec : {M : Type 1} → statement M
-part-spec = tie.close (tie.spec parts-of-requires fits-requires returns returns-2)
+part-spec = tie.close (tie.spec parts-fit-requires parts-of-requires returns returns-2)
