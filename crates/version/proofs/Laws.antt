@@ -2,12 +2,12 @@
 -- Assumes nothing.
 use Prim.Native.Nat.{ℕ, zero, suc, _+_, _*_, _/_, _-_, _<_, _≤_, min}
 use mathlib.Core.Path.{_≡_, refl, sym, ap, _∙_}
-use mathlib.Core.Bool.{Bool, true, false, _&&_}
+use mathlib.Core.Bool.{Bool, true, false}
 use mathlib.Core.List.{List, [], _∷_, _++_}
 use native.Mathlib.Omega.{arith}
 use native.Mathlib.Numerals.{add-one}
 use borrow.Author.Tests.{le-leb, lt-leb, lt-ltb, le-ltb, eq-eqb, ne-eqb}
-use lib.Dec.{eqb, leb, ltb}
+use lib.Dec.{ltb}
 use lib.ListN.{length, getD, take, drop, replicate, length-take, drop-of-length-le, List·getD-eq-default}
 use lib.Seq.{drop-cons, take-suc, getD-take, length-take-le, ext-getD}
 use Rattle.frame.specs.Choice.{pick}
@@ -24,7 +24,7 @@ use Rattle.version.specs.declared.MessageReading.the-variants as reading
 use Rattle.version.specs.declared.Side.{Side}
 use Rattle.version.specs.declared.Side.the-variants.{Charger, Vehicle}
 use Rattle.version.specs.declared.State.{State}
-use Rattle.version.specs.declared.State.the-variants.{S0, S1, S2, S3, S4, S5}
+use Rattle.version.specs.declared.State.the-variants.{S1, S2, S3}
 use Rattle.version.specs.declared.Talker.{Talker}
 use Rattle.version.specs.declared.Verdict.{Verdict}
 use Rattle.version.specs.declared.list.Found as found-enum

@@ -10,10 +10,10 @@ use native.Mathlib.Nat.{eq-or-lt-of-le}
 use native.Mathlib.Omega.{arith}
 use borrow.Author.Tests.{leb-true, ltb-true, ltb-false, eqb-true, eqb-false}
 use lib.Dec.{eqb, leb, ltb}
-use lib.ListN.{length, getD, take, replicate}
+use lib.ListN.{length, getD, replicate}
 use lib.Seq.{take-take, take-append-seam}
 use Rattle.frame.specs.Choice.{pick}
-use Rattle.version.specs.List.{versionsIn, rising, placed, Listing, ListOutcome, accepted, refused, listed, refusing, listOf, at, standing, Place, nowhere, here, orElse, placeOf, placeBelow}
+use Rattle.version.specs.List.{versionsIn, rising, placed, Listing, accepted, refused, listed, refusing, listOf, standing, Place, nowhere, here, orElse, placeOf, placeBelow}
 use Rattle.version.specs.declared.Versions.{Versions}
 
 -- ---- an accepted list

@@ -1,7 +1,7 @@
 -- The version message. 001, tables 6 and 7: CAN type, result, version (three bytes), control-pilot version, transport version,
 -- reserved; eight bytes in all, the same for both sides.
 use Prim.Native.Nat.{ℕ}
-use mathlib.Core.Bool.{Bool, true, false, _&&_}
+use mathlib.Core.Bool.{_&&_}
 use mathlib.Core.List.{List, [], _∷_}
 use lib.Dec.{eqb, leb}
 use lib.ListN.{getD}

@@ -1,7 +1,7 @@
 -- The calls of a talker: which trigger a call is, and what the table's entry does.
-use Prim.Native.Nat.{ℕ, _+_}
-use mathlib.Core.Bool.{Bool, true, false, _&&_}
-use mathlib.Core.List.{List, []}
+use Prim.Native.Nat.{ℕ}
+use mathlib.Core.Bool.{Bool, true, false}
+use mathlib.Core.List.{List}
 use lib.Dec.{eqb, leb, ltb}
 use Rattle.frame.specs.Choice.{pick}
 use Rattle.frame.specs.Count.{incrementOf}
@@ -9,7 +9,6 @@ use Rattle.version.specs.List.{versionOf, highest, Place, nowhere, here,
 use Rattle.version.specs.Message.{MessageJudgement, message, refused, readMessage}
 use Rattle.version.specs.Table.{Trigger, connected, periodDue, successOther, successBelow2, success2, failureHeard, continueSame, continueLower, continueHigher, continueNone, greeted, stopped, limitDue, Entry, nothing, opens, repeats, resumes, settlesBelow2, settles, fails, accepts, stays, lowers, leaves, cellOf}
 use Rattle.version.specs.Told.{Told, quiet, agreed, failed, left, silently, refusing, saying, moved, unsaid, ownVersion}
-use Rattle.version.specs.declared.Message.{Message}
 use Rattle.version.specs.declared.Side.{Side}
 use Rattle.version.specs.declared.Side.the-variants.{Charger, Vehicle}
 use Rattle.version.specs.declared.State.{State}
