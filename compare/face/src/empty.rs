@@ -26,7 +26,7 @@ boundary! {
     }
 
     /// Begin, post and tick.
-    pub fn sender_lent(s: FlatSender, _: *const u8, _: usize) -> SenderAnswer {
+    pub fn sender_lent(s: FlatSender, _message: *const u8, _length: usize) -> SenderAnswer {
         sender_answer(s, NO_FRAME)
     }
 
@@ -55,8 +55,8 @@ boundary! {
     pub fn receiver_hear(
         r: FlatReceiver,
         f: FlatFrame,
-        _: *mut u8,
-        _: usize,
+        _buffer: *mut u8,
+        _length: usize,
     ) -> ReceiverAnswer {
         receiver_answer(r, f)
     }
@@ -80,7 +80,7 @@ boundary! {
         }
     }
 
-    pub fn version_list(_: *const u8, length: usize) -> FlatListing {
+    pub fn version_list(_bytes: *const u8, length: usize) -> FlatListing {
         FlatListing {
             outcome: 0,
             refusal: 0,
@@ -120,7 +120,7 @@ boundary! {
         talker_answer(talker, bytes.bytes)
     }
 
-    pub fn group_read(_: *const u8, length: usize) -> FlatGroupReading {
+    pub fn group_read(_bytes: *const u8, length: usize) -> FlatGroupReading {
         FlatGroupReading {
             outcome: 0,
             refusal: 0,
@@ -131,7 +131,7 @@ boundary! {
         }
     }
 
-    pub fn group_write(group: FlatGroup, _: *mut u8, _: usize) -> FlatGroupWriting {
+    pub fn group_write(group: FlatGroup, _bytes: *mut u8, _length: usize) -> FlatGroupWriting {
         FlatGroupWriting {
             outcome: group.code,
             refusal: 0,
@@ -146,7 +146,7 @@ pub mod translated {
     use crate::ends::{flat_receiver, flat_sender, receiver_of, sender_of};
 
     boundary! {
-        pub fn sender_lent(s: FlatSender, _: *const u8, _: usize) -> SenderAnswer {
+        pub fn sender_lent(s: FlatSender, _message: *const u8, _length: usize) -> SenderAnswer {
             sender_answer(flat_sender(&sender_of(s)), NO_FRAME)
         }
 

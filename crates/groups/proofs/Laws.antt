@@ -2,7 +2,7 @@
 -- Assumes nothing.
 use Prim.Native.Nat.{ℕ, zero, suc, _+_, _-_, _*_, _/_, _%_, _<_, _≤_}
 use mathlib.Core.Path.{_≡_, refl, sym, ap, _∙_}
-use mathlib.Core.Bool.{Bool, true, false}
+use mathlib.Core.Bool.{Bool, true, false, _&&_, and-true}
 use mathlib.Core.List.{List, [], _∷_, _++_, append-assoc, append-nil}
 use native.Mathlib.Omega.{arith}
 use native.Mathlib.Nat.{add-zero, sub-zero, zero-sub, suc-sub-suc}
@@ -11,8 +11,9 @@ use borrow.Author.Tests.{eq-eqb, ne-eqb}
 use lib.ListN.{length, getD, drop, set, replicate, length-append, length-drop, drop-of-length-le, List·getD-eq-default}
 use lib.Seq.{sets, sets-eq, drop-cons, drop-drop, getD-drop, take-append-seam, drop-append-add}
 use Rattle.groups.specs.Answer.{Answer, given, refused, toldFinding}
+use Rattle.frame.proofs.Choice.{pick-true, pick-false}
 use Rattle.frame.specs.Choice.{pick}
-use Rattle.groups.specs.Format.{sizeOf, sizesOf, valueOf, bytesOf, fieldsOf, groupOf, groupFrom, bytesFor, kindsOf, values, allAllowed, allFiller}
+use Rattle.groups.specs.Format.{sizeOf, sizesOf, valueOf, bytesOf, fieldsOf, groupOf, groupFrom, bytesFor, kindsOf, values, allowed, allAllowed, allFiller}
 use Rattle.groups.specs.Reading.{judged, readRow, readBy, readOf}
 use Rattle.groups.specs.Table.{kindLines, kindFrom, noField, kindAt, findOf}
 use Rattle.groups.specs.Writing.{Outcome, outcome, writeRow, writeBy, writeOf}
@@ -148,6 +149,21 @@ put-word w s t u at v e fits h g =
     let high : v / 256 ≡ v / 256 % 256 = omega arith in
     rw e (g ∙ rw (h, add-one, ← high))
 
+-- Four fields are allowed where each is.
+module _ (x : Row) (g : Group) {one two three four : Bool}
+    (e : one ≡ allowed (kindAt (x .first)) (g .first)) (f : two ≡ allowed (kindAt (x .second)) (g .second))
+    (h : three ≡ allowed (kindAt (x .third)) (g .third)) (k : four ≡ allowed (kindAt (x .fourth)) (g .fourth)) where
+  pub four-allowed : (one && (two && (three && four))) ≡ allAllowed (kindsOf x) (values g)
+  four-allowed = rw (and-true, e, f, h, k)
+
+  pub judged-fine : (one && (two && (three && four))) ≡ true → given g ≡ judged x g
+  unfolding judged
+  judged-fine t = pick-true _ (sym four-allowed ∙ t) refl
+
+  pub judged-value : (one && (two && (three && four))) ≡ false → refused 10 ≡ judged x g
+  unfolding judged
+  judged-value t = pick-false _ (sym four-allowed ∙ t) refl
+
 -- Reading goes by the length, the code's row, the filler and the values.
 module _ (s : List ℕ) where
   pub read-length : (length s ≡ 8 → ⊥) → refused 9 ≡ readOf s
@@ -169,14 +185,9 @@ module _ (s : List ℕ) where
     unfolding readRow pick
     read-unfilled h = rw (← f, h)
 
-    module _ (g : Group) (fine : Bool) (eg : g ≡ groupFrom code (kindsOf x) s) (ef : fine ≡ allAllowed (kindsOf x) (values g)) where
-      pub read-fine : filler ≡ true → fine ≡ true → given g ≡ readRow s code x
-      unfolding readRow judged pick
-      read-fine h k = rw (← f, h, ← eg, ← ef, k)
-
-      pub read-value : filler ≡ true → fine ≡ false → refused 10 ≡ readRow s code x
-      unfolding readRow judged pick
-      read-value h k = rw (← f, h, ← eg, ← ef, k)
+    pub read-filled : {a : Answer Group} {g : Group} → filler ≡ true → g ≡ groupFrom code (kindsOf x) s → a ≡ judged x g → a ≡ readRow s code x
+    unfolding readRow pick
+    read-filled h eg e = rw (← f, h, ← eg) e
 
 -- And so does writing, by the length, the code's row and the values.
 module _ (g : Group) (s : List ℕ) where
@@ -204,6 +215,6 @@ module _ (g : Group) (s : List ℕ) where
     unfolding writeRow pick
     write-value k = rw (← ef, k)
 
-pub ruleset reading = (read-length, read-known, read-unknown, read-unfilled, read-fine, read-value)
+pub ruleset reading = (read-length, read-known, read-unknown, read-unfilled, read-filled)
 
 pub ruleset writing = (write-length, write-known, write-unknown, write-fine, write-value)

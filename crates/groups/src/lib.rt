@@ -3,7 +3,7 @@ ghost use mathlib.Core.Path.{_≡_};
 ghost use Prim.Native.Nat.{_≤_};
 ghost use Rattle.groups.specs.Answer.{toldFinding};
 ghost use Rattle.groups.specs.Table.{kindFrom, rowFrom, kindAt, findOf};
-ghost use Rattle.groups.specs.Format.{sizeOf, kindsOf, allowed, values, allAllowed};
+ghost use Rattle.groups.specs.Format.{sizeOf, allowed};
 
 pub mod read;
 pub mod write;
@@ -249,15 +249,4 @@ fn allows_at(place: usize, value: u16) -> bool
         PAUSE => allows(kind_of(kinds[PAUSE]), value),
         _ => allows(kind_of(kinds[NONE]), value),
     }
-}
-
-// The kinds of a row's fields allow a group's values.
-fn all_allowed(row: Row, group: Group) -> bool
-    ensures { λ r. ⌜ r ≡ allAllowed (kindsOf row) (values group) ⌝ }
-{
-    let first = allows_at(row.first, group.first);
-    let second = allows_at(row.second, group.second);
-    let third = allows_at(row.third, group.third);
-    let fourth = allows_at(row.fourth, group.fourth);
-    first & (second & (third & fourth))
 }

@@ -4,14 +4,14 @@ ghost use Prim.Native.Nat.{_≤_};
 ghost use lib.ListN.{getD, drop};
 ghost use Rattle.groups.specs.Answer.{toldReading};
 ghost use Rattle.groups.specs.Format.{kindsOf, valueOf, groupFrom, allFiller};
-ghost use Rattle.groups.specs.Reading.{readRow, readOf};
+ghost use Rattle.groups.specs.Reading.{judged, readRow, readOf};
 use crate::FILLER;
 use crate::Finding;
 use crate::Group;
 use crate::Reading;
 use crate::Row;
 use crate::Width;
-use crate::all_allowed;
+use crate::allows_at;
 use crate::find;
 use crate::size;
 use crate::width_at;
@@ -77,18 +77,29 @@ fn all_filler(bytes: &[u8], from: usize) -> bool
     true
 }
 
+// A row's group, or refusal 10 for a value. Reading and writing judge the values each for itself, so that the compiler
+// keeps them in registers in both.
+fn judged(row: Row, group: Group) -> Reading
+    ensures { λ r. ⌜ toldReading r ≡ judged row group ⌝ }
+{
+    let first = allows_at(row.first, group.first);
+    let second = allows_at(row.second, group.second);
+    let third = allows_at(row.third, group.third);
+    let fourth = allows_at(row.fourth, group.fourth);
+    if first & (second & (third & fourth)) {
+        Reading::Group(group)
+    } else {
+        Reading::Refused(10)
+    }
+}
+
 // The group of a row: refusal 9 for its filler, then 10 for a value.
 fn read_row(bytes: &[u8], code: u8, row: Row) -> Reading
     ensures { λ r. ⌜ toldReading r ≡ readRow (now (bytes .entry)) code row ⌝ }
 {
     let length = row.length;
     if all_filler(bytes, length) {
-        let group = group_at(bytes, code, row);
-        if all_allowed(row, group) {
-            Reading::Group(group)
-        } else {
-            Reading::Refused(10)
-        }
+        judged(row, group_at(bytes, code, row))
     } else {
         Reading::Refused(9)
     }

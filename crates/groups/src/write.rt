@@ -4,7 +4,7 @@ ghost use Prim.Native.Nat.{_≤_};
 ghost use lib.ListN.{set, length, replicate};
 ghost use lib.Seq.{sets};
 ghost use Rattle.groups.specs.Answer.{toldWriting};
-ghost use Rattle.groups.specs.Format.{bytesOf, values, sizesOf, kindsOf, bytesFor};
+ghost use Rattle.groups.specs.Format.{allAllowed, bytesOf, values, sizesOf, kindsOf, bytesFor};
 ghost use Rattle.groups.specs.Writing.{outcome, writeRow, writeOf};
 use crate::FILLER;
 use crate::Finding;
@@ -12,7 +12,7 @@ use crate::Group;
 use crate::Row;
 use crate::Width;
 use crate::Writing;
-use crate::all_allowed;
+use crate::allows_at;
 use crate::find;
 use crate::size;
 use crate::width_at;
@@ -72,6 +72,17 @@ fn store(bytes: &mut [u8], group: Group, row: Row)
     put(bytes, at, two, group.second);
     put(bytes, next, three, group.third);
     put(bytes, last, four, group.fourth);
+}
+
+// The kinds of a row's fields allow a group's values.
+fn all_allowed(row: Row, group: Group) -> bool
+    ensures { λ r. ⌜ r ≡ allAllowed (kindsOf row) (values group) ⌝ }
+{
+    let first = allows_at(row.first, group.first);
+    let second = allows_at(row.second, group.second);
+    let third = allows_at(row.third, group.third);
+    let fourth = allows_at(row.fourth, group.fourth);
+    first & (second & (third & fourth))
 }
 
 // A group of a row: refusal 10 for a value.

@@ -2,16 +2,17 @@
 -- Assumes nothing.
 use Prim.Native.Nat.{ℕ, zero, suc, _+_, _*_, _/_, _-_, _<_, _≤_, min}
 use mathlib.Core.Path.{_≡_, refl, sym, ap, _∙_}
-use mathlib.Core.Bool.{Bool, true, false}
+use mathlib.Core.Bool.{Bool, true, false, _&&_}
 use mathlib.Core.List.{List, [], _∷_, _++_}
 use native.Mathlib.Omega.{arith}
 use native.Mathlib.Numerals.{add-one}
 use borrow.Author.Tests.{le-leb, lt-leb, lt-ltb, le-ltb, eq-eqb, ne-eqb}
-use lib.Dec.{ltb}
+use lib.Dec.{eqb, leb, ltb}
 use lib.ListN.{length, getD, take, drop, replicate, length-take, drop-of-length-le, List·getD-eq-default}
 use lib.Seq.{drop-cons, take-suc, getD-take, length-take-le, ext-getD}
+use Rattle.frame.proofs.Choice.{pick-true, pick-false}
 use Rattle.frame.specs.Choice.{pick}
-use Rattle.frame.specs.Count.{incrementOf}
+use Rattle.frame.specs.Count.{incrementOf, wordOf}
 use Rattle.version.specs.List.{versionOf, versionsIn, rising, places, Place, nowhere, here, orElse, standing, toldFound, placeOf, placeBelow, listed, refusing, listOf}
 use Rattle.version.specs.Message.{message, refused, verdictOf, messageBytes, toldReading, readMessage}
 use Rattle.version.specs.Table.{Trigger, periodDue, successOther, successBelow2, success2, continueSame, continueLower, continueHigher, continueNone, limitDue, Entry, entryOf, chargerCell, vehicleCell, cellOf}
@@ -31,16 +32,6 @@ use Rattle.version.specs.declared.list.Found as found-enum
 use Rattle.version.specs.declared.list.Found.the-variants as found-variants
 use Rattle.version.specs.declared.table.Entry as entry-enum
 use Rattle.version.specs.declared.table.Entry.the-variants as entry-variants
-
--- ---- a choice, by the outcome of its test
-
-pick-true : {A : Type 0} {b : Bool} {a x : A} (y : A) → b ≡ true → a ≡ x → a ≡ pick b x y
-unfolding pick
-pick-true y t e = rw t e
-
-pick-false : {A : Type 0} {b : Bool} {a y : A} (x : A) → b ≡ false → a ≡ y → a ≡ pick b x y
-unfolding pick
-pick-false x t e = rw t e
 
 -- ---- lent bytes
 
@@ -275,20 +266,25 @@ module _ (s : List ℕ) where
 
 -- ---- the message
 
+-- as one word, CAN type and result are over 2 where one of them is not as it must be
+over-2 : (type result : ℕ) → 2 < wordOf result type → (eqb type 0 && leb result 2) ≡ false
+over-2 zero result h = lt-leb result 2 (omega (arith, h))
+over-2 (suc type) result h = rw (ne-eqb (suc type) 0 (λ e. omega (arith, e)))
+
 module _ (b : List ℕ) where
-  pub read-type : (getD b 0 0 ≡ 0 → ⊥) → refused 10 ≡ readMessage b
-  unfolding readMessage pick
-  read-type h = rw (ne-eqb _ _ h)
+  module _ {result : ℕ} (e : result ≡ wordOf (getD b 1 0) (getD b 0 0)) where
+    pub read-refused : 2 < result → refused 10 ≡ readMessage b
+    unfolding readMessage
+    read-refused h = pick-false _ (over-2 (getD b 0 0) (getD b 1 0) (omega (arith, e, h))) refl
 
-  pub read-result : getD b 0 0 ≡ 0 → 2 < getD b 1 0 → refused 10 ≡ readMessage b
-  unfolding readMessage pick
-  read-result z h = rw (eq-eqb _ _ z, lt-leb _ _ h)
-
-  pub read-whole : getD b 0 0 ≡ 0 → getD b 1 0 ≤ 2 → {verdict : Verdict} {version : ℕ}
-      → verdict ≡ verdictOf (getD b 1 0) → version ≡ versionOf (getD b 2 0) (getD b 3 0) (getD b 4 0)
-      → message (record { verdict = verdict; version = version; control = getD b 5 0 }) ≡ readMessage b
-  unfolding readMessage pick
-  read-whole z h v w = rw (eq-eqb _ _ z, le-leb _ _ h, v, w)
+    pub read-whole : result ≤ 2 → {verdict : Verdict} {version : ℕ}
+        → verdict ≡ verdictOf result → version ≡ versionOf (getD b 2 0) (getD b 3 0) (getD b 4 0)
+        → message (record { verdict = verdict; version = version; control = getD b 5 0 }) ≡ readMessage b
+    unfolding readMessage pick
+    read-whole h v w =
+        let z : getD b 0 0 ≡ 0 = omega (arith, e, h) in
+        let k : result ≡ getD b 1 0 = omega (arith, e, h) in
+        rw (eq-eqb _ _ z, ← k, le-leb _ _ h, v, w)
 
 -- ---- answers
 

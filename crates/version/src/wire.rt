@@ -13,6 +13,7 @@ use crate::Message;
 use crate::MessageReading;
 use crate::Verdict;
 use crate::list::number;
+use frame::count::word;
 
 fn major(version: u32) -> u8
     ensures { λ r. ⌜ r ≡ majorOf version ⌝ }
@@ -79,17 +80,16 @@ pub fn write(m: Message) -> [u8; 8]
     [0x00, result, high, middle, low, m.control, 0x01, 0xFF]
 }
 
-// The message of eight bytes, or refusal 10: CAN type not 0, or result over 2.
+// The message of eight bytes, or refusal 10: CAN type not 0, or result over 2. Both are judged as one word, which is the result
+// where the type is 0.
 pub fn read(bytes: [u8; 8]) -> MessageReading
     ensures { λ r. ⌜ toldReading r ≡ readMessage bytes ⌝ }
 {
-    if bytes[0] != 0 {
+    let result = word(bytes[1], bytes[0]);
+    if 2 < result {
         return MessageReading::Refused(10);
     }
-    if 2 < bytes[1] {
-        return MessageReading::Refused(10);
-    }
-    let verdict = verdict_of(bytes[1]);
+    let verdict = verdict_of(result as u8);
     let version = number(bytes[2], bytes[3], bytes[4]);
     MessageReading::Message(Message {
         verdict,

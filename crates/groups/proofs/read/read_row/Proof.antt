@@ -11,8 +11,8 @@ all-filler-requires c κs = search needs
 group-at-requires : tie.Need-group-at-requires
 group-at-requires c κs = search needs
 
-all-allowed-requires : tie.Need-all-allowed-requires
-all-allowed-requires c κs = search needs
+judged-requires : tie.Need-judged-requires
+judged-requires c κs = search needs
 
 returns : tie.Need-returns
 returns c = search reading
@@ -20,16 +20,6 @@ returns c = search reading
 returns-2 : tie.Need-returns-2
 returns-2 c = search reading
 
-returns-3 : tie.Need-returns-3
-returns-3 c = search reading
-
 pub read-row-spec : {M : Type 1} → statement M
 read-row-spec =
-    tie.close
-    (tie.spec
-    all-filler-requires
-    group-at-requires
-    all-allowed-requires
-    returns
-    returns-2
-    returns-3)
+    tie.close (tie.spec all-filler-requires group-at-requires judged-requires returns returns-2)

@@ -1,24 +1,25 @@
--- `version::wire::read` meets its contract. The tests are those of the definition, and so are the parts of the message.
+-- `version::wire::read` meets its contract. One word of CAN type and result is judged as the definition judges both; where
+-- the type is 0 it is the result.
 -- Assumes nothing.
 use borrow.Author.Needs.{needs}
-use Rattle.version.proofs.Laws.{read-type, read-result, read-whole}
+use Rattle.version.proofs.Laws.{read-refused, read-whole}
 use Rattle.version.proofs.wire.read.Statement.{statement}
 use Rattle.version.proofs.wire.read.Tie as tie
 
-array-read-if1 : tie.Need-array-read-if1
-array-read-if1 c = search needs
+array-read-word : tie.Need-array-read-word
+array-read-word c = search needs
+
+array-read-word-2 : tie.Need-array-read-word-2
+array-read-word-2 c = search needs
+
+word-requires : tie.Need-word-requires
+word-requires c κs = search needs
 
 returns : tie.Need-returns
-returns c = read-type _ (c .if1 .taken)
+returns c = read-refused _ (c .before .word .ensures) (c .if1 .taken)
 
-array-read-if2 : tie.Need-array-read-if2
-array-read-if2 c = search needs
-
-returns-2 : tie.Need-returns-2
-returns-2 c = read-result _ (c .before .if1 .left) (c .if2 .taken)
-
-array-read-verdict-of : tie.Need-array-read-verdict-of
-array-read-verdict-of c = search needs
+cast-verdict-of : tie.Need-cast-verdict-of
+cast-verdict-of c = search needs
 
 verdict-of-requires : tie.Need-verdict-of-requires
 verdict-of-requires c κs = search needs
@@ -35,25 +36,25 @@ array-read-number-3 c = search needs
 number-requires : tie.Need-number-requires
 number-requires c κs = search needs
 
-array-read-t7 : tie.Need-array-read-t7
-array-read-t7 c = search needs
+array-read-t11 : tie.Need-array-read-t11
+array-read-t11 c = search needs
 
-returns-3 : tie.Need-returns-3
-returns-3 c = read-whole _ (c .before .before .before .if1 .left) (c .before .before .if2 .left) (c .before .verdict-of .ensures) (c .number .ensures)
+returns-2 : tie.Need-returns-2
+returns-2 c = read-whole _ (c .before .before .before .word .ensures) (c .before .before .if1 .left) (c .before .verdict-of .ensures) (c .number .ensures)
 
 pub read-spec : {M : Type 1} → statement M
 read-spec =
     tie.close
     (tie.spec
-    array-read-if1
+    array-read-word
+    array-read-word-2
+    word-requires
     returns
-    array-read-if2
-    returns-2
-    array-read-verdict-of
+    cast-verdict-of
     verdict-of-requires
     array-read-number
     array-read-number-2
     array-read-number-3
     number-requires
-    array-read-t7
-    returns-3)
+    array-read-t11
+    returns-2)
