@@ -1,3 +1,4 @@
+pub mod Numbers
 pub mod SendPaths
 pub mod SendInverse
 pub mod ReceivePaths

@@ -1,8 +1,7 @@
 -- The receiver's translations undo each other, so a run of calls over the face is a run of the definitions, and nothing
 -- of an answer is left open.
 -- Assumes nothing.
-use Prim.Native.Nat.{ℕ, suc}
-use native.Mathlib.Omega.{arith}
+use Prim.Native.Nat.{ℕ}
 use mathlib.Core.Path.{_≡_, refl, sym, ap, _∙_}
 use Rattle.frame.specs.Choice.{pick}
 use Rattle.bench_face.specs.Receive.{connectionFrom, phaseFrom, receiverFrom, flatOf, flatPhase, flatReceiver, Written, idle, done, opened, flatOutcome, flatAnswer, flatMade, outcomeFrom, answerFrom, madeFrom}
@@ -14,10 +13,7 @@ use Rattle.receiver.specs.declared.Phase.{Phase}
 use Rattle.receiver.specs.declared.Phase.the-variants.{Idle, Done, Open}
 use Rattle.receiver.specs.declared.Receiver.{Receiver}
 use Rattle.receiver.specs.declared.Settings.{Settings}
-
--- 0 is no other number
-other : {n k : ℕ} → n ≡ 0 → n ≡ suc k → ⊥
-other p q = omega arith
+use Rattle.bench_face.proofs.Numbers.{other}
 
 phase-back : (s : Settings) (p : Phase) → receiverFrom (flatPhase s p) ≡ record { settings = s; phase = p }
 unfolding flatPhase phaseFrom pick

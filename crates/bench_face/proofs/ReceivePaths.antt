@@ -1,11 +1,10 @@
 -- The receiver over C's layouts: a law for each path through the code.
 -- Assumes nothing.
 use Prim.Native.Nat.{ℕ}
-use mathlib.Core.Path.{_≡_, ap}
+use mathlib.Core.Path.{_≡_}
 use mathlib.Core.Bool.{true, false}
 use mathlib.Core.List.{List}
 use borrow.Author.Tests.{ne-eqb}
-use lib.Dec.{eqb}
 use Rattle.frame.specs.Choice.{pick}
 use Rattle.frame.specs.declared.Frame.{Frame}
 use Rattle.bench_face.specs.Frames.{frameFrom, flatFrame}
@@ -28,12 +27,9 @@ use Rattle.receiver.specs.declared.Outcome.the-variants as outcome-variants
 use Rattle.receiver.specs.declared.Phase.{Phase}
 use Rattle.receiver.specs.declared.Phase.the-variants.{Idle, Done, Open}
 use Rattle.receiver.specs.declared.Receiver.{Receiver}
+use Rattle.bench_face.proofs.Numbers.{test}
 
 -- ---- reading, by the phase's number
-
--- a test of a number that is known
-test : {n k : ℕ} (j : ℕ) → n ≡ k → eqb n j ≡ eqb k j
-test j e = ap (λ (n : ℕ). eqb n j) e
 
 module _ (r : FlatReceiver) where
   pub reads-done : r .phase ≡ 1 → Done (record { frames = r .frames; length = r .length }) ≡ phaseFrom r

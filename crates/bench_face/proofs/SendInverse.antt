@@ -1,8 +1,7 @@
 -- The sender's translations undo each other, so a run of calls over the face is a run of the definitions, and nothing of
 -- an answer is left open.
 -- Assumes nothing.
-use Prim.Native.Nat.{ℕ, suc}
-use native.Mathlib.Omega.{arith}
+use Prim.Native.Nat.{ℕ}
 use mathlib.Core.Path.{_≡_, refl, sym, ap, _∙_}
 use Rattle.frame.specs.Choice.{pick}
 use Rattle.bench_face.specs.Send.{transferFrom, phaseFrom, senderFrom, flatOf, flatPhase, flatSender, windowFrom, Written, idle, opening, sending, waiting, short, flatOutcome, flatAnswer, flatMade, outcomeFrom, answerFrom, madeFrom}
@@ -15,10 +14,7 @@ use Rattle.sender.specs.declared.Phase.{Phase}
 use Rattle.sender.specs.declared.Phase.the-variants.{Idle, Opening, Sending, Waiting, Short}
 use Rattle.sender.specs.declared.Sender.{Sender}
 use Rattle.sender.specs.declared.Settings.{Settings}
-
--- 0 is no other number
-other : {n k : ℕ} → n ≡ 0 → n ≡ suc k → ⊥
-other p q = omega arith
+use Rattle.bench_face.proofs.Numbers.{other}
 
 phase-back : (r : Settings) (p : Phase) → senderFrom (flatPhase r p) ≡ record { settings = r; phase = p }
 unfolding flatPhase phaseFrom pick

@@ -1,11 +1,10 @@
 -- The sender over C's layouts: a law for each path through the code, and the translations undo each other.
 -- Assumes nothing.
 use Prim.Native.Nat.{ℕ}
-use mathlib.Core.Path.{_≡_, ap}
+use mathlib.Core.Path.{_≡_}
 use mathlib.Core.Bool.{true, false}
 use mathlib.Core.List.{List}
 use borrow.Author.Tests.{ne-eqb}
-use lib.Dec.{eqb}
 use Rattle.frame.specs.Choice.{pick}
 use Rattle.frame.specs.declared.Frame.{Frame}
 use Rattle.bench_face.specs.Frames.{frameFrom, flatFrame}
@@ -33,12 +32,9 @@ use Rattle.sender.specs.declared.Sender.{Sender}
 use Rattle.sender.specs.declared.Single.{Single}
 use Rattle.sender.specs.declared.Streamed.{Streamed}
 use Rattle.sender.specs.declared.Transfer.{Transfer}
+use Rattle.bench_face.proofs.Numbers.{test}
 
 -- ---- reading, by the phase's number
-
--- the number is this one, and so no other
-test : {n k : ℕ} (j : ℕ) → n ≡ k → eqb n j ≡ eqb k j
-test j e = ap (λ (n : ℕ). eqb n j) e
 
 module _ (s : FlatSender) (t : Transfer) (known : t ≡ transferFrom s) where
   pub reads-opening : s .phase ≡ 1

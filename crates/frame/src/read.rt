@@ -20,7 +20,7 @@ fn named(kind: u8, number: u8) -> usize
 }
 
 // Every byte from a place on is filler.
-fn all_filler(bytes: &[u8], from: usize) -> bool
+pub fn all_filler(bytes: &[u8], from: usize) -> bool
     ensures { λ r. ⌜ r ≡ allFiller (drop from (now (bytes .entry))) ⌝ }
 {
     let mut i = from;

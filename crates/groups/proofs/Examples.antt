@@ -6,7 +6,8 @@ use mathlib.Core.Path.{_≡_, refl}
 use mathlib.Core.List.{List, [], _∷_, map}
 use Rattle.groups.specs.Answer.{Answer, given, refused}
 use Rattle.frame.specs.Choice.{pick}
-use Rattle.groups.specs.Format.{values, allowed, groupFrom, allFiller}
+use Rattle.frame.specs.Reading.{allFiller}
+use Rattle.groups.specs.Format.{values, allowed, groupFrom}
 use Rattle.groups.specs.Reading.{judged, readRow, readBy, readOf}
 use Rattle.groups.specs.Table.{kindLines, groupLines, kindAt, findIn, findOf}
 use Rattle.groups.specs.declared.Group.{Group}

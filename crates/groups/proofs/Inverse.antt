@@ -4,7 +4,7 @@
 -- Assumes nothing.
 use Prim.Native.Nat.{ℕ, zero, suc, _+_, _-_, _*_, _/_, _%_, _≤_, _<_}
 use mathlib.Core.Path.{_≡_, refl, sym, ap, _∙_, subst}
-use mathlib.Core.Bool.{Bool, true, false, and-eq-true-iff}
+use mathlib.Core.Bool.{Bool, true, false}
 use mathlib.Core.List.{List, [], _∷_, _++_, append-assoc}
 use native.Mathlib.Omega.{arith}
 use borrow.Author.Tests.{eq-eqb, eqb-true}
@@ -12,8 +12,10 @@ use lib.Dec.{eqb}
 use lib.ListN.{length, getD, take, drop, replicate, length-append, length-drop, length-replicate, take-append-drop}
 use lib.Seq.{drop-at, drop-drop, getD-drop, take-add, drop-cons}
 use Rattle.groups.specs.Answer.{Answer, given, refused, toldFinding, toldReading, toldWriting}
+use Rattle.frame.proofs.Inverse.{filled}
 use Rattle.frame.specs.Choice.{pick}
-use Rattle.groups.specs.Format.{sizeOf, sizesOf, kindsOf, values, allAllowed, valueOf, valuesOf, bytesOf, fieldsOf, groupOf, groupFrom, bytesFor, allFiller}
+use Rattle.frame.specs.Reading.{allFiller}
+use Rattle.groups.specs.Format.{sizeOf, sizesOf, kindsOf, values, allAllowed, valueOf, valuesOf, bytesOf, fieldsOf, groupOf, groupFrom, bytesFor}
 use Rattle.groups.specs.Reading.{judged, readRow, readBy, readOf}
 use Rattle.groups.specs.Table.{findOf}
 use Rattle.groups.specs.Writing.{Outcome, outcome, writeRow, writeBy, writeOf}
@@ -113,15 +115,6 @@ filler-passes : (n : ℕ) → allFiller (replicate n 255) ≡ true
 unfolding allFiller
 filler-passes zero = refl
 filler-passes (suc n) = filler-passes n
-
-passed-filler : (s : List ℕ) → allFiller s ≡ true → s ≡ replicate (length s) 255
-unfolding allFiller
-passed-filler [] h = refl
-passed-filler (b ∷ s) h =
-    let both = and-eq-true-iff (eqb b 255) (allFiller s) .0 h in
-    let head : b ≡ 255 = eqb-true b 255 (both .0) in
-    let tail : s ≡ replicate (length s) 255 = passed-filler s (both .1) in
-    cc
 
 -- What a group that is read went through, one by one; and that is all that reading asks.
 record Read (s : List ℕ) (g : Group) : Type 0 where
@@ -243,7 +236,7 @@ read-bytes s x eight bytes found filler =
     let after : drop (x .length) s ≡ drop (sizesOf ks) r = at-length (sizesOf ks) (x .length) (row .filled) s in
     let left : length (drop (sizesOf ks) r) ≡ 7 - sizesOf ks = rw (length-drop (sizesOf ks) r, long) in
     let rest : drop (sizesOf ks) r ≡ replicate (7 - sizesOf ks) 255 =
-    passed-filler _ (sym (ap allFiller after) ∙ filler) ∙ ap (λ (n : ℕ). replicate n 255) left in
+    filled _ (sym (ap allFiller after) ∙ filler) ∙ ap (λ (n : ℕ). replicate n 255) left in
     let cut : getD s 0 0 ∷ r ≡ s = sym (drop-cons s 0 0 (omega arith)) in
     rw (fields, ← rest, take-append-drop (sizesOf ks) r) cut
 

@@ -9,11 +9,12 @@ use native.Mathlib.Nat.{add-zero, sub-zero, zero-sub, suc-sub-suc}
 use native.Mathlib.Numerals.{add-one}
 use borrow.Author.Tests.{eq-eqb, ne-eqb}
 use lib.ListN.{length, getD, drop, set, replicate, length-append, length-drop, drop-of-length-le, List·getD-eq-default}
-use lib.Seq.{sets, sets-eq, drop-cons, drop-drop, getD-drop, take-append-seam, drop-append-add}
+use lib.Seq.{sets, sets-eq, drop-drop, getD-drop, take-append-seam, drop-append-add}
 use Rattle.groups.specs.Answer.{Answer, given, refused, toldFinding}
 use Rattle.frame.proofs.Choice.{pick-true, pick-false}
 use Rattle.frame.specs.Choice.{pick}
-use Rattle.groups.specs.Format.{sizeOf, sizesOf, valueOf, bytesOf, fieldsOf, groupOf, groupFrom, bytesFor, kindsOf, values, allowed, allAllowed, allFiller}
+use Rattle.frame.specs.Reading.{allFiller}
+use Rattle.groups.specs.Format.{sizeOf, sizesOf, valueOf, bytesOf, fieldsOf, groupOf, groupFrom, bytesFor, kindsOf, values, allowed, allAllowed}
 use Rattle.groups.specs.Reading.{judged, readRow, readBy, readOf}
 use Rattle.groups.specs.Table.{kindLines, kindFrom, noField, kindAt, findOf}
 use Rattle.groups.specs.Writing.{Outcome, outcome, writeRow, writeBy, writeOf}
@@ -42,20 +43,6 @@ pub kind-none : (place : ℕ) → (0 < place → length kindLines ≤ place) →
 unfolding kindAt kindLines
 kind-none zero past = refl
 kind-none (suc i) past = rw (List·getD-eq-default kindLines noField (past (omega arith)))
-
--- Judging filler from place i on: it goes on past 0xFF, stops at another byte, and passes at the end.
-module _ (s : List ℕ) (i : ℕ) where
-  pub filler-on : i < length s → getD s i 0 ≡ 255 → allFiller (drop i s) ≡ allFiller (drop (i + 1) s)
-  unfolding allFiller
-  filler-on h e = rw (add-one, drop-cons s i 0 h, e)
-
-  pub filler-stops : i < length s → (getD s i 0 ≡ 255 → ⊥) → allFiller (drop i s) ≡ false
-  unfolding allFiller
-  filler-stops h e = rw (drop-cons s i 0 h, ne-eqb _ _ e)
-
-  pub filler-ends : length s ≤ i → allFiller (drop i s) ≡ true
-  unfolding allFiller
-  filler-ends h = rw (drop-of-length-le s h)
 
 -- The value of a field at a place, from its bytes there.
 pub value-byte : (w : Width) (s : List ℕ) (at a : ℕ) → w ≡ Byte → a ≡ getD s at 0 → a ≡ valueOf w (drop at s)

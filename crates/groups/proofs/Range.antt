@@ -12,7 +12,8 @@ use lib.Dec.{eqb, leb}
 use lib.ListN.{length, getD, drop}
 use Rattle.groups.specs.Answer.{Answer, given, refused}
 use Rattle.frame.specs.Choice.{pick}
-use Rattle.groups.specs.Format.{kindsOf, values, allowed, allAllowed, groupFrom, bytesFor, allFiller}
+use Rattle.frame.specs.Reading.{allFiller}
+use Rattle.groups.specs.Format.{kindsOf, values, allowed, allAllowed, groupFrom, bytesFor}
 use Rattle.groups.specs.Reading.{judged, readRow, readBy, readOf}
 use Rattle.groups.specs.Table.{kindLines, groupLines, rowFrom, kindAt, findOf}
 use Rattle.groups.specs.Writing.{Outcome, outcome, writeRow, writeBy, writeOf}

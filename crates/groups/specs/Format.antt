@@ -69,8 +69,3 @@ groupFrom code ks s = groupOf code (valuesOf ks (drop 1 s))
 
 unfoldable pub bytesFor : ℕ → List Kind → List ℕ → List ℕ
 bytesFor code ks vs = code ∷ fieldsOf ks vs ++ replicate (7 - sizesOf ks) 255
-
--- every byte is 0xFF
-unfoldable pub allFiller : List ℕ → Bool
-allFiller [] = true
-allFiller (b ∷ s) = eqb b 255 && allFiller s

@@ -5,7 +5,8 @@ use lib.Dec.{eqb}
 use lib.ListN.{length, getD, drop}
 use Rattle.groups.specs.Answer.{Answer, given, refused}
 use Rattle.frame.specs.Choice.{pick}
-use Rattle.groups.specs.Format.{kindsOf, values, allAllowed, groupFrom, allFiller}
+use Rattle.frame.specs.Reading.{allFiller}
+use Rattle.groups.specs.Format.{kindsOf, values, allAllowed, groupFrom}
 use Rattle.groups.specs.Table.{findOf}
 use Rattle.groups.specs.declared.Group.{Group}
 use Rattle.groups.specs.declared.Row.{Row}

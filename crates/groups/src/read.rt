@@ -3,9 +3,8 @@ ghost use mathlib.Core.Path.{_≡_};
 ghost use Prim.Native.Nat.{_≤_};
 ghost use lib.ListN.{getD, drop};
 ghost use Rattle.groups.specs.Answer.{toldReading};
-ghost use Rattle.groups.specs.Format.{kindsOf, valueOf, groupFrom, allFiller};
+ghost use Rattle.groups.specs.Format.{kindsOf, valueOf, groupFrom};
 ghost use Rattle.groups.specs.Reading.{judged, readRow, readOf};
-use crate::FILLER;
 use crate::Finding;
 use crate::Group;
 use crate::Reading;
@@ -15,6 +14,7 @@ use crate::allows_at;
 use crate::find;
 use crate::size;
 use crate::width_at;
+use frame::read::all_filler;
 
 // The byte at a place, 0 past the end.
 fn byte_at(bytes: &[u8], at: usize) -> u16
@@ -63,20 +63,6 @@ fn group_at(bytes: &[u8], code: u8, row: Row) -> Group
     }
 }
 
-// Every byte from a place on is filler.
-fn all_filler(bytes: &[u8], from: usize) -> bool
-    ensures { λ r. ⌜ r ≡ allFiller (drop from (now (bytes .entry))) ⌝ }
-{
-    let mut i = from;
-    while i < bytes.len() {
-        if bytes[i] != FILLER {
-            return false;
-        }
-        i += 1;
-    }
-    true
-}
-
 // A row's group, or refusal 10 for a value. Reading and writing judge the values each for itself, so that the compiler
 // keeps them in registers in both.
 fn judged(row: Row, group: Group) -> Reading
@@ -97,8 +83,7 @@ fn judged(row: Row, group: Group) -> Reading
 fn read_row(bytes: &[u8], code: u8, row: Row) -> Reading
     ensures { λ r. ⌜ toldReading r ≡ readRow (now (bytes .entry)) code row ⌝ }
 {
-    let length = row.length;
-    if all_filler(bytes, length) {
+    if all_filler(bytes, row.length) {
         judged(row, group_at(bytes, code, row))
     } else {
         Reading::Refused(9)

@@ -1,12 +1,12 @@
 -- Document 01, Frames: every frame that an end answers with has "eight data bytes", and so has every short delivery of a
 -- frame of eight, whatever the end's state.
 -- Assumes nothing.
-use Prim.Native.Nat.{ℕ, zero, suc}
-use mathlib.Core.List.{List, [], _∷_}
+use Prim.Native.Nat.{ℕ, suc}
+use mathlib.Core.List.{List}
 use mathlib.Core.Path.{_≡_, refl, ap}
 use lib.ListN.{length}
 use Rattle.frame.proofs.Choice.{pick-elim, read-elim}
-use Rattle.frame.specs.Frames.{fillTo, blankOf, announcementOf, informationOf, lmAckOf, lmNackOf, endOfAckOf, smRmOf, smAckOf}
+use Rattle.frame.specs.Frames.{blankOf, announcementOf, informationOf, lmAckOf, lmNackOf, endOfAckOf, smRmOf, smAckOf}
 use Rattle.frame.specs.Reading.{Judgement}
 use Rattle.frame.specs.declared.Frame.{Frame}
 use Rattle.receiver.specs.Hear as hearing
@@ -25,12 +25,7 @@ use Rattle.sender.specs.declared.Phase.{Phase}
 use Rattle.sender.specs.declared.Phase.the-variants.{Idle, Opening, Sending, Waiting, Short}
 use Rattle.sender.specs.declared.Sender.{Sender}
 use Rattle.sender.specs.declared.Transfer.{Transfer}
-
-length-fill : (n : ℕ) (given : List ℕ) → length (fillTo n given) ≡ n
-unfolding fillTo
-length-fill zero given = refl
-length-fill (suc n) [] = ap suc (length-fill n [])
-length-fill (suc n) (b ∷ given) = ap suc (length-fill n given)
+use Rattle.transport.proofs.Pieces.{length-fill}
 
 -- ---- the sender
 
