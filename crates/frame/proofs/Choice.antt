@@ -1,7 +1,7 @@
 -- How a fact is shown of a choice: by its test's outcome, or on each side with the outcome in hand.
 -- Assumes nothing.
 use mathlib.Core.Path.{_≡_, refl}
-use mathlib.Core.Bool.{Bool, true, false}
+use mathlib.Core.Bool.{Bool, true, false, _&&_, _||_, false≢true, true≢false}
 use Rattle.frame.specs.Choice.{pick}
 use Rattle.frame.specs.Reading.{Judgement, accepted, refused, readOf}
 use Rattle.frame.specs.declared.Frame.{Frame}
@@ -24,3 +24,21 @@ pick-elim P false f g = g refl
 pub read-elim : (P : Judgement → Type 0) (f : Frame) → P (accepted (f .kind)) → P (refused 6) → P (readOf f)
 unfolding readOf
 read-elim P f whole bad = pick-elim P _ (λ known. pick-elim P _ (λ clean. whole) (λ dirty. bad)) (λ unknown. bad)
+
+-- the two halves of a test that passed
+pub both-left : (a b : Bool) → (a && b) ≡ true → a ≡ true
+both-left true b e = refl
+both-left false b e = e
+
+pub both-right : (a b : Bool) → (a && b) ≡ true → b ≡ true
+both-right true b e = e
+both-right false b e = absurd (false≢true e)
+
+-- the two halves of a test either of which would have passed
+pub neither-left : (a b : Bool) → (a || b) ≡ false → a ≡ false
+neither-left true b e = e
+neither-left false b e = refl
+
+pub neither-right : (a b : Bool) → (a || b) ≡ false → b ≡ false
+neither-right true b e = absurd (true≢false e)
+neither-right false b e = e

@@ -4,12 +4,13 @@ use Prim.Native.Nat.{ℕ, zero, suc, _+_, _*_, _<_, _≤_}
 use mathlib.Core.Path.{_≡_, refl, sym, ap, _∙_}
 use mathlib.Core.Bool.{Bool, true, false}
 use mathlib.Core.List.{List, [], _∷_}
+use native.Mathlib.Nat.{le-of-suc-le-suc, not-suc-le-zero}
 use native.Mathlib.Omega.{arith}
 use native.Mathlib.Numerals.{add-one}
 use borrow.Author.Tests.{le-leb, lt-leb, ne-eqb}
-use lib.ListN.{length, getD, drop, drop-of-length-le, List·getD-eq-default}
+use lib.ListN.{length, getD, take, drop, drop-of-length-le, List·getD-eq-default}
 use lib.Seq.{drop-cons}
-use Rattle.frame.specs.Count.{frameCountOf, lowByte, highByte, wordOf}
+use Rattle.frame.specs.Count.{frameCountOf, incrementOf, lowByte, highByte, wordOf}
 use Rattle.frame.specs.Choice.{pick}
 use Rattle.frame.specs.Frames.{byteOf, fillTo}
 use Rattle.frame.specs.Reading.{accepted, refused, namedOf, allFiller, readOf}
@@ -19,6 +20,11 @@ use Rattle.frame.specs.declared.Frame.{Frame}
 pub frame-count-bounds : (l : ℕ) → (l ≤ 7 * frameCountOf l) × (7 * frameCountOf l < l + 7)
 unfolding frameCountOf
 frame-count-bounds l = omega arith
+
+-- A count that is not held back grows by 1.
+pub increment-is : (n : ℕ) → n < 65535 → incrementOf n ≡ n + 1
+unfolding incrementOf
+increment-is n h = omega arith
 
 -- A word below 65536 is the word of its two bytes, and the two bytes of a word are those that it was made of.
 pub word-whole : (w : ℕ) → w < 65536 → wordOf (lowByte w) (highByte w) ≡ w
@@ -68,6 +74,21 @@ fill-whole zero [] h = refl
 fill-whole zero (b ∷ s) h = absurd (omega arith)
 fill-whole (suc n) [] h = absurd (omega arith)
 fill-whole (suc n) (b ∷ s) h = ap (λ (l : List ℕ). b ∷ l) (fill-whole n s (omega arith))
+
+-- Filling gives that many bytes, and within what is given it changes nothing.
+pub length-fill : (n : ℕ) (given : List ℕ) → length (fillTo n given) ≡ n
+unfolding fillTo
+length-fill zero given = refl
+length-fill (suc n) [] = ap suc (length-fill n [])
+length-fill (suc n) (b ∷ given) = ap suc (length-fill n given)
+
+pub take-fill : (k n : ℕ) (given : List ℕ) → k ≤ n → k ≤ length given → take k (fillTo n given) ≡ take k given
+unfolding fillTo
+take-fill zero n given h g = refl
+take-fill (suc k) zero given h g = absurd (not-suc-le-zero h)
+take-fill (suc k) (suc n) [] h g = absurd (not-suc-le-zero g)
+take-fill (suc k) (suc n) (b ∷ given) h g =
+    ap (λ (l : List ℕ). b ∷ l) (take-fill k n given (le-of-suc-le-suc h) (le-of-suc-le-suc g))
 
 -- Judging filler from place i on: it goes on past 0xFF, stops at another byte, and passes at the end.
 pub filler-on : (s : List ℕ) (i : ℕ) → i < length s → getD s i 0 ≡ 255 → allFiller (drop i s) ≡ allFiller (drop (i + 1) s)

@@ -1,4 +1,5 @@
 pub mod Choice
+pub mod Result
 pub mod Count
 pub mod Frames
 pub mod Reading

@@ -11,42 +11,29 @@ use lib.Dec.{eqb}
 use lib.ListN.{length, getD, take, drop, length-take, length-drop, drop-of-length-le}
 use lib.Seq.{drop-cons, drop-drop, take-all, take-nil}
 use Rattle.frame.proofs.Choice.{pick-true, pick-false}
-use Rattle.line.specs.Ring.{emptyOf}
-use Rattle.line.specs.declared.Ring.{Ring}
 use Rattle.pack.specs.Pack.{Contents, held, toldReading, messageOf, eventsOf, bodiesOf}
 use Rattle.pack.specs.declared.Bodies.{Bodies}
 use Rattle.pack.specs.declared.Reading.{Reading}
 use Rattle.pack.specs.declared.Reading.the-variants as reading-variants
 use Rattle.pack.specs.declared.Reading.the-variants.{Pack}
 use Rattle.player.specs.Calls as calls
-use Rattle.player.specs.Calls.{Opened, unready, toldOpening, openedAt, openOf, progressed, playing, nextEvents, playOf}
-use Rattle.player.specs.Played.{startBegin, startEnds, startBodies, startOf}
-use Rattle.player.specs.State.{worldOf, Turned, turned, printed, turnOf}
-use Rattle.player.specs.Step.{playerStep, turnFor, eventsFrom, worldAfter}
+use Rattle.player.specs.Calls.{Opened, ready, unready, toldOpening, playerFor, openedAt, openOf, progressed, playing, nextEvents, playOf}
+use Rattle.player.specs.Played.{startEnds, startBodies, startOf}
+use Rattle.player.specs.State.{Turned, turned, printed, turnOf}
+use Rattle.transport.specs.Capped.{cappedStep}
+use Rattle.delivery.specs.Turns.{turnFor, eventsFrom, worldAfter}
 use Rattle.player.specs.Text.{eventText, textOf}
-use Rattle.player.specs.declared.Ends.{Ends}
-use Rattle.player.specs.declared.Opening.the-variants.{Ready}
 use Rattle.player.specs.declared.Player.{Player}
 use Rattle.player.specs.declared.Progress.{Progress}
-use Rattle.receiver.specs.Tick as receiver-making
-use Rattle.receiver.specs.Told as receiver
-use Rattle.receiver.specs.declared.Made as receiver-enum
-use Rattle.receiver.specs.declared.Made.the-variants as receiver-made
-use Rattle.receiver.specs.declared.Receiver.{Receiver}
-use Rattle.sender.specs.Begin as sender-making
-use Rattle.sender.specs.Begin.{beginOf}
-use Rattle.sender.specs.Told as sender
-use Rattle.sender.specs.declared.Answer.{Answer}
-use Rattle.sender.specs.declared.Made as sender-enum
-use Rattle.sender.specs.declared.Made.the-variants as sender-made
-use Rattle.sender.specs.declared.Outcome.{Outcome}
-use Rattle.sender.specs.declared.Outcome.the-variants as outcome-variants
-use Rattle.sender.specs.declared.Outcome.the-variants.{Quiet, Sent, Failed}
-use Rattle.sender.specs.declared.Sender.{Sender}
 use Rattle.text.proofs.Laws.{put-append}
 use Rattle.text.specs.Page.{Page, page, put}
-use Rattle.transport.proofs.Choices.{both-left, both-right}
+use Rattle.frame.proofs.Choice.{both-left, both-right}
+use Rattle.transport.specs.Answer.{worldOf}
+use Rattle.transport.specs.Make.{toldMade, makeOf}
 use Rattle.transport.specs.World.{World, begin}
+use Rattle.transport.specs.declared.Ends.{Ends}
+use Rattle.transport.specs.declared.Made as made-enum
+use Rattle.transport.specs.declared.Made.the-variants as made-variants
 
 -- ---- a part of a pack
 
@@ -93,83 +80,22 @@ plays-none w m events i number p {y} all e = subst (λ (rest : List ℕ). playin
 
 -- ---- opening a pack
 
-pub made-ready : (s : Sender) (r : Receiver) (b : Bodies) (empty : Ring) → empty ≡ emptyOf
-    → toldOpening (Ready (record { ends = record { sender = s; receiver = r; forward = empty; back = empty }; bodies = b; played = 0 }))
-    ≡ openedAt (startBegin sender.quiet s r b)
-made-ready s r b empty e = rw e refl
-
--- what the begin's outcome starts
-module _ (bytes m : List ℕ) (b : Bodies) (s : Sender) (r : Receiver) (a : Answer) where
-  outcome-starts : (o : Outcome) (x : Opened)
-      → m ≡ take (b .message) (drop 23 bytes)
-      → sender.told a ≡ beginOf s m
-      → a .outcome ≡ o
-      → x ≡ openedAt (startBegin (sender.toldOutcome o) s r b)
-      → x ≡ openedAt (startEnds bytes b (sender.made s) (receiver.made r))
-  unfolding startEnds messageOf
-  outcome-starts o x part told same h =
-      h
-      ∙ ap (λ (y : sender.Outcome). openedAt (startBegin y s r b)) (ap sender.toldOutcome (sym same) ∙ ap (λ (t : sender.Told). t .outcome) told)
-      ∙ ap (λ (l : List ℕ). openedAt (startBegin (beginOf s l .outcome) s r b)) part
-
-  pub starts-quiet : (x : Opened)
-      → m ≡ take (b .message) (drop 23 bytes)
-      → sender.told a ≡ beginOf s m
-      → a .outcome ≡ Quiet
-      → x ≡ openedAt (startBegin sender.quiet s r b)
-      → x ≡ openedAt (startEnds bytes b (sender.made s) (receiver.made r))
-  starts-quiet = outcome-starts Quiet
-
-  pub starts-refused : (number : ℕ)
-      → m ≡ take (b .message) (drop 23 bytes)
-      → sender.told a ≡ beginOf s m
-      → a .outcome ≡ outcome-variants.Refused number
-      → unready number ≡ openedAt (startEnds bytes b (sender.made s) (receiver.made r))
-  starts-refused number part told same = outcome-starts (outcome-variants.Refused number) (unready number) part told same refl
-
-  pub starts-sent : (x : Opened) (ticks frames : ℕ)
-      → m ≡ take (b .message) (drop 23 bytes)
-      → sender.told a ≡ beginOf s m
-      → a .outcome ≡ Sent ticks frames
-      → x ≡ openedAt (startBegin sender.quiet s r b)
-      → x ≡ openedAt (startEnds bytes b (sender.made s) (receiver.made r))
-  starts-sent x ticks frames = outcome-starts (Sent ticks frames) x
-
-  pub starts-failed : (x : Opened) (cause ticks frames : ℕ)
-      → m ≡ take (b .message) (drop 23 bytes)
-      → sender.told a ≡ beginOf s m
-      → a .outcome ≡ Failed cause ticks frames
-      → x ≡ openedAt (startBegin sender.quiet s r b)
-      → x ≡ openedAt (startEnds bytes b (sender.made s) (receiver.made r))
-  starts-failed x cause ticks frames = outcome-starts (Failed cause ticks frames) x
-
-pub ruleset starts = (starts-quiet, starts-refused, starts-sent, starts-failed)
-
 -- what making the ends starts
-module _ (bytes : List ℕ) (b : Bodies) (made : sender-enum.Made) (answered : receiver-enum.Made)
-    (e : sender.toldMade made ≡ sender-making.makeOf (b .settings .gap) (b .settings .timeout) (b .settings .limit))
-    (d : receiver.toldMade answered ≡ receiver-making.makeOf (b .settings .patience) (b .settings .window) (b .settings .capacity))
+module _ (bytes m : List ℕ) (b : Bodies) (answered : made-enum.Made)
+    (part : m ≡ take (b .message) (drop 23 bytes))
+    (e : toldMade answered ≡ makeOf (b .settings .gap) (b .settings .timeout) (b .settings .limit) (b .settings .patience) (b .settings .window) (b .settings .capacity) m)
   where
-    made-starts : (x : Opened) → x ≡ openedAt (startEnds bytes b (sender.toldMade made) (receiver.toldMade answered))
-        → x ≡ openedAt (startBodies bytes (held b))
-    unfolding startBodies
-    made-starts x h = h ∙ rw (e, d) refl
+    made-starts : (x : Opened) → x ≡ openedAt (startEnds b (toldMade answered)) → x ≡ openedAt (startBodies bytes (held b))
+    unfolding startBodies messageOf
+    made-starts x h = h ∙ rw (e, part) refl
 
-    pub made-unmade : (number : ℕ) → made ≡ sender-made.Refused number → unready number ≡ openedAt (startBodies bytes (held b))
-    unfolding startEnds
-    made-unmade number m = made-starts (unready number) (rw m refl)
+    pub made-refused : (number : ℕ) → answered ≡ made-variants.Refused number → unready number ≡ openedAt (startBodies bytes (held b))
+    made-refused number k = made-starts (unready number) (rw k refl)
 
-    pub made-no-receiver : (s : Sender) (number : ℕ) → made ≡ sender-made.End s → answered ≡ receiver-made.Refused number
-        → unready number ≡ openedAt (startBodies bytes (held b))
-    unfolding startEnds
-    made-no-receiver s number m n = made-starts (unready number) (rw (m, n) refl)
+    pub made-ready : (ends : Ends) → answered ≡ made-variants.Ready ends → ready (playerFor ends b) ≡ openedAt (startBodies bytes (held b))
+    made-ready ends k = made-starts (ready (playerFor ends b)) (rw k refl)
 
-    pub made-both : (x : Opened) (s : Sender) (r : Receiver) → made ≡ sender-made.End s → answered ≡ receiver-made.End r
-        → x ≡ openedAt (startEnds bytes b (sender.made s) (receiver.made r))
-        → x ≡ openedAt (startBodies bytes (held b))
-    made-both x s r m n h = made-starts x (rw (m, n) h)
-
-pub ruleset makings = (made-unmade, made-no-receiver, made-both)
+pub ruleset makings = (made-refused, made-ready)
 
 -- what reading the pack starts
 pub read-held : (bytes : List ℕ) (reading : Reading) (b : Bodies) (x : Opened)
@@ -233,7 +159,7 @@ pub begin-there : (bytes m forward forward′ out out′ : List ℕ) (q : Player
     → m ≡ take (q .bodies .message) (drop 23 bytes)
     → ((back buffer : List ℕ)
     → turned (worldOf ends forward′ back buffer) (page out′ at)
-    ≡ printed (playerStep (worldOf (q .ends) forward back buffer) (begin m)) 0 (page out 0))
+    ≡ printed (cappedStep (worldOf (q .ends) forward back buffer) (begin m)) 0 (page out 0))
     → After x ends at (q .bodies) (q .played)
     → (back buffer : List ℕ)
     → progressed (turned (worldOf (x .player .ends) forward′ back buffer) (page out′ (x .written))) (x .player .bodies) (x .player .played)
@@ -242,7 +168,7 @@ unfolding calls.beginOf messageOf
 begin-there bytes m forward forward′ out out′ q x ends at e t part step a back buffer =
     after-step x ends at (q .played) (q .bodies) forward′ back buffer out′ a
     ∙ ap (λ (y : Turned). progressed y (q .bodies) (q .played))
-    (pick-true _ (sym e ∙ t) (step back buffer ∙ ap (λ (l : List ℕ). printed (playerStep (worldOf (q .ends) forward back buffer) (begin l)) 0 (page out 0)) part))
+    (pick-true _ (sym e ∙ t) (step back buffer ∙ ap (λ (l : List ℕ). printed (cappedStep (worldOf (q .ends) forward back buffer) (begin l)) 0 (page out 0)) part))
 
 abbrev Unchanged : Progress → Player → Type 0
 Unchanged x q = (x .player ≡ q) × (x .written ≡ 0)

@@ -1,4 +1,3 @@
-pub mod Demand
 pub mod Turns
 pub mod Calls
 pub mod Bounds

@@ -2,7 +2,7 @@
 -- page, so the page holds it whole.
 -- Assumes nothing.
 use Prim.Native.Nat.{ℕ, zero, suc, _+_, _-_, _≤_, min}
-use mathlib.Core.Path.{_≡_, refl, sym, ap, _∙_}
+use mathlib.Core.Path.{_≡_, refl, sym, ap, subst, _∙_}
 use mathlib.Core.Bool.{true, _&&_}
 use mathlib.Core.List.{List, [], _∷_, _++_, append-assoc}
 use native.Mathlib.Nat.{add-zero}
@@ -12,20 +12,26 @@ use lib.Dec.{eqb}
 use lib.ListN.{length, take, drop, length-take, length-drop, drop-of-length-le, take-append-drop}
 use lib.Seq.{take-at, drop-drop}
 use Rattle.frame.proofs.Choice.{pick-true}
-use Rattle.line.specs.Ring.{frameAt, framesFrom, framesIn}
 use Rattle.pack.proofs.Laws.{length-events, read-most, read-whole}
-use Rattle.pack.specs.Pack.{messageOf, eventsOf}
-use Rattle.player.proofs.Bounds.{AllEight, Whole, little, text-fits}
+use Rattle.pack.specs.Pack as pack
+use Rattle.pack.specs.Pack.{Contents, held, bodiesOf, messageOf, eventsOf}
+use Rattle.pack.specs.declared.Bodies.{Bodies}
+use Rattle.player.proofs.Bounds.{event-short, text-fits}
 use Rattle.player.specs.Calls.{playerFor, Progressed, progressed, beginOf, playing, nextEvents, playOf}
-use Rattle.player.specs.Claim.{runFrom}
-use Rattle.player.specs.Played.{startOf, zeros, playedStart, played}
-use Rattle.player.specs.State.{worldOf, Turned, printed}
-use Rattle.player.specs.Step.{playerStep, turnFor, eventsFrom, worldAfter}
+use Rattle.delivery.specs.Claim.{runFrom}
+use Rattle.player.specs.Played.{Start, refused, begun, startEnds, startBodies, startOf, zeros, playedStart, played}
+use Rattle.player.specs.State.{Turned, printed}
+use Rattle.transport.specs.Capped.{cappedStep}
+use Rattle.delivery.specs.Turns.{turnFor, eventsFrom, worldAfter}
 use Rattle.player.specs.Text.{eventText, textOf}
 use Rattle.player.specs.Whole.{shown, leftOf, BeginPrints, PlayPrints, FinishedIsAll, PlayGoesOn}
 use Rattle.player.specs.declared.Player.{Player}
 use Rattle.text.proofs.Laws.{put-fits}
 use Rattle.text.specs.Page.{page, put}
+use Rattle.transport.proofs.Events.{whole-world}
+use Rattle.transport.proofs.Making.{AtStart, make-starts}
+use Rattle.transport.specs.Answer.{worldOf}
+use Rattle.transport.specs.Make.{Made, made, unmade, makeOf}
 use Rattle.transport.specs.World as transport
 use Rattle.transport.specs.World.{World, Call, Event, begin}
 
@@ -73,25 +79,11 @@ page-shows out text fits =
     let same : 0 + length text ≡ length text = omega arith in
     rw (put-fits (page out 0) text room) (take-at text (drop (0 + length text) out) (0 + length text) (sym same))
 
--- the frames of a ring have eight bytes
-frames-eight : (bytes : List ℕ) (n p : ℕ) → AllEight (framesFrom bytes p n)
-unfolding framesFrom frameAt
-frames-eight bytes zero p = tt
-frames-eight bytes (suc n) p = (refl, frames-eight bytes n (suc p))
-
-whole-world : (q : Player) (forward back buffer : List ℕ) → Whole (worldOf (q .ends) forward back buffer)
-unfolding framesIn
-whole-world q forward back buffer = record { forward = frames-eight forward _ _; back = frames-eight back _ _ }
-
 -- ---- the calls
 
 -- the lent lengths pass the test
 lent : (f b o : ℕ) → f ≡ 576 → b ≡ 576 → o ≡ 16384 → (eqb f 576 && eqb b 576 && eqb o 16384) ≡ true
 lent f b o e d c = rw (e, d, c) refl
-
-little-of : (w : World) (c : Call) → Whole w → length (eventText 0 (playerStep w c .event)) ≤ 128
-unfolding playerStep
-little-of w c a = little w c a .short 0
 
 pub play-prints : PlayPrints
 unfolding playOf playing leftOf nextEvents
@@ -101,7 +93,7 @@ play-prints bytes q forward back buffer out lf lb lo =
     let rest = drop (q .played) (eventsOf bytes (q .bodies)) in
     let n = min 128 (65535 - q .played) in
     let few : length (take n rest) ≤ 128 = rw length-take (omega arith) in
-    let fits : length (textOf (suc (q .played)) (eventsFrom w m (take n rest))) ≤ length out = omega (arith, text-fits w m (take n rest) (suc (q .played)) (whole-world q forward back buffer), few) in
+    let fits : length (textOf (suc (q .played)) (eventsFrom w m (take n rest))) ≤ length out = omega (arith, text-fits w m (take n rest) (suc (q .played)) (whole-world (q .ends) forward back buffer), few) in
     let all : playOf bytes q forward back buffer out ≡ progressed (playing w m (nextEvents bytes q) (suc (q .played)) (page out 0)) (q .bodies) (q .played + length (nextEvents bytes q)) = sym (pick-true _ (lent (length forward) (length back) (length out) lf lb lo) refl) in
     rw all
     (ap (λ (l : List ℕ). textOf (suc (q .played)) (eventsFrom w m l)) (sym (take-append-drop n rest))
@@ -116,29 +108,40 @@ play-prints bytes q forward back buffer out lf lb lo =
     suc-first : (a k : ℕ) → suc a + k ≡ suc (a + k)
     suc-first a k = omega arith
 
+-- a pack that starts has ends at an empty line
+abbrev StartsEmpty : Start → Type 0
+StartsEmpty (refused number) = Unit
+StartsEmpty (begun ends b) =
+    (forward back buffer : List ℕ) → worldOf ends forward back buffer ≡ transport.startOf (ends .sender) (ends .receiver) buffer
+
+ends-empty : (b : Bodies) (x : Made) → AtStart x → StartsEmpty (startEnds b x)
+ends-empty b (unmade number) a = tt
+ends-empty b (made ends) a = a
+
+starts-empty : (bytes : List ℕ) (x : Contents) → StartsEmpty (startBodies bytes x)
+unfolding startBodies
+starts-empty bytes (pack.refused number) = tt
+starts-empty bytes (held b) =
+    let k = b .settings in
+    ends-empty b (makeOf (k .gap) (k .timeout) (k .limit) (k .patience) (k .window) (k .capacity) (messageOf bytes b))
+    (make-starts (k .gap) (k .timeout) (k .limit) (k .patience) (k .window) (k .capacity) (messageOf bytes b))
+
 pub begin-prints : BeginPrints
-unfolding beginOf leftOf played playedStart runFrom textOf framesIn framesFrom
-begin-prints bytes s r b started forward back out lf lo =
-    let w : World = transport.startOf s r zeros in
+unfolding beginOf leftOf played playedStart runFrom textOf startOf
+begin-prints bytes ends b started forward back out lf lo =
+    let w : World = transport.startOf (ends .sender) (ends .receiver) zeros in
     let m = messageOf bytes b in
-    let step = playerStep w (begin m) in
-    let none : Whole w = record { forward = tt; back = tt } in
-    let q = playerFor s r b in
-    let fits : length (eventText 0 (step .event)) ≤ length out = omega (arith, short (begin m) w none) in
-    let same : worldOf (q .ends) forward back zeros ≡ w = empty-world forward back in
+    let step = cappedStep w (begin m) in
+    let q = playerFor ends b in
+    let same : worldOf ends forward back zeros ≡ w = subst StartsEmpty started (starts-empty bytes (bodiesOf bytes)) forward back zeros in
+    let fits : length (eventText 0 (step .event)) ≤ length out = omega (arith, event-short w (begin m) 0 (record { forward = tt; back = tt })) in
     rw started
     (ap (λ (l : List ℕ). l ++ textOf 1 (eventsFrom (step .world) m (eventsOf bytes b))) (sym (page-shows out (eventText 0 (step .event)) fits))
     ∙ ap (λ (t : Turned). take (t .page .place) (t .page .bytes) ++ textOf 1 (eventsFrom (t .world) m (eventsOf bytes b)))
-    (pick-true _ (lengths (length forward) (length out) lf lo) (ap (λ (v : World). printed (playerStep v (begin m)) 0 (page out 0)) (sym same))))
+    (pick-true _ (lengths (length forward) (length out) lf lo) (ap (λ (v : World). printed (cappedStep v (begin m)) 0 (page out 0)) (sym same))))
   where
     lengths : (f o : ℕ) → f ≡ 576 → o ≡ 16384 → (eqb f 576 && eqb o 16384) ≡ true
     lengths f o e c = rw (e, c) refl
-
-    short : (c : Call) (w : World) → Whole w → length (eventText 0 (playerStep w c .event)) ≤ 128
-    short c w a = little-of w c a
-
-    empty-world : (f k : List ℕ) → worldOf (playerFor s r b .ends) f k zeros ≡ transport.startOf s r zeros
-    empty-world f k = refl
 
 pub finished-is-all : FinishedIsAll
 unfolding leftOf eventsFrom textOf

@@ -6,20 +6,20 @@ use mathlib.Core.List.{List}
 use lib.Dec.{eqb, leb}
 use lib.ListN.{length, take, drop}
 use Rattle.frame.specs.Choice.{pick}
-use Rattle.line.specs.Ring.{emptyOf}
 use Rattle.pack.specs.Pack.{messageOf, eventsOf}
 use Rattle.pack.specs.declared.Bodies.{Bodies}
 use Rattle.player.specs.Played.{Start, refused, begun, startOf}
-use Rattle.player.specs.State.{worldOf, Turned, turned, printed}
-use Rattle.player.specs.Step.{playerStep, eventsFrom, worldAfter}
+use Rattle.player.specs.State.{Turned, turned, printed}
+use Rattle.transport.specs.Capped.{cappedStep}
+use Rattle.delivery.specs.Turns.{eventsFrom, worldAfter}
 use Rattle.player.specs.Text.{textOf}
 use Rattle.player.specs.declared.Opening as opening
 use Rattle.player.specs.declared.Opening.the-variants as variants
 use Rattle.player.specs.declared.Player.{Player}
-use Rattle.receiver.specs.declared.Receiver.{Receiver}
-use Rattle.sender.specs.declared.Sender.{Sender}
 use Rattle.text.specs.Page.{Page, page, put}
+use Rattle.transport.specs.Answer.{worldOf}
 use Rattle.transport.specs.World.{World, begin}
+use Rattle.transport.specs.declared.Ends.{Ends}
 
 -- ---- opening a pack
 
@@ -32,18 +32,13 @@ abbrev pub toldOpening : opening.Opening → Opened
 toldOpening (variants.Ready player) = ready player
 toldOpening (variants.Refused number) = unready number
 
--- "two ends just made ..., forward and back empty"; nothing played
-abbrev pub playerFor : Sender → Receiver → Bodies → Player
-playerFor s r b =
-    record {
-      ends = record { sender = s; receiver = r; forward = emptyOf; back = emptyOf };
-      bodies = b;
-      played = 0;
-    }
+-- nothing played
+abbrev pub playerFor : Ends → Bodies → Player
+playerFor ends b = record { ends = ends; bodies = b; played = 0 }
 
 abbrev pub openedAt : Start → Opened
 openedAt (refused number) = unready number
-openedAt (begun s r b) = ready (playerFor s r b)
+openedAt (begun ends b) = ready (playerFor ends b)
 
 unfoldable pub openOf : List ℕ → Opened
 openOf bytes = openedAt (startOf bytes)
@@ -72,7 +67,7 @@ unfoldable pub beginOf : List ℕ → Player → List ℕ → List ℕ → List 
 beginOf bytes q forward back buffer out =
     progressed
     (pick (beginsOn forward out)
-    (printed (playerStep (worldOf (q .ends) forward back buffer) (begin (messageOf bytes (q .bodies)))) 0 (page out 0))
+    (printed (cappedStep (worldOf (q .ends) forward back buffer) (begin (messageOf bytes (q .bodies)))) 0 (page out 0))
     (turned (worldOf (q .ends) forward back buffer) (page out 0)))
     (q .bodies) (q .played)
 

@@ -1,5 +1,3 @@
-pub mod Step
-pub mod Claim
 pub mod Text
 pub mod State
 pub mod Played

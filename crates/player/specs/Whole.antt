@@ -9,13 +9,12 @@ use Rattle.pack.specs.Pack.{held, bodiesOf, messageOf, eventsOf}
 use Rattle.pack.specs.declared.Bodies.{Bodies}
 use Rattle.player.specs.Calls.{playerFor, Progressed, beginOf, playOf, isFinished}
 use Rattle.player.specs.Played.{begun, startOf, zeros, played}
-use Rattle.player.specs.State.{worldOf}
-use Rattle.player.specs.Step.{eventsFrom}
+use Rattle.delivery.specs.Turns.{eventsFrom}
 use Rattle.player.specs.Text.{textOf}
 use Rattle.player.specs.declared.Player.{Player}
-use Rattle.receiver.specs.declared.Receiver.{Receiver}
-use Rattle.sender.specs.declared.Sender.{Sender}
+use Rattle.transport.specs.Answer.{worldOf}
 use Rattle.transport.specs.World.{World}
+use Rattle.transport.specs.declared.Ends.{Ends}
 
 -- what a call prints: the written part of its page
 abbrev pub shown : Progressed → List ℕ
@@ -31,13 +30,13 @@ leftAfter bytes g = leftOf bytes (g .world) (g .bodies) (g .played)
 -- the begin, on a buffer of zeros
 abbrev pub BeginPrints : Type 0
 BeginPrints =
-    (bytes : List ℕ) (s : Sender) (r : Receiver) (b : Bodies)
-    → startOf bytes ≡ begun s r b
+    (bytes : List ℕ) (ends : Ends) (b : Bodies)
+    → startOf bytes ≡ begun ends b
     → (forward back out : List ℕ)
     → length forward ≡ 576
     → length out ≡ 16384
     → played bytes
-    ≡ shown (beginOf bytes (playerFor s r b) forward back zeros out) ++ leftAfter bytes (beginOf bytes (playerFor s r b) forward back zeros out)
+    ≡ shown (beginOf bytes (playerFor ends b) forward back zeros out) ++ leftAfter bytes (beginOf bytes (playerFor ends b) forward back zeros out)
 
 -- a call of play
 abbrev pub PlayPrints : Type 0

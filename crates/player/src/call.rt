@@ -5,12 +5,15 @@ ghost use mathlib.Core.List.{List};
 ghost use lib.Dec.{eqb};
 ghost use Prim.Native.Nat.{ℕ, _+_, _≤_, _-_, min};
 ghost use Rattle.player.specs.Calls.{progressed, beginOf, playOf, isFinished};
-ghost use Rattle.player.specs.State.{worldOf, turned};
+ghost use Rattle.player.specs.State.{turned};
 ghost use Rattle.text.specs.Page.{page};
+ghost use Rattle.transport.specs.Answer.{worldOf};
 use crate::Player;
 use crate::Progress;
 use crate::parts::part;
+use crate::run::run;
 use crate::turn::Turn;
+use crate::turn::first_turn;
 use pack::Bodies;
 
 // The lent lengths: a line's 64 places of nine bytes, and the page.
@@ -85,7 +88,7 @@ impl Player {
             let bodies = self.bodies;
             let ends = self.ends;
             let message = part(pack, 23, bodies.message as usize);
-            let turn = ends.begin(message, forward, out);
+            let turn = first_turn(ends, message, forward, out);
             self.after(turn, self.played)
         } else {
             self.unchanged()
@@ -110,7 +113,7 @@ impl Player {
             let ends = self.ends;
             let message = part(pack, 23, bodies.message as usize);
             let events = part(pack, next_event(bodies, played), most(played));
-            let turn = ends.run(played, message, events, buffer, forward, back, out);
+            let turn = run(ends, played, message, events, buffer, forward, back, out);
             self.after(turn, played + events.len() as u16)
         } else {
             self.unchanged()

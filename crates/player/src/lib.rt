@@ -1,23 +1,13 @@
-// The player: reads a run pack, plays its events on both ends and the line of 64, and writes what is printed of them into
-// lent bytes.
+// The player: reads a run pack, plays its events on the transport, and writes what is printed of them into lent bytes. It
+// knows of the transport what that promises, and of the ends nothing.
 mod call;
 mod open;
 mod parts;
 mod run;
 mod turn;
 
-use line::Ring;
 use pack::Bodies;
-use receiver::Receiver;
-use sender::Sender;
-
-// Both ends, and both directions of the line as rings in lent bytes.
-pub struct Ends {
-    pub sender: Sender,
-    pub receiver: Receiver,
-    pub forward: Ring,
-    pub back: Ring,
-}
+use transport::Ends;
 
 // The ends, where the pack's bodies are, and how many events have been played.
 pub struct Player {

@@ -23,6 +23,7 @@ use Rattle.frame.specs.Reading.{refused, readOf, toldReading}
 use Rattle.frame.specs.declared.Frame.{Frame}
 use Rattle.frame.specs.declared.Reading.{Reading}
 use Rattle.frame.specs.declared.Reading.the-variants.{Kind, Refused}
+use Rattle.receiver.proofs.View.{moved}
 use Rattle.receiver.specs.Hear.{announcesWell, opening, announceIdle, announceOpen, hearAnnouncement, stored, carried, storing, informationOpen, hearInformation, hearNack, hearNumbered, hearKind, hearRead, hearOf}
 use Rattle.receiver.specs.Tick.{settingsFit, makeOf, windowOf, windowAck, tickOpen, tickPhase, tickOf}
 use Rattle.receiver.specs.Told.{Told, Heard, made, unmade, heard, inPhase, refusing, silently, emitting, delivering, failingWith, failing, shortWith, shortOnly}
@@ -31,11 +32,6 @@ use Rattle.receiver.specs.declared.Delivery.{Delivery}
 use Rattle.receiver.specs.declared.Phase.{Phase}
 use Rattle.receiver.specs.declared.Phase.the-variants.{Idle, Done, Open}
 use Rattle.receiver.specs.declared.Receiver.{Receiver}
-
--- a connection with other numbers
-abbrev pub moved : Connection → ℕ → ℕ → ℕ → ℕ → Connection
-moved x expected last wait misses =
-    record { frames = x .frames; length = x .length; expected = expected; last = last; wait = wait; misses = misses }
 
 -- ---- making
 

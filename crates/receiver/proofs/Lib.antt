@@ -1,3 +1,4 @@
+pub mod View
 pub mod Laws
 pub mod Told
 pub mod Reachable

@@ -7,24 +7,22 @@ use mathlib.Core.Path.{_≡_, refl, subst}
 use mathlib.Core.Bool.{Bool, true, false, _&&_, and-eq-true-iff}
 use mathlib.Core.List.{List}
 use native.Mathlib.Omega.{arith}
-use borrow.Author.Tests.{leb-true, leb-false, eqb-true, eqb-false, le-leb, lt-leb}
-use lib.Dec.{eqb, leb, ltb}
-use lib.ListN.{drop}
+use borrow.Author.Tests.{leb-true, eqb-true, eqb-false, le-leb, lt-leb}
+use lib.Dec.{eqb, leb}
 use Rattle.frame.specs.Count.{frameCountOf, incrementOf}
 use Rattle.frame.specs.Frames.{byteOf, wordAt}
-use Rattle.frame.specs.Reading.{Judgement, accepted, refused, readOf}
 use Rattle.frame.specs.declared.Frame.{Frame}
+use Rattle.frame.proofs.Choice.{pick-elim}
 use Rattle.frame.proofs.Laws.{frame-count-bounds}
-use Rattle.receiver.specs.Hear.{announcesWell, opening, announceIdle, announceOpen, hearAnnouncement, stored, informationOpen, hearInformation, hearNack, hearNumbered, hearKind, hearRead, hearOf}
+use Rattle.receiver.proofs.View.{receiverIn, moved, fresh, end, Ticks, rests, waits, retries, expires, tick-does, nacks, opens, again, ignored, skips, ended, above, delivers, asks, goes-on, Hears, refuses, announced, informed, closes, unmoved, short, short-only, hear-does}
 use Rattle.receiver.specs.Reachable.{Reachable, new, ticked, hearing, SettingsWithin, Announced, OpenWithin, PhaseWithin, Within, Exact}
-use Rattle.receiver.specs.Tick.{settingsFit, makeOf, windowOf, tickOpen, tickPhase, tickOf}
-use Rattle.receiver.specs.Told.{Made, made, Told, Heard, inPhase}
+use Rattle.receiver.specs.Tick.{settingsFit, makeOf, windowOf}
+use Rattle.receiver.specs.Told.{Made, made, Told, Heard}
 use Rattle.receiver.specs.declared.Connection.{Connection}
 use Rattle.receiver.specs.declared.Phase.{Phase}
-use Rattle.receiver.specs.declared.Phase.the-variants.{Idle, Done, Open}
+use Rattle.receiver.specs.declared.Phase.the-variants.{Idle, Open}
 use Rattle.receiver.specs.declared.Receiver.{Receiver}
-use Rattle.frame.proofs.Choice.{pick-elim}
-use Rattle.receiver.proofs.Laws.{moved}
+use Rattle.receiver.specs.declared.Settings.{Settings}
 
 -- a count that is short of a bound reaches it at the bound
 at-bound : (bound count : ℕ) → bound ≤ 65535 → count < bound → leb bound (incrementOf count) ≡ eqb (count + 1) bound
@@ -75,165 +73,89 @@ made-within timeout window capacity =
     subst Within same (record { settings = settings-within timeout window capacity fit; phase = tt }))
     (λ unfit r e. let z : _≡_ {A = ℕ} 0 1 = cc in absurd (omega arith))
 
-module _ (r : Receiver) (w : Within r) where
-  shut : Within (inPhase r Idle)
-  shut = record { settings = w .settings; phase = tt }
+-- a window that is asked for: at least one frame, within N and C
+window-low : (r : Receiver) → 1 ≤ r .settings .window → (expected frames : ℕ) → expected ≤ frames → expected ≤ windowOf r expected frames
+unfolding windowOf
+window-low r some expected frames h = omega arith
 
-  -- a window that is asked for: at least one frame, within N and C
-  window-low : (expected frames : ℕ) → expected ≤ frames → expected ≤ windowOf r expected frames
-  unfolding windowOf
-  window-low expected frames h = omega (arith, w .settings .windowLow)
-
-  window-frames : (expected frames : ℕ) → windowOf r expected frames ≤ frames
-  unfolding windowOf
-  window-frames expected frames = omega arith
-
-  window-size : (expected frames : ℕ) → windowOf r expected frames ≤ expected + r .settings .window - 1
-  unfolding windowOf
-  window-size expected frames = omega arith
-
+module _ (s : Settings) (w : SettingsWithin s) where
   -- a connection with a window just asked for
-  asked : (x : Connection) (expected misses : ℕ) → Announced (r .settings) (x .frames) (x .length) → 1 ≤ expected
-      → expected ≤ x .frames → misses < 3
-      → Within (inPhase r (Open (moved x expected (windowOf r expected (x .frames)) 0 misses)))
+  asked : (x : Connection) (expected misses : ℕ) → Announced s (x .frames) (x .length) → 1 ≤ expected → expected ≤ x .frames → misses < 3
+      → Within (receiverIn s (Open (moved x expected (end s expected (x .frames)) 0 misses)))
+  unfolding windowOf
   asked x expected misses a low high more =
       record {
-        settings = w .settings;
+        settings = w;
         phase = record {
           announced = a;
           first = low;
-          inside = window-low expected (x .frames) high;
-          final = window-frames expected (x .frames);
-          window = window-size expected (x .frames);
-          waits = w .settings .timeoutLow;
+          inside = window-low (receiverIn s Idle) (w .windowLow) expected (x .frames) high;
+          final = omega arith;
+          window = omega arith;
+          waits = w .timeoutLow;
           tries = more;
         };
       }
 
   -- ---- a tick
 
-  tick-open : (x : Connection) → OpenWithin (r .settings) x → Next (tickOpen r x)
-  unfolding tickOpen
-  tick-open x o =
-      pick-elim Next (leb (r .settings .timeout) (incrementOf (x .wait)))
-      (λ due.
-      pick-elim Next (leb 3 (incrementOf (x .misses))) (λ third. shut)
-      (λ more. asked x _ (incrementOf (x .misses)) (o .announced) (o .first) (omega arith) (leb-false _ _ more)))
-      (λ early.
+  ticks-within : {p : Phase} {t : Told} → PhaseWithin s p → Ticks s p t → Next t
+  ticks-within o (rests _) = record { settings = w; phase = o }
+  ticks-within o (waits early) =
       record {
-        settings = w .settings;
+        settings = w;
         phase = record {
           announced = o .announced;
           first = o .first;
           inside = o .inside;
           final = o .final;
           window = o .window;
-          waits = leb-false _ _ early;
+          waits = early;
           tries = o .tries;
         };
-      })
-
-  tick-phase : (p : Phase) → PhaseWithin (r .settings) p → Next (tickPhase r p)
-  unfolding tickPhase
-  tick-phase Idle h = w
-  tick-phase (Done x) h = w
-  tick-phase (Open x) h = tick-open x h
+      }
+  ticks-within o (retries {x} _ more) = asked x _ (incrementOf (x .misses)) (o .announced) (o .first) (omega arith) more
+  ticks-within o expires = record { settings = w; phase = tt }
 
   -- ---- a hearing
 
-  announce-idle : (frames length : ℕ) → Next (announceIdle r frames length)
-  unfolding announceIdle opening frameCountOf
-  announce-idle frames length =
-      pick-elim Next (announcesWell frames length)
-      (λ well.
-      let both = and-eq-true-iff (leb 9 length && leb length 1785) (eqb frames (frameCountOf length)) .0 well in
-      let range = and-eq-true-iff (leb 9 length) (leb length 1785) .0 (both .0) in
-      let fits = eqb-true frames (frameCountOf length) (both .1) in
-      let low = leb-true 9 length (range .0) in
-      let high = leb-true length 1785 (range .1) in
-      pick-elim Next (leb length (r .settings .capacity))
-      (λ room.
-      asked (record { frames = frames; length = length; expected = 1; last = 1; wait = 0; misses = 0 }) 1 0
-      (record { long = low; space = leb-true _ _ room; fits = fits; byte = omega arith })
-      (omega arith)
-      (omega arith)
-      (omega arith))
-      (λ over. w))
-      (λ bad. w)
-
-  announced-phase : (p : Phase) (frames length : ℕ) → Next (hearAnnouncement r p frames length)
-  unfolding hearAnnouncement announceOpen
-  announced-phase Idle frames length = announce-idle frames length
-  announced-phase (Done x) frames length = announce-idle frames length
-  announced-phase (Open x) frames length = pick-elim Next _ (λ again. w) (λ other. w)
-
-  stored-within : (x : Connection) → OpenWithin (r .settings) x → Next (stored r x)
-  unfolding stored
-  stored-within x o =
-      pick-elim Next (eqb (x .expected) (x .frames)) (λ whole. record { settings = w .settings; phase = o .announced })
-      (λ more.
-      let below : x .expected < x .frames = omega (arith, eqb-false (x .expected) (x .frames) more) in
-      pick-elim Next (eqb (x .expected) (x .last))
-      (λ end. asked x (x .expected + 1) 0 (o .announced) (omega arith) (omega arith) (omega arith))
-      (λ inside.
+  hears-within : {f : Frame} {buffer : List ℕ} {p : Phase} {h : Heard} → PhaseWithin s p → Hears s f buffer p h → NextHeard h
+  unfolding frameCountOf
+  hears-within o (refuses _) = record { settings = w; phase = o }
+  hears-within o (announced _ _ (nacks _ _)) = record { settings = w; phase = o }
+  hears-within {f} o (announced _ _ (opens _ low high fits room)) =
+      asked (fresh s (byteOf f 1) (wordAt f 2 3)) 1 0 (record { long = low; space = room; fits = fits; byte = omega arith }) (omega arith) (omega arith) (omega arith)
+  hears-within o (announced _ _ again) = record { settings = w; phase = o }
+  hears-within o (announced _ _ ignored) = record { settings = w; phase = o }
+  hears-within o (informed _ _ _ skips) = record { settings = w; phase = o }
+  hears-within o (informed _ _ _ (ended _)) = record { settings = w; phase = o }
+  hears-within o (informed _ _ _ (above _)) = record { settings = w; phase = tt }
+  hears-within o (informed _ _ _ (delivers _ _)) = record { settings = w; phase = o .announced }
+  hears-within o (informed _ _ _ (asks {x} _ more _)) = asked x (x .expected + 1) 0 (o .announced) (omega arith) (omega arith) (omega arith)
+  hears-within o (informed _ _ _ (goes-on _ more part)) =
       record {
-        settings = w .settings;
+        settings = w;
         phase = record {
           announced = o .announced;
           first = omega arith;
-          inside = omega (arith, eqb-false (x .expected) (x .last) inside);
+          inside = omega (arith, part);
           final = o .final;
           window = omega arith;
-          waits = w .settings .timeoutLow;
+          waits = w .timeoutLow;
           tries = omega arith;
         };
-      }))
-
-  information-phase : (p : Phase) → PhaseWithin (r .settings) p → (number : ℕ) (bytes buffer : List ℕ)
-      → NextHeard (hearInformation r p number bytes buffer)
-  unfolding hearInformation informationOpen
-  information-phase Idle h number bytes buffer = w
-  information-phase (Done x) h number bytes buffer = pick-elim Next (eqb number (x .frames)) (λ last. w) (λ other. w)
-  information-phase (Open x) h number bytes buffer =
-      pick-elim NextHeard (ltb (x .frames) number) (λ above. shut)
-      (λ inside. pick-elim NextHeard (eqb number (x .expected)) (λ at. stored-within x h) (λ other. w))
-
-  nack-phase : (p : Phase) → Next (hearNack r p)
-  unfolding hearNack
-  nack-phase Idle = w
-  nack-phase (Done x) = w
-  nack-phase (Open x) = shut
-
-  hear-kind : (f : Frame) (buffer : List ℕ) (kind : ℕ) → NextHeard (hearKind r f buffer kind)
-  unfolding hearKind hearNumbered
-  hear-kind f buffer kind =
-      pick-elim NextHeard (eqb kind 1)
-      (λ one.
-      pick-elim NextHeard (eqb (byteOf f 0) 0) (λ zero. announced-phase (r .phase) (byteOf f 1) (wordAt f 2 3))
-      (λ more. information-phase (r .phase) (w .phase) (byteOf f 0) (drop 1 (f .bytes)) buffer))
-      (λ not-one.
-      pick-elim NextHeard (eqb kind 3) (λ three. nack-phase (r .phase))
-      (λ not-three.
-      pick-elim NextHeard (eqb kind 5) (λ five. w)
-      (λ not-five. pick-elim NextHeard (eqb kind 7) (λ seven. w) (λ other. w))))
-
-  hear-read : (f : Frame) (buffer : List ℕ) (j : Judgement) → NextHeard (hearRead r f buffer j)
-  unfolding hearRead
-  hear-read f buffer (accepted kind) = hear-kind f buffer kind
-  hear-read f buffer (refused number) = w
-
-  tick-within : Next (tickOf r)
-  unfolding tickOf
-  tick-within = tick-phase (r .phase) (w .phase)
-
-  hear-within : (f : Frame) (buffer : List ℕ) → NextHeard (hearOf r f buffer)
-  unfolding hearOf
-  hear-within f buffer = pick-elim NextHeard _ (λ whole. hear-read f buffer (readOf f)) (λ other. w)
+      }
+  hears-within o (closes _) = record { settings = w; phase = tt }
+  hears-within o (unmoved _ _) = record { settings = w; phase = o }
+  hears-within o (short _) = record { settings = w; phase = o }
+  hears-within o (short-only _) = record { settings = w; phase = o }
 
 pub reachable-within : {r : Receiver} → Reachable r → Within r
 reachable-within (new timeout window capacity e) = made-within timeout window capacity _ e
-reachable-within (ticked h) = tick-within _ (reachable-within h)
-reachable-within (hearing h f buffer) = hear-within _ (reachable-within h) f buffer
+reachable-within (ticked {r} h) = let w = reachable-within h in ticks-within (r .settings) (w .settings) (w .phase) (tick-does r)
+reachable-within (hearing {r} h f buffer) =
+    let w = reachable-within h in
+    hears-within (r .settings) (w .settings) (w .phase) (hear-does r f buffer)
 
 -- In a state within, the definitions' tests and counts are document 01's own.
 pub within-exact : (r : Receiver) (x : Connection) → Within r → r .phase ≡ Open x → Exact r x
@@ -248,8 +170,8 @@ within-exact r x w p =
       due = at-bound (r .settings .timeout) (x .wait) (omega arith) (omega arith);
       third = at-bound 3 (x .misses) (omega arith) (omega arith);
       count = omega arith;
-      again = window-low r w (x .expected) (x .frames) (omega arith);
-      next = λ more. window-low r w (x .expected + 1) (x .frames) (omega arith);
+      again = window-low r (w .settings .windowLow) (x .expected) (x .frames) (omega arith);
+      next = λ more. window-low r (w .settings .windowLow) (x .expected + 1) (x .frames) (omega arith);
       some = omega arith;
       part = omega arith;
       whole = omega arith;

@@ -10,22 +10,28 @@ use Rattle.receiver.specs.Told as receiver-told
 use Rattle.receiver.specs.declared.Receiver.{Receiver}
 use Rattle.sender.specs.Told as sender-told
 use Rattle.sender.specs.declared.Sender.{Sender}
-use Rattle.text.specs.Text.{digitsIn, decimal, hexGlyph, spaced, hexes, headOf, frameLine, emittedText, sentLine, deliveredLine, senderReport, receiverReport, senderText, receiverText}
+use Rattle.text.specs.Text.{digitsIn, decimal, hexGlyph, spaced, hexes, headOf, frameLine, emittedText, sentLine, deliveredLine, senderReport, receiverReport, letterS, letterR}
 
 -- texts, one after the other
 abbrev joined : List (List ℕ) → List ℕ
 joined [] = []
 joined (text ∷ texts) = text ++ joined texts
 
+abbrev ofSender : ℕ → sender-told.Told → List ℕ
+ofSender number t = emittedText number letterS (t .emits) (t .frame) ++ senderReport number (t .outcome)
+
+abbrev ofReceiver : ℕ → receiver-told.Told → List ℕ
+ofReceiver number t = emittedText number letterR (t .emits) (t .frame) ++ receiverReport number (t .outcome) (t .bytes)
+
 -- what each event's answer prints, in order
 abbrev answers : Sender → Receiver → List (List ℕ)
 answers s r =
-    senderText 0 (sender-told.emitting s (announcementOf 2 9))
-    ∷ receiverText 1 (receiver-told.emitting r (lmAckOf 1 2))
-    ∷ senderText 3 (sender-told.emitting s (informationOf 1 (1 ∷ 2 ∷ 3 ∷ 4 ∷ 5 ∷ 6 ∷ 7 ∷ [])))
-    ∷ senderText 5 (sender-told.emitting s (informationOf 2 (8 ∷ 9 ∷ [])))
-    ∷ receiverText 6 (receiver-told.delivering r (endOfAckOf 2 9) 9)
-    ∷ senderText 7 (record { next = s; emits = false; frame = blankOf; outcome = sender-told.sent 2 3 })
+    ofSender 0 (sender-told.emitting s (announcementOf 2 9))
+    ∷ ofReceiver 1 (receiver-told.emitting r (lmAckOf 1 2))
+    ∷ ofSender 3 (sender-told.emitting s (informationOf 1 (1 ∷ 2 ∷ 3 ∷ 4 ∷ 5 ∷ 6 ∷ 7 ∷ [])))
+    ∷ ofSender 5 (sender-told.emitting s (informationOf 2 (8 ∷ 9 ∷ [])))
+    ∷ ofReceiver 6 (receiver-told.delivering r (endOfAckOf 2 9) 9)
+    ∷ ofSender 7 (record { next = s; emits = false; frame = blankOf; outcome = sender-told.sent 2 3 })
     ∷ []
 
 -- the seven lines, as they stand in document 01
@@ -48,5 +54,5 @@ example =
     ∷ []
 
 pub printed : (s : Sender) (r : Receiver) → joined (answers s r) ≡ example
-unfolding pick fillTo blankOf announcementOf informationOf lmAckOf endOfAckOf digitsIn decimal hexGlyph spaced hexes headOf frameLine emittedText sentLine deliveredLine senderReport receiverReport senderText receiverText
+unfolding pick fillTo blankOf announcementOf informationOf lmAckOf endOfAckOf digitsIn decimal hexGlyph spaced hexes headOf frameLine emittedText sentLine deliveredLine senderReport receiverReport
 printed s r = refl

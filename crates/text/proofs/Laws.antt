@@ -3,7 +3,7 @@
 -- Assumes nothing.
 use Prim.Native.Nat.{ℕ, zero, suc, _+_, _*_, _/_, _<_, _≤_}
 use mathlib.Core.Path.{_≡_, refl, sym, ap, _∙_}
-use mathlib.Core.Bool.{Bool, true, false}
+use mathlib.Core.Bool.{Bool, true, false, false≢true}
 use mathlib.Core.List.{List, [], _∷_, _++_, append-nil}
 use native.Mathlib.Omega.{arith}
 use native.Mathlib.Nat.{add-zero}
@@ -17,7 +17,7 @@ use Rattle.frame.specs.declared.Frame.{Frame}
 use Rattle.receiver.specs.Told as receiver-told
 use Rattle.sender.specs.Told as sender-told
 use Rattle.text.specs.Page.{Page, page, byteAt, put}
-use Rattle.text.specs.Text.{digitsIn, decimal, spaced, hexes, letterS, letterR, headOf, frameLine, emittedText, sentLine, failedLine, deliveredLine, closedLine, shortLine, senderReport, receiverReport, senderText, receiverText, refusedText}
+use Rattle.text.specs.Text.{digitsIn, decimal, spaced, hexes, letterS, letterR, headOf, frameLine, emittedText, sentLine, failedLine, deliveredLine, closedLine, shortLine, senderReport, receiverReport, refusedText, senderSays, receiverSays}
 
 -- ---- the page
 
@@ -87,14 +87,14 @@ module _ (number : ℕ) where
   unfolding headOf decimal
   head-length letter = rw length-append (omega (arith, digits-length 5 number))
 
-  emitted-length : (letter : ℕ) (emits : Bool) (f : Frame) → length (f .bytes) ≡ 8
+  pub emitted-length : (letter : ℕ) (emits : Bool) (f : Frame) → length (f .bytes) ≡ 8
       → length (emittedText number letter emits f) ≤ 38
   unfolding emittedText frameLine
   emitted-length letter true f eight =
       simp length-append (omega (arith, head-length letter, spaced-length (f .kind), hexes-length (f .bytes)))
   emitted-length letter false f eight = omega arith
 
-  sender-report-length : (o : sender-told.Outcome) → length (senderReport number o) ≤ 33
+  pub sender-report-length : (o : sender-told.Outcome) → length (senderReport number o) ≤ 33
   unfolding senderReport sentLine failedLine
   sender-report-length sender-told.quiet = omega arith
   sender-report-length (sender-told.refused n) = omega arith
@@ -104,7 +104,7 @@ module _ (number : ℕ) where
       simp length-append
       (omega (arith, head-length letterS, spaced-length cause, spaced-length ticks, spaced-length frames))
 
-  receiver-report-length : (o : receiver-told.Outcome) (bytes : List ℕ) → length bytes ≡ 8
+  pub receiver-report-length : (o : receiver-told.Outcome) (bytes : List ℕ) → length bytes ≡ 8
       → length (receiverReport number o bytes) ≤ 38
   unfolding receiverReport deliveredLine closedLine shortLine
   receiver-report-length receiver-told.quiet bytes eight = omega arith
@@ -116,20 +116,25 @@ module _ (number : ℕ) where
   receiver-report-length receiver-told.short bytes eight =
       simp length-append (omega (arith, head-length letterR, hexes-length bytes))
 
-  -- what is printed of one answer, at most
-  pub sender-text-length : (t : sender-told.Told) → length (t .frame .bytes) ≡ 8 → length (senderText number t) ≤ 128
-  unfolding senderText
-  sender-text-length t eight =
-      rw length-append
-      (omega (arith, emitted-length letterS (t .emits) (t .frame) eight, sender-report-length (t .outcome)))
-
-  pub receiver-text-length : (t : receiver-told.Told) → length (t .frame .bytes) ≡ 8 → length (t .bytes) ≡ 8
-      → length (receiverText number t) ≤ 128
-  unfolding receiverText
-  receiver-text-length t eight short =
-      rw length-append
-      (omega (arith, emitted-length letterR (t .emits) (t .frame) eight, receiver-report-length (t .outcome) (t .bytes) short))
-
   pub refused-text-length : length (refusedText number) ≤ 128
   unfolding refusedText
   refused-text-length = simp length-append (omega (arith, spaced-length number))
+
+-- ---- an answer that says nothing prints nothing
+
+pub silent-sender : (number letter : ℕ) (emits : Bool) (f : Frame) (o : sender-told.Outcome) → senderSays emits o ≡ false
+    → (emittedText number letter emits f ≡ []) × (senderReport number o ≡ [])
+unfolding emittedText senderReport
+silent-sender number letter emits f sender-told.quiet q = (rw q refl, refl)
+silent-sender number letter emits f (sender-told.refused n) q = absurd (false≢true (sym q))
+silent-sender number letter emits f (sender-told.sent ticks frames) q = absurd (false≢true (sym q))
+silent-sender number letter emits f (sender-told.failed cause ticks frames) q = absurd (false≢true (sym q))
+
+pub silent-receiver : (number : ℕ) (emits : Bool) (o : receiver-told.Outcome) (bytes : List ℕ) → receiverSays emits o ≡ false
+    → receiverReport number o bytes ≡ []
+unfolding receiverReport
+silent-receiver number emits receiver-told.quiet bytes q = refl
+silent-receiver number emits (receiver-told.refused n) bytes q = absurd (false≢true (sym q))
+silent-receiver number emits (receiver-told.delivered l) bytes q = absurd (false≢true (sym q))
+silent-receiver number emits (receiver-told.failed cause) bytes q = absurd (false≢true (sym q))
+silent-receiver number emits receiver-told.short bytes q = absurd (false≢true (sym q))

@@ -19,7 +19,7 @@ use Rattle.sender.specs.declared.Outcome as sender-outcome
 use Rattle.sender.specs.declared.Outcome.the-variants as sender-outcomes
 use Rattle.text.proofs.Laws.{put-append, byte-fits, byte-full}
 use Rattle.text.specs.Page.{Page, page, put}
-use Rattle.text.specs.Text.{glyph, digitsIn, decimal, hexGlyph, spaced, hexes, letterS, letterR, sentWord, failedWord, deliveredWord, shortWord, refusedWord, headOf, frameLine, emittedText, sentLine, failedLine, deliveredLine, closedLine, shortLine, senderReport, receiverReport, senderText, receiverText, refusedText}
+use Rattle.text.specs.Text.{glyph, digitsIn, decimal, hexGlyph, spaced, hexes, letterS, letterR, sentWord, failedWord, deliveredWord, shortWord, refusedWord, headOf, frameLine, emittedText, sentLine, failedLine, deliveredLine, closedLine, shortLine, senderReport, receiverReport, refusedText}
 
 pub byte-put : (s : List ℕ) (at b : ℕ) → at < length s → page (set s at b) (at + 1) ≡ put (page s at) (b ∷ [])
 unfolding put
@@ -184,11 +184,6 @@ module _ (p : Page) (number : ℕ) where
   unfolding senderReport
   sender-failed h e = rw e h
 
-  pub sender-put : (t : sender-told.Told) {q r : Page} → r ≡ put q (senderReport number (t .outcome))
-      → q ≡ put p (emittedText number letterS (t .emits) (t .frame)) → r ≡ put p (senderText number t)
-  unfolding senderText
-  sender-put t h k = then p _ _ h k
-
   pub receiver-quiet : (bytes : List ℕ) {o : receiver-outcome.Outcome} → o ≡ receiver-outcomes.Quiet
       → p ≡ put p (receiverReport number (receiver-told.toldOutcome o) bytes)
   unfolding receiverReport put
@@ -215,11 +210,6 @@ module _ (p : Page) (number : ℕ) where
       → o ≡ receiver-outcomes.Short → q ≡ put p (receiverReport number (receiver-told.toldOutcome o) bytes)
   unfolding receiverReport
   receiver-short bytes h e = rw e h
-
-  pub receiver-put : (t : receiver-told.Told) {q r : Page} → r ≡ put q (receiverReport number (t .outcome) (t .bytes))
-      → q ≡ put p (emittedText number letterR (t .emits) (t .frame)) → r ≡ put p (receiverText number t)
-  unfolding receiverText
-  receiver-put t h k = then p _ _ h k
 
 pub ruleset sender-reports = (sender-quiet, sender-refused, sender-sent, sender-failed)
 

@@ -121,14 +121,20 @@ receiverReport number (receiver-told.delivered length) bytes = deliveredLine num
 receiverReport number (receiver-told.failed cause) bytes = closedLine number cause
 receiverReport number receiver-told.short bytes = shortLine number bytes
 
--- what is printed of an end's answer: "per frame: ..; then any report"
-unfoldable pub senderText : ℕ → sender-told.Told → List ℕ
-senderText number t = emittedText number letterS (t .emits) (t .frame) ++ senderReport number (t .outcome)
-
-unfoldable pub receiverText : ℕ → receiver-told.Told → List ℕ
-receiverText number t =
-    emittedText number letterR (t .emits) (t .frame) ++ receiverReport number (t .outcome) (t .bytes)
-
 -- "It prints `refused n` alone"
 unfoldable pub refusedText : ℕ → List ℕ
 refusedText number = refusedWord ++ (spaced number ++ (newline ∷ []))
+
+-- an answer that emits no frame and reports nothing has nothing to print
+abbrev pub senderSays : Bool → sender-told.Outcome → Bool
+senderSays emits sender-told.quiet = emits
+senderSays emits (sender-told.refused number) = true
+senderSays emits (sender-told.sent ticks frames) = true
+senderSays emits (sender-told.failed cause ticks frames) = true
+
+abbrev pub receiverSays : Bool → receiver-told.Outcome → Bool
+receiverSays emits receiver-told.quiet = emits
+receiverSays emits (receiver-told.refused number) = true
+receiverSays emits (receiver-told.delivered length) = true
+receiverSays emits (receiver-told.failed cause) = true
+receiverSays emits receiver-told.short = true

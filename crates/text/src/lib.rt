@@ -8,21 +8,20 @@ ghost use mathlib.Core.Path.{_≡_};
 ghost use Rattle.receiver.specs.Told as receiver-told;
 ghost use Rattle.sender.specs.Told as sender-told;
 ghost use Rattle.text.specs.Page.{page, put};
-ghost use Rattle.text.specs.Text.{senderReport, receiverReport, senderText, receiverText, refusedText};
+ghost use Rattle.text.specs.Text.{emittedText, senderReport, receiverReport, refusedText, senderSays, receiverSays};
 use crate::line::NEWLINE;
-use crate::line::RECEIVER;
-use crate::line::SENDER;
 use crate::line::closed_line;
 use crate::line::delivered_line;
-use crate::line::emitted_line;
 use crate::line::failed_line;
+use crate::line::frame_line;
 use crate::line::sent_line;
 use crate::line::short_line;
 use crate::number::put_spaced;
 use crate::page::put_byte;
 use crate::page::put_text;
+use frame::Frame;
 
-fn sender_report(number: u16, outcome: sender::Outcome, out: &mut [u8], at: usize) -> usize
+pub fn sender_report(number: u16, outcome: sender::Outcome, out: &mut [u8], at: usize) -> usize
     ensures { λ r. ⌜ page (now (out .exit)) r ≡ put (page (now (out .entry)) at) (senderReport number (sender-told.toldOutcome outcome)) ⌝ }
 {
     match outcome {
@@ -37,7 +36,7 @@ fn sender_report(number: u16, outcome: sender::Outcome, out: &mut [u8], at: usiz
     }
 }
 
-fn receiver_report(
+pub fn receiver_report(
     number: u16,
     outcome: receiver::Outcome,
     bytes: [u8; 8],
@@ -56,25 +55,35 @@ fn receiver_report(
     }
 }
 
-// The sender's answer to an event: its frame's line, then its report's.
-pub fn sender_lines(number: u16, a: sender::Answer, out: &mut [u8], at: usize) -> usize
-    ensures { λ r. ⌜ page (now (out .exit)) r ≡ put (page (now (out .entry)) at) (senderText number (sender-told.told a)) ⌝ }
+// Whether an answer has anything to print: a frame or a report.
+pub fn sender_says(emits: bool, outcome: sender::Outcome) -> bool
+    ensures { λ r. ⌜ r ≡ senderSays emits (sender-told.toldOutcome outcome) ⌝ }
 {
-    let f = a.frame;
-    let outcome = a.outcome;
-    let next = emitted_line(number, SENDER, a.emits, f, out, at);
-    sender_report(number, outcome, out, next)
+    match outcome {
+        sender::Outcome::Quiet => emits,
+        sender::Outcome::Refused(_) => true,
+        sender::Outcome::Sent {
+            ticks: _,
+            frames: _,
+        } => true,
+        sender::Outcome::Failed {
+            cause: _,
+            ticks: _,
+            frames: _,
+        } => true,
+    }
 }
 
-// The receiver's answer to an event.
-pub fn receiver_lines(number: u16, a: receiver::Answer, out: &mut [u8], at: usize) -> usize
-    ensures { λ r. ⌜ page (now (out .exit)) r ≡ put (page (now (out .entry)) at) (receiverText number (receiver-told.told a)) ⌝ }
+pub fn receiver_says(emits: bool, outcome: receiver::Outcome) -> bool
+    ensures { λ r. ⌜ r ≡ receiverSays emits (receiver-told.toldOutcome outcome) ⌝ }
 {
-    let f = a.frame;
-    let outcome = a.outcome;
-    let bytes = a.bytes;
-    let next = emitted_line(number, RECEIVER, a.emits, f, out, at);
-    receiver_report(number, outcome, bytes, out, next)
+    match outcome {
+        receiver::Outcome::Quiet => emits,
+        receiver::Outcome::Refused(_) => true,
+        receiver::Outcome::Delivered(_) => true,
+        receiver::Outcome::Failed(_) => true,
+        receiver::Outcome::Short => true,
+    }
 }
 
 // A refusal, by its number.
@@ -84,4 +93,22 @@ pub fn refused_line(number: u8, out: &mut [u8], at: usize) -> usize
     let word = put_text(b"refused", out, at);
     let next = put_spaced(number as u16, out, word);
     put_byte(NEWLINE, out, next)
+}
+
+// The line of a frame, if it is emitted by the end of this letter.
+pub fn emitted_line(
+    number: u16,
+    letter: u8,
+    emits: bool,
+    f: Frame,
+    out: &mut [u8],
+    at: usize,
+) -> usize
+    ensures { λ r. ⌜ page (now (out .exit)) r ≡ put (page (now (out .entry)) at) (emittedText number letter emits f) ⌝ }
+{
+    if emits {
+        frame_line(number, letter, f, out, at)
+    } else {
+        at
+    }
 }

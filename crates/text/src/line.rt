@@ -4,7 +4,6 @@ ghost use Rattle.text.specs.Page.{page, put};
 ghost use Rattle.text.specs.Text.{
   headOf,
   frameLine,
-  emittedText,
   sentLine,
   failedLine,
   deliveredLine,
@@ -20,9 +19,9 @@ use frame::Frame;
 
 pub(crate) const NEWLINE: u8 = b'\n';
 
-pub(crate) const SENDER: u8 = b'S';
+const SENDER: u8 = b'S';
 
-pub(crate) const RECEIVER: u8 = b'R';
+const RECEIVER: u8 = b'R';
 
 // How a line begins: the event's number and the end's letter.
 fn put_head(number: u16, letter: u8, out: &mut [u8], at: usize) -> usize
@@ -33,7 +32,7 @@ fn put_head(number: u16, letter: u8, out: &mut [u8], at: usize) -> usize
     put_byte(letter, out, next)
 }
 
-fn frame_line(number: u16, letter: u8, f: Frame, out: &mut [u8], at: usize) -> usize
+pub(crate) fn frame_line(number: u16, letter: u8, f: Frame, out: &mut [u8], at: usize) -> usize
     ensures { λ r. ⌜ page (now (out .exit)) r ≡ put (page (now (out .entry)) at) (frameLine number letter f) ⌝ }
 {
     let bytes = f.bytes;
@@ -41,24 +40,6 @@ fn frame_line(number: u16, letter: u8, f: Frame, out: &mut [u8], at: usize) -> u
     let kind = put_spaced(f.kind as u16, out, head);
     let next = put_hexes(&bytes, out, kind);
     put_byte(NEWLINE, out, next)
-}
-
-// The line of a frame, if it is emitted.
-pub(crate) fn emitted_line(
-    number: u16,
-    letter: u8,
-    emits: bool,
-    f: Frame,
-    out: &mut [u8],
-    at: usize,
-) -> usize
-    ensures { λ r. ⌜ page (now (out .exit)) r ≡ put (page (now (out .entry)) at) (emittedText number letter emits f) ⌝ }
-{
-    if emits {
-        frame_line(number, letter, f, out, at)
-    } else {
-        at
-    }
 }
 
 pub(crate) fn sent_line(number: u16, ticks: u16, frames: u16, out: &mut [u8], at: usize) -> usize

@@ -6,16 +6,17 @@ use mathlib.Core.List.{List}
 use mathlib.Core.Path.{_≡_, refl, ap}
 use lib.ListN.{length}
 use Rattle.frame.proofs.Choice.{pick-elim, read-elim}
+use Rattle.frame.proofs.Laws.{length-fill}
 use Rattle.frame.specs.Frames.{blankOf, announcementOf, informationOf, lmAckOf, lmNackOf, endOfAckOf, smRmOf, smAckOf}
 use Rattle.frame.specs.Reading.{Judgement}
 use Rattle.frame.specs.declared.Frame.{Frame}
+use Rattle.receiver.proofs.View.{Ticks, rests, waits, retries, expires, tick-does, nacks, opens, again, ignored, skips, ended, above, delivers, asks, goes-on, Hears, refuses, announced, informed, closes, unmoved, short, short-only, hear-does}
 use Rattle.receiver.specs.Hear as hearing
 use Rattle.receiver.specs.Tick as ticking
 use Rattle.receiver.specs.Told as receiver
-use Rattle.receiver.specs.declared.Connection.{Connection}
 use Rattle.receiver.specs.declared.Phase as receiver-phase
-use Rattle.receiver.specs.declared.Phase.the-variants as at
 use Rattle.receiver.specs.declared.Receiver.{Receiver}
+use Rattle.receiver.specs.declared.Settings.{Settings}
 use Rattle.sender.specs.Begin.{beginLong, beginShort, beginIdle, beginPhase, beginOf}
 use Rattle.sender.specs.Hear as sender-hear
 use Rattle.sender.specs.Hear.{taking, ackOpening, ackWindow, hearAck, hearNack, ifWhole, hearEnd, hearShortAck, hearKind, hearRead, hearOf}
@@ -25,7 +26,6 @@ use Rattle.sender.specs.declared.Phase.{Phase}
 use Rattle.sender.specs.declared.Phase.the-variants.{Idle, Opening, Sending, Waiting, Short}
 use Rattle.sender.specs.declared.Sender.{Sender}
 use Rattle.sender.specs.declared.Transfer.{Transfer}
-use Rattle.transport.proofs.Pieces.{length-fill}
 
 -- ---- the sender
 
@@ -129,62 +129,37 @@ pub record Eights (t : receiver.Told) : Type 0 where
 abbrev blank : {t : receiver.Told} → length (t .frame .bytes) ≡ 8 → length (t .bytes) ≡ 8 → Eights t
 blank f b = record { frame = f; bytes = b }
 
+tick-told : {s : Settings} {p : receiver-phase.Phase} {t : receiver.Told} → Ticks s p t → Eights t
+unfolding lmNackOf lmAckOf blankOf
+tick-told (rests _) = blank refl refl
+tick-told (waits _) = blank refl refl
+tick-told (retries _ _) = blank refl refl
+tick-told expires = blank refl refl
+
 pub receiver-tick-eight : (r : Receiver) → Eights (ticking.tickOf r)
-unfolding ticking.tickOf ticking.tickPhase ticking.tickOpen lmNackOf lmAckOf blankOf
-receiver-tick-eight r = go (r .phase)
-  where
-    go : (q : receiver-phase.Phase) → Eights (ticking.tickPhase r q)
-    go at.Idle = blank refl refl
-    go (at.Done x) = blank refl refl
-    go (at.Open x) =
-        pick-elim Eights _ (λ _. pick-elim Eights _ (λ _. blank refl refl) (λ _. blank refl refl)) (λ _. blank refl refl)
+receiver-tick-eight r = tick-told (tick-does r)
 
 abbrev HeardEights : receiver.Heard → Type 0
 HeardEights h = Eights (h .told)
 
-announcement-eight : (r : Receiver) (q : receiver-phase.Phase) (frames l : ℕ) → Eights (hearing.hearAnnouncement r q frames l)
-unfolding hearing.hearAnnouncement hearing.announceIdle hearing.announceOpen hearing.opening lmNackOf lmAckOf blankOf
-announcement-eight r at.Idle frames l =
-    pick-elim Eights _ (λ _. pick-elim Eights _ (λ _. blank refl refl) (λ _. blank refl refl)) (λ _. blank refl refl)
-announcement-eight r (at.Done x) frames l =
-    pick-elim Eights _ (λ _. pick-elim Eights _ (λ _. blank refl refl) (λ _. blank refl refl)) (λ _. blank refl refl)
-announcement-eight r (at.Open x) frames l = pick-elim Eights _ (λ _. blank refl refl) (λ _. blank refl refl)
-
-stored-eight : (r : Receiver) (x : Connection) → Eights (hearing.stored r x)
-unfolding hearing.stored endOfAckOf lmAckOf blankOf
-stored-eight r x =
-    pick-elim Eights _ (λ _. blank refl refl) (λ _. pick-elim Eights _ (λ _. blank refl refl) (λ _. blank refl refl))
-
-information-eight : (r : Receiver) (q : receiver-phase.Phase) (number : ℕ) (bytes buffer : List ℕ)
-    → HeardEights (hearing.hearInformation r q number bytes buffer)
-unfolding hearing.hearInformation hearing.informationOpen endOfAckOf lmNackOf blankOf
-information-eight r at.Idle number bytes buffer = blank refl refl
-information-eight r (at.Done x) number bytes buffer = pick-elim Eights _ (λ _. blank refl refl) (λ _. blank refl refl)
-information-eight r (at.Open x) number bytes buffer =
-    pick-elim HeardEights _ (λ _. blank refl refl)
-    (λ _. pick-elim HeardEights _ (λ _. stored-eight r x) (λ _. blank refl refl))
-
-receiver-nack-eight : (r : Receiver) (q : receiver-phase.Phase) → Eights (hearing.hearNack r q)
-unfolding hearing.hearNack blankOf
-receiver-nack-eight r at.Idle = blank refl refl
-receiver-nack-eight r (at.Done x) = blank refl refl
-receiver-nack-eight r (at.Open x) = blank refl refl
-
-kind-eight : (r : Receiver) (f : Frame) (buffer : List ℕ) (kind : ℕ) → length (f .bytes) ≡ 8 → HeardEights (hearing.hearKind r f buffer kind)
-unfolding hearing.hearKind hearing.hearNumbered smAckOf blankOf
-kind-eight r f buffer kind e =
-    pick-elim HeardEights _
-    (λ _.
-    pick-elim HeardEights _ (λ _. announcement-eight r (r .phase) _ _)
-    (λ _. information-eight r (r .phase) _ _ buffer))
-    (λ _. pick-elim HeardEights _ (λ _. receiver-nack-eight r (r .phase))
-    (λ _. pick-elim HeardEights _ (λ _. blank refl e) (λ _. pick-elim HeardEights _ (λ _. blank refl e) (λ _. blank refl refl))))
+hear-told : {s : Settings} {f : Frame} {buffer : List ℕ} {p : receiver-phase.Phase} {h : receiver.Heard} → length (f .bytes) ≡ 8
+    → Hears s f buffer p h → HeardEights h
+unfolding lmNackOf lmAckOf endOfAckOf smAckOf blankOf
+hear-told e (refuses _) = blank refl refl
+hear-told e (announced _ _ (nacks _ _)) = blank refl refl
+hear-told e (announced _ _ (opens _ _ _ _ _)) = blank refl refl
+hear-told e (announced _ _ again) = blank refl refl
+hear-told e (announced _ _ ignored) = blank refl refl
+hear-told e (informed _ _ _ skips) = blank refl refl
+hear-told e (informed _ _ _ (ended _)) = blank refl refl
+hear-told e (informed _ _ _ (above _)) = blank refl refl
+hear-told e (informed _ _ _ (delivers _ _)) = blank refl refl
+hear-told e (informed _ _ _ (asks _ _ _)) = blank refl refl
+hear-told e (informed _ _ _ (goes-on _ _ _)) = blank refl refl
+hear-told e (closes _) = blank refl refl
+hear-told e (unmoved _ _) = blank refl refl
+hear-told e (short _) = blank refl e
+hear-told e (short-only _) = blank refl e
 
 pub receiver-hear-eight : (r : Receiver) (f : Frame) (buffer : List ℕ) → length (f .bytes) ≡ 8 → HeardEights (hearing.hearOf r f buffer)
-unfolding hearing.hearOf hearing.hearRead blankOf
-receiver-hear-eight r f buffer e =
-    pick-elim HeardEights _
-    (λ _.
-    read-elim (λ (j : Judgement). HeardEights (hearing.hearRead r f buffer j)) f (kind-eight r f buffer (f .kind) e)
-    (blank refl refl))
-    (λ _. blank refl refl)
+receiver-hear-eight r f buffer e = hear-told e (hear-does r f buffer)

@@ -1,14 +1,5 @@
-pub mod Choices
-pub mod Timing
-pub mod Lines
-pub mod Pieces
-pub mod Stages
-pub mod Sends
-pub mod Receives
-pub mod Moves
-pub mod Lives
-pub mod Theorem
-pub mod Example
-pub mod Across
+pub mod Calls
+pub mod Making
 pub mod Refusals
 pub mod Eight
+pub mod Events

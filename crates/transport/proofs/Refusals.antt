@@ -2,60 +2,55 @@
 -- refused or not.
 -- Assumes nothing.
 use Prim.Native.Nat.{ℕ}
-use mathlib.Core.Bool.{Bool, true, false}
+use mathlib.Core.Bool.{Bool, true, false, not, false≢true}
 use mathlib.Core.List.{List}
 use mathlib.Core.Path.{_≡_, refl}
-use Rattle.frame.proofs.Choice.{pick-elim, read-elim}
-use Rattle.frame.specs.Frames.{byteOf, wordAt}
-use Rattle.frame.specs.Reading.{Judgement}
 use Rattle.frame.specs.declared.Frame.{Frame}
-use Rattle.receiver.specs.Hear.{stored, informationOpen, hearAnnouncement, hearInformation, hearNack, hearNumbered, hearKind, hearRead, hearOf}
-use Rattle.receiver.specs.Told.{Told, Heard, heard}
-use Rattle.receiver.specs.declared.Connection.{Connection}
+use Rattle.receiver.proofs.View.{Announced, nacks, opens, again, ignored, Informed, skips, ended, above, delivers, asks, goes-on, Hears, refuses, announced, informed, closes, unmoved, short, short-only, hear-does}
+use Rattle.receiver.specs.Hear.{hearOf}
+use Rattle.receiver.specs.Told.{Heard}
 use Rattle.receiver.specs.declared.Phase.{Phase}
-use Rattle.receiver.specs.declared.Phase.the-variants.{Idle, Done, Open}
 use Rattle.receiver.specs.declared.Receiver.{Receiver}
+use Rattle.receiver.specs.declared.Settings.{Settings}
 use Rattle.transport.specs.Step.{wasRefused, bufferAfter}
 
--- the buffer after the call is what the call left
-abbrev Left : List ℕ → Heard → Type 0
-Left buffer h = bufferAfter (wasRefused (h .told .outcome)) buffer (h .buffer) ≡ h .buffer
+-- what is heard is not refused
+abbrev pub Unrefused : Heard → Type 0
+Unrefused h = not (wasRefused (h .told .outcome)) ≡ true
 
-unchanged : (t : Told) (buffer : List ℕ) → Left buffer (heard t buffer)
-unchanged t buffer = go (wasRefused (t .outcome))
+module _ {rs : Settings} {lent : List ℕ} where
+  pub announced-taken : {q : Phase} {frames l : ℕ} {h : Heard} → Announced rs frames l lent q h → Unrefused h
+  announced-taken (nacks _ _) = refl
+  announced-taken (opens _ _ _ _ _) = refl
+  announced-taken again = refl
+  announced-taken ignored = refl
+
+  pub informed-taken : {q : Phase} {number : ℕ} {bytes : List ℕ} {h : Heard} → Informed rs number bytes lent q h → Unrefused h
+  informed-taken skips = refl
+  informed-taken (ended _) = refl
+  informed-taken (above _) = refl
+  informed-taken (delivers _ _) = refl
+  informed-taken (asks _ _ _) = refl
+  informed-taken (goes-on _ _ _) = refl
+
+taken : (buffer : List ℕ) (h : Heard) → Unrefused h → bufferAfter (wasRefused (h .told .outcome)) buffer (h .buffer) ≡ h .buffer
+taken buffer h = go (wasRefused (h .told .outcome))
   where
-    go : (b : Bool) → bufferAfter b buffer buffer ≡ buffer
-    go true = refl
-    go false = refl
+    go : (b : Bool) → not b ≡ true → bufferAfter b buffer (h .buffer) ≡ h .buffer
+    go true e = absurd (false≢true e)
+    go false e = refl
 
--- a frame that is stored is not refused
-stored-left : (r : Receiver) (x : Connection) (buffer left : List ℕ) → Left buffer (heard (stored r x) left)
-unfolding stored
-stored-left r x buffer left =
-    let P : Told → Type 0 = λ t. Left buffer (heard t left) in
-    pick-elim P _ (λ _. refl) (λ _. pick-elim P _ (λ _. refl) (λ _. refl))
-
-information-left : (r : Receiver) (q : Phase) (number : ℕ) (bytes buffer : List ℕ) → Left buffer (hearInformation r q number bytes buffer)
-unfolding hearInformation informationOpen
-information-left r Idle number bytes buffer = refl
-information-left r (Done x) number bytes buffer =
-    pick-elim (λ (t : Told). Left buffer (heard t buffer)) _ (λ _. refl) (λ _. refl)
-information-left r (Open x) number bytes buffer =
-    pick-elim (Left buffer) _ (λ _. refl) (λ _. pick-elim (Left buffer) _ (λ _. stored-left r x buffer _) (λ _. refl))
-
-kind-left : (r : Receiver) (f : Frame) (buffer : List ℕ) (kind : ℕ) → Left buffer (hearKind r f buffer kind)
-unfolding hearKind hearNumbered
-kind-left r f buffer kind =
-    pick-elim (Left buffer) _
-    (λ _.
-    pick-elim (Left buffer) _ (λ _. unchanged (hearAnnouncement r (r .phase) (byteOf f 1) (wordAt f 2 3)) buffer)
-    (λ _. information-left r (r .phase) _ _ buffer))
-    (λ _. pick-elim (Left buffer) _ (λ _. unchanged (hearNack r (r .phase)) buffer)
-    (λ _. pick-elim (Left buffer) _ (λ _. refl) (λ _. pick-elim (Left buffer) _ (λ _. refl) (λ _. refl))))
+-- the buffer after the call is what the call left
+left : {s : Settings} {f : Frame} {p : Phase} {buffer : List ℕ} {h : Heard} → Hears s f buffer p h
+    → bufferAfter (wasRefused (h .told .outcome)) buffer (h .buffer) ≡ h .buffer
+left (refuses _) = refl
+left {buffer = buffer} {h = h} (announced _ _ a) = taken buffer h (announced-taken a)
+left {buffer = buffer} {h = h} (informed _ _ _ i) = taken buffer h (informed-taken i)
+left (closes _) = refl
+left (unmoved _ _) = refl
+left (short _) = refl
+left (short-only _) = refl
 
 pub buffer-left : (r : Receiver) (f : Frame) (buffer : List ℕ)
     → bufferAfter (wasRefused (hearOf r f buffer .told .outcome)) buffer (hearOf r f buffer .buffer) ≡ hearOf r f buffer .buffer
-unfolding hearOf hearRead
-buffer-left r f buffer =
-    pick-elim (Left buffer) _
-    (λ _. read-elim (λ (j : Judgement). Left buffer (hearRead r f buffer j)) f (kind-left r f buffer (f .kind)) refl) (λ _. refl)
+buffer-left r f buffer = left (hear-does r f buffer)

@@ -1,6 +1,5 @@
 pub mod World
 pub mod Step
-pub mod Seen
-pub mod Demand3
-pub mod Example
-pub mod Across
+pub mod Capped
+pub mod Make
+pub mod Answer

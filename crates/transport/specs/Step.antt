@@ -3,6 +3,7 @@
 use Prim.Native.Nat.{ℕ}
 use mathlib.Core.Bool.{Bool, true, false}
 use mathlib.Core.List.{List, [], _∷_, _++_}
+use Rattle.frame.specs.Frames.{blankOf}
 use Rattle.frame.specs.declared.Frame.{Frame}
 use Rattle.receiver.specs.Hear as hearing
 use Rattle.receiver.specs.Tick as ticking
@@ -29,7 +30,7 @@ unheard c w =
     record {
       world = w;
       event =
-          record { call = c; given = nobody; emitted = []; sender = sender.quiet; receiver = receiver.quiet; bytes = []; lent = [] };
+          record { call = c; given = nobody; emitted = []; frame = blankOf; sender = sender.quiet; receiver = receiver.quiet; bytes = receiver.noBytes; lent = [] };
     }
 
 -- a call of the sender, its frame given or none: "Emitted frames join the end" of forward
@@ -49,9 +50,10 @@ bySender c w given back t =
             call = c;
             given = given;
             emitted = emission (t .emits) (t .frame);
+            frame = t .frame;
             sender = t .outcome;
             receiver = receiver.quiet;
-            bytes = [];
+            bytes = receiver.noBytes;
             lent = [];
           };
     }
@@ -87,6 +89,7 @@ byReceiver c w given forward h =
             call = c;
             given = given;
             emitted = emission (h .told .emits) (h .told .frame);
+            frame = h .told .frame;
             sender = sender.quiet;
             receiver = h .told .outcome;
             bytes = h .told .bytes;

@@ -36,12 +36,13 @@ pub data Given : Type 0 where
   toReceiver : Frame → Given
 
 -- What is seen of a call from outside: the call, the frame that an end heard, the frame that an end emitted (none or one),
--- what each end reported (quiet at the end that was not called), the bytes of a short delivery, and the lent buffer as a
+-- the frame that it answered with (blank where none was emitted), what each end reported (quiet at the end that was not called), the bytes of a short delivery, and the lent buffer as a
 -- hearing of the receiver leaves it.
 pub record Event : Type 0 where
   pub call : Call
   pub given : Given
   pub emitted : List Frame
+  pub frame : Frame
   pub sender : sender.Outcome
   pub receiver : receiver.Outcome
   pub bytes : List ℕ

@@ -15,8 +15,8 @@ cast-part c = search needs
 part-requires : tie.Need-part-requires
 part-requires c κs = search needs
 
-begin-requires : tie.Need-begin-requires
-begin-requires c κs = begins-line _ (length (c .before .before .before .before .before .before .before .before .before .before .before .args .out .now)) (c .before .before .before .before .before .before .before .begins-on .ensures) (c .before .before .before .before .before .before .if1 .taken)
+first-turn-requires : tie.Need-first-turn-requires
+first-turn-requires c κs = begins-line _ (length (c .before .before .before .before .before .before .before .before .before .before .before .args .out .now)) (c .before .before .before .before .before .before .before .begins-on .ensures) (c .before .before .before .before .before .before .if1 .taken)
 
 after-requires : tie.Need-after-requires
 after-requires c κs = search needs
@@ -34,7 +34,7 @@ returns : tie.Need-returns
 returns c =
     let begun = c .before .before .before .before .before in
     let tested = begun .before .before .before .before .before .before .before in
-    begin-there _ _ _ _ _ _ _ _ _ _ (tested .before .begins-on .ensures) (tested .if1 .taken) (begun .before .before .before .part .ensures) (begun .begin .ensures) (c .after .ensures)
+    begin-there _ _ _ _ _ _ _ _ _ _ (tested .before .begins-on .ensures) (tested .if1 .taken) (begun .before .before .before .part .ensures) (begun .first-turn .ensures) (c .after .ensures)
 
 returns-2 : tie.Need-returns-2
 returns-2 c = begin-not _ _ _ _ _ (c .before .before .begins-on .ensures) (c .before .if1 .left) (c .unchanged .ensures)
@@ -46,7 +46,7 @@ begin-spec =
     begins-on-requires
     cast-part
     part-requires
-    begin-requires
+    first-turn-requires
     after-requires
     unchanged-requires
     same-length

@@ -1,0 +1,11 @@
+pub mod Timing
+pub mod Lines
+pub mod Pieces
+pub mod Stages
+pub mod Sends
+pub mod Receives
+pub mod Moves
+pub mod Lives
+pub mod Theorem
+pub mod Example
+pub mod Runs

@@ -1,0 +1,176 @@
+-- What the receiver's calls do to a long transfer's stage: each leaves a stage behind, with what was delivered added.
+use Prim.Native.Nat.{ℕ, _≤_, _<_}
+use mathlib.Core.Bool.{Bool, true, false}
+use mathlib.Core.List.{List, [], _∷_, _++_, append-nil}
+use mathlib.Core.Path.{_≡_, refl, ap₂, _∙_, subst⁻¹}
+use native.Mathlib.Omega.{arith}
+use lib.ListN.{length}
+use Rattle.frame.specs.Count.{frameCountOf}
+use Rattle.frame.specs.Frames.{endOfAckOf}
+use Rattle.frame.specs.declared.Frame.{Frame}
+use Rattle.receiver.proofs.View.{receiverIn, Shut, Ticks, rests, waits, retries, expires, tick-does, Announced, nacks, opens, again, ignored, Informed, skips, ended, Hears, hear-does}
+use Rattle.receiver.specs.Hear.{hearOf}
+use Rattle.receiver.specs.Tick.{tickOf}
+use Rattle.receiver.specs.Told.{Told, Heard, heard}
+use Rattle.receiver.specs.declared.Phase.{Phase}
+use Rattle.receiver.specs.declared.Phase.the-variants.{Done}
+use Rattle.receiver.specs.declared.Settings.{Settings}
+use Rattle.delivery.proofs.Lines.{Line, more, joins, widens, behind, Ordered, late, early, behind-ordered}
+use Rattle.delivery.proofs.Receives.{Read, refused, read, reads-announcement, reads-information, Goes, silent, replies, fails, Ends, goes, ends, half-tick, half-announcement, half-information}
+use Rattle.transport.proofs.Refusals.{Unrefused}
+use Rattle.delivery.proofs.Stages as stages
+use Rattle.delivery.proofs.Stages.{framesOf, Announces, announces, Carries, carries, Refuses, Replies, grants, Closes, Halfway, closed, opened, Stage, fresh, asked, going, there}
+use Rattle.delivery.specs.Seen.{deliveriesBy}
+use Rattle.transport.specs.Step.{emission, wasRefused, bufferAfter, Rest, gone, still, leaving}
+
+-- the stage after a call of the receiver that told h: forward as the call left it, back, the buffer and the deliveries as
+-- they were before it
+pub record Took (m : List ℕ) (isOpening : Bool) (forward back : List Frame) (buffer : List ℕ) (ds : List (List ℕ)) (h : Heard) : Type 0 where
+  pub stage :
+      Stage m isOpening (h .told .next .phase) forward (back ++ emission (h .told .emits) (h .told .frame))
+      (bufferAfter (wasRefused (h .told .outcome)) buffer (h .buffer))
+      (deliveriesBy (h .told .outcome) (h .told .bytes) (h .buffer) ++ ds)
+
+-- the receiver remembers m's N and L
+abbrev holding : List ℕ → Phase
+holding m = Done (record { frames = framesOf m; length = length m })
+
+-- no frame joins
+same : {P : Frame → Type 0} {fs : List Frame} → Line P fs → Line P (fs ++ [])
+same l = rw append-nil l
+
+refused-is : (f : Frame) → Refuses f → Replies f
+refused-is f (stages.Refuses.refuses cause) = stages.Replies.refuses cause
+
+module _ {m : List ℕ} {rs : Settings} {forward back : List Frame} {buffer : List ℕ} where
+  asked-goes : {h : Heard} → Line (Announces m) forward → Line Replies back → Goes m rs h → Took m true forward back buffer [] h
+  asked-goes l b (silent h) = record { stage = asked h l (same b) }
+  asked-goes l b (replies h r) = record { stage = asked h l (joins b r) }
+  asked-goes l b (fails r) = record { stage = asked closed l (joins b r) }
+
+  going-goes : {h : Heard} → Ordered (Announces m) (Carries m) forward → Line Replies back → Goes m rs h → Took m false forward back buffer [] h
+  going-goes l b (silent h) = record { stage = going h l (same b) }
+  going-goes l b (replies h r) = record { stage = going h l (joins b r) }
+  going-goes l b (fails r) = record { stage = going closed l (joins b r) }
+
+  -- the last frame: m has been delivered, and only information frames are left on forward
+  going-ends : {h : Heard} → Line (Carries m) forward → Line Replies back → Ends m rs h → Took m false forward back buffer [] h
+  going-ends l b (goes g) = going-goes (late l) b g
+  going-ends l b (ends {left = left} many long e whole) =
+      record {
+        stage =
+            rw (many, long, whole) (there l (joins (widens (λ f r. stages.replies r) b) (stages.ends (e ∙ ap₂ endOfAckOf many long))));
+      }
+
+module _ {m : List ℕ} {rs : Settings} {forward back : List Frame} {buffer : List ℕ} where
+  -- the announcement of m, heard while the receiver is shut and has not opened: refused, or it opens
+  fresh-announcement : {q : Phase} {lent : List ℕ} {h : Heard} → 1 ≤ framesOf m → Shut q → Line (Announces m) forward → Line Refuses back
+      → Announced rs (framesOf m) (length m) lent q h → Took m true forward back buffer [] h
+  fresh-announcement some shut l b (nacks _ cause) = record { stage = fresh shut l (joins b (stages.Refuses.refuses cause)) }
+  fresh-announcement some shut l b (opens _ _ _ _ _) =
+      let one : 1 ≤ 1 = omega arith in
+      record { stage = asked (opened refl refl one some refl) l (joins (widens refused-is b) (grants 1 _)) }
+  fresh-announcement some shut l b again = absurd shut
+  fresh-announcement some shut l b ignored = absurd shut
+
+  -- after the delivery the last frame again draws EndofACK again; nothing else happens
+  there-information : {lent bytes : List ℕ} {number : ℕ} {h : Heard} → Line (Carries m) forward → Line (Closes m) back
+      → Informed rs number bytes lent (holding m) h → Took m false forward back buffer (m ∷ []) h
+  there-information l b skips = record { stage = there l (same b) }
+  there-information l b (ended _) = record { stage = there l (joins b (stages.ends refl)) }
+
+-- ---- every stage
+
+ticked : {m : List ℕ} {isOpening : Bool} {q : Phase} {forward back : List Frame} {buffer : List ℕ} {ds : List (List ℕ)} {rs : Settings} {t : Told}
+    → Stage m isOpening q forward back buffer ds → Ticks rs q t → Took m isOpening forward back buffer ds (heard t buffer)
+ticked (fresh shut l b) (rests _) = record { stage = fresh shut l (same b) }
+ticked (fresh shut l b) (waits _) = absurd shut
+ticked (fresh shut l b) (retries _ _) = absurd shut
+ticked (fresh shut l b) expires = absurd shut
+ticked {m} {rs = rs} (asked h l b) v = asked-goes l b (half-tick m rs v h)
+ticked {m} {rs = rs} (going h l b) v = going-goes l b (half-tick m rs v h)
+ticked (there l b) (rests _) = record { stage = there l (same b) }
+
+pub stage-tick : {m : List ℕ} {isOpening : Bool} {q : Phase} {forward back : List Frame} {buffer : List ℕ} {ds : List (List ℕ)} (rs : Settings)
+    → Stage m isOpening q forward back buffer ds
+    → Took m isOpening forward back buffer ds (heard (tickOf (receiverIn rs q)) buffer)
+stage-tick {q = q} rs s = ticked s (tick-does (receiverIn rs q))
+
+-- what is left of a list whose first frame was given
+pub left-line : {P : Frame → Type 0} {f : Frame} {fs : List Frame} (k : Rest) → Line P (f ∷ fs) → Line P (leaving k f fs)
+left-line gone l = behind l
+left-line still l = l
+
+left-ordered : {P Q : Frame → Type 0} {f : Frame} {fs : List Frame} (k : Rest) → Ordered P Q (f ∷ fs) → Ordered P Q (leaving k f fs)
+left-ordered gone o = behind-ordered o
+left-ordered still o = o
+
+-- the first frame of forward has been taken away, or kept
+pub stage-leaving : {m : List ℕ} {isOpening : Bool} {q : Phase} {f : Frame} {rest back : List Frame} {buffer : List ℕ} {ds : List (List ℕ)} (k : Rest)
+    → Stage m isOpening q (f ∷ rest) back buffer ds
+    → Stage m isOpening q (leaving k f rest) back buffer ds
+stage-leaving k (fresh shut l b) = fresh shut (left-line k l) b
+stage-leaving k (asked h l b) = asked h (left-line k l) b
+stage-leaving k (going h l b) = going h (left-ordered k l) b
+stage-leaving k (there l b) = there (left-line k l) b
+
+-- the first frame of back has been lost
+pub stage-back : {m : List ℕ} {isOpening : Bool} {q : Phase} {f : Frame} {forward rest : List Frame} {buffer : List ℕ} {ds : List (List ℕ)}
+    → Stage m isOpening q forward (f ∷ rest) buffer ds
+    → Stage m isOpening q forward rest buffer ds
+stage-back (fresh shut l b) = fresh shut l (behind b)
+stage-back (asked h l b) = asked h l (behind b)
+stage-back (going h l b) = going h l (behind b)
+stage-back (there l b) = there l (behind b)
+
+-- the transfer's own facts
+pub record Fits (m : List ℕ) : Type 0 where
+  pub long : 8 < length m
+  pub fits : length m ≤ 1785
+
+some-frames : (m : List ℕ) → Fits m → 1 ≤ framesOf m
+unfolding frameCountOf
+some-frames m w = omega arith
+
+module _ {m : List ℕ} (w : Fits m) {rs : Settings} {lent : List ℕ} (k : Rest) where
+  announcement : {q : Phase} {f : Frame} {h : Heard} → Announces m f → Hears rs f lent q h → Read rs q lent (Announced rs (framesOf m) (length m) lent q) h
+  announcement (announces e) v = let small = w .fits in reads-announcement _ _ (omega arith) (rw e at v)
+
+  -- the stage stays where the hearing is refused; else its buffer is the world's, and what is read decides
+  taken : {isOpening : Bool} {q : Phase} {f : Frame} {rest back : List Frame} {buffer : List ℕ} {ds : List (List ℕ)} {h : Heard} {P : Heard → Type 0}
+      → Stage m isOpening q (f ∷ rest) back buffer ds
+      → (Unrefused h → lent ≡ buffer)
+      → Read rs q lent P h
+      → (lent ≡ buffer → P h → Took m isOpening (leaving k f rest) back buffer ds h)
+      → Took m isOpening (leaving k f rest) back buffer ds h
+  taken s c (refused number) t = record { stage = rw append-nil (stage-leaving k s) }
+  taken s c (read u p) t = t (c u) p
+
+  -- the hearing of the first frame of forward, whatever the stage
+  heard-stage : {isOpening : Bool} {q : Phase} {f : Frame} {rest back : List Frame} {buffer : List ℕ} {ds : List (List ℕ)} {h : Heard}
+      → Stage m isOpening q (f ∷ rest) back buffer ds
+      → (Unrefused h → lent ≡ buffer)
+      → Hears rs f lent q h
+      → Took m isOpening (leaving k f rest) back buffer ds h
+  heard-stage (fresh shut (more a l) b) c v =
+      taken (fresh shut (more a l) b) c (announcement a v) (λ e n. fresh-announcement (some-frames m w) shut (left-line k (more a l)) b n)
+  heard-stage {q = q} (asked h (more a l) b) c v =
+      taken (asked h (more a l) b) c (announcement a v)
+      (λ e n. asked-goes (left-line k (more a l)) b (half-announcement m rs (some-frames m w) n (subst⁻¹ (Halfway m q) e h)))
+  heard-stage {q = q} (going h (early a o) b) c v =
+      taken (going h (early a o) b) c (announcement a v)
+      (λ e n. going-goes (left-ordered k (early a o)) b (half-announcement m rs (some-frames m w) n (subst⁻¹ (Halfway m q) e h)))
+  heard-stage {q = q} (going h (late (more (carries number low high) l)) b) c v =
+      taken (going h (late (more (carries number low high) l)) b) c (reads-information number m low v)
+      (λ e n. going-ends (left-line k (more (carries number low high) l)) b (half-information m rs number lent (n .0) (w .fits) high (n .1) (subst⁻¹ (Halfway m q) e h)))
+  heard-stage (there (more (carries number low high) l) b) c v =
+      taken (there (more (carries number low high) l) b) c (reads-information number m low v)
+      (λ e n. there-information (left-line k (more (carries number low high) l)) b (n .1))
+
+-- a hearing of the first frame of forward
+pub stage-hear : {m : List ℕ} → Fits m → {isOpening : Bool} {q : Phase} {f : Frame} {rest back : List Frame} {buffer : List ℕ} {ds : List (List ℕ)}
+    (rs : Settings) (lent : List ℕ) (k : Rest)
+    → Stage m isOpening q (f ∷ rest) back buffer ds
+    → (Unrefused (hearOf (receiverIn rs q) f lent) → lent ≡ buffer)
+    → Took m isOpening (leaving k f rest) back buffer ds (hearOf (receiverIn rs q) f lent)
+stage-hear w {q = q} {f = f} rs lent k s c = heard-stage w k s c (hear-does (receiverIn rs q) f lent)

@@ -1,0 +1,115 @@
+-- What the receiver does in a long transfer, at a tick and at each frame that the sender of that transfer emits.
+use Prim.Native.Nat.{ℕ, _+_, _-_, _*_, _≤_, _<_}
+use mathlib.Core.Bool.{true, false, not}
+use mathlib.Core.List.{List}
+use mathlib.Core.Path.{_≡_, refl, _∙_}
+use native.Mathlib.Omega.{arith}
+use lib.ListN.{length, take}
+use Rattle.frame.specs.Frames.{fillTo, partFrom, announcementOf, informationOf, endOfAckOf}
+use Rattle.frame.proofs.Laws.{word-whole}
+use Rattle.frame.specs.declared.Frame.{Frame}
+use Rattle.receiver.proofs.View.{receiverIn, moved, Ticks, rests, waits, retries, expires, Announced, nacks, opens, again, ignored, Informed, skips, ended, above, delivers, asks, goes-on, Hears, refuses, announced, informed, closes, unmoved, short, short-only}
+use Rattle.receiver.specs.Hear.{storing}
+use Rattle.receiver.specs.Told.{Told, Heard, heard, quiet, delivered, failed, refusing}
+use Rattle.receiver.specs.declared.Connection.{Connection}
+use Rattle.receiver.specs.declared.Phase.{Phase}
+use Rattle.receiver.specs.declared.Phase.the-variants.{Idle, Done, Open}
+use Rattle.receiver.specs.declared.Settings.{Settings}
+use Rattle.sender.specs.Tick.{informationAt}
+use Rattle.delivery.proofs.Pieces.{next-stored, last-stored}
+use Rattle.delivery.proofs.Stages as stages
+use Rattle.delivery.proofs.Stages.{framesOf, Replies, grants, Halfway, opened}
+use Rattle.transport.proofs.Refusals.{Unrefused, announced-taken, informed-taken}
+
+-- ---- the frames of a transfer, as the receiver reads them
+
+-- a hearing is refused, or the frame is read as what it is
+pub data Read (rs : Settings) (q : Phase) (lent : List ℕ) (P : Heard → Type 0) : Heard → Type 0 where
+  refused : (number : ℕ) → Read rs q lent P (heard (refusing (receiverIn rs q) number) lent)
+  read : {h : Heard} → Unrefused h → P h → Read rs q lent P h
+
+module _ {rs : Settings} {lent : List ℕ} where
+  pub reads-announcement : {q : Phase} {h : Heard} (frames l : ℕ) → l < 65536 → Hears rs (announcementOf frames l) lent q h
+      → Read rs q lent (Announced rs frames l lent q) h
+  unfolding announcementOf
+  reads-announcement frames l small (refuses number) = refused number
+  reads-announcement frames l small (announced _ _ a) = read (announced-taken a) (rw (word-whole l small) at a)
+  reads-announcement frames l small (informed _ _ z _) = absurd (omega arith)
+  reads-announcement frames l small (closes k) = absurd (omega arith)
+  reads-announcement frames l small (unmoved _ k) = absurd (omega arith)
+  reads-announcement frames l small (short k) = absurd (omega arith)
+  reads-announcement frames l small (short-only k) = absurd (omega arith)
+
+  pub reads-information : {q : Phase} {h : Heard} (number : ℕ) (m : List ℕ) → 1 ≤ number → Hears rs (informationAt number m) lent q h
+      → Read rs q lent (λ g. (length lent ≡ 1785) × Informed rs number (fillTo 7 (partFrom number m)) lent q g) h
+  unfolding informationOf
+  reads-information number m low (refuses n) = refused n
+  reads-information number m low (announced _ z _) = absurd (omega arith)
+  reads-information number m low (informed held _ _ i) = read (informed-taken i) (held, i)
+  reads-information number m low (closes k) = absurd (omega arith)
+  reads-information number m low (unmoved _ k) = absurd (omega arith)
+  reads-information number m low (short k) = absurd (omega arith)
+  reads-information number m low (short-only k) = absurd (omega arith)
+
+-- ---- what the receiver answers while the message is on its way
+
+-- nothing, a reply, or a failure with a reply
+pub data Goes (m : List ℕ) (rs : Settings) : Heard → Type 0 where
+  silent : {q : Phase} {f : Frame} {bytes left : List ℕ}
+      → Halfway m q left
+      → Goes m rs (heard (record { next = receiverIn rs q; emits = false; frame = f; outcome = quiet; bytes = bytes }) left)
+  replies : {q : Phase} {f : Frame} {bytes left : List ℕ}
+      → Halfway m q left
+      → Replies f
+      → Goes m rs (heard (record { next = receiverIn rs q; emits = true; frame = f; outcome = quiet; bytes = bytes }) left)
+  fails : {f : Frame} {cause : ℕ} {bytes left : List ℕ}
+      → Replies f
+      → Goes m rs (heard (record { next = receiverIn rs Idle; emits = true; frame = f; outcome = failed cause; bytes = bytes }) left)
+
+-- or the delivery
+pub data Ends (m : List ℕ) (rs : Settings) : Heard → Type 0 where
+  goes : {h : Heard} → Goes m rs h → Ends m rs h
+  ends : {frames l : ℕ} {f : Frame} {bytes left : List ℕ}
+      → frames ≡ framesOf m
+      → l ≡ length m
+      → f ≡ endOfAckOf frames l
+      → take (length m) left ≡ m
+      → Ends m rs (heard (record { next = receiverIn rs (Done (record { frames = frames; length = l })); emits = true; frame = f; outcome = delivered l; bytes = bytes }) left)
+
+module _ (m : List ℕ) (rs : Settings) where
+  pub half-tick : {q : Phase} {t : Told} {left : List ℕ} → Ticks rs q t → Halfway m q left → Goes m rs (heard t left)
+  half-tick (rests _) h = silent h
+  half-tick (waits _) (opened many long low high before) = silent (opened many long low high before)
+  half-tick (retries _ _) (opened many long low high before) = replies (opened many long low high before) (grants _ _)
+  half-tick expires h = fails (stages.Replies.refuses 2)
+
+  -- the announcement of m: refused, or the connection is open for m
+  pub half-announcement : {q : Phase} {left : List ℕ} {h : Heard} → 1 ≤ framesOf m → Announced rs (framesOf m) (length m) left q h
+      → Halfway m q left → Goes m rs h
+  half-announcement some (nacks _ cause) h = replies h (stages.Replies.refuses cause)
+  half-announcement some (opens _ _ _ _ _) h =
+      let one : 1 ≤ 1 = omega arith in
+      replies (opened refl refl one some refl) (grants 1 _)
+  half-announcement some again h = replies h (grants 1 _)
+  half-announcement some ignored h = silent h
+
+  module _ (number : ℕ) (left : List ℕ) (held : length left ≡ 1785) (fits : length m ≤ 1785) where
+    abbrev stored : Connection → List ℕ
+    stored x = storing left number (x .length) (fillTo 7 (partFrom number m))
+
+    -- the next frame is expected, and the bytes before it are m's
+    next : {x : Connection} (last : ℕ) → number ≡ x .expected → x .expected < x .frames → Halfway m (Open x) left
+        → Halfway m (Open (moved x (x .expected + 1) last 0 0)) (stored x)
+    next {x} last at more (opened many long low high before) =
+        let low′ : 1 ≤ x .expected + 1 = omega arith in
+        let high′ : x .expected + 1 ≤ framesOf m = omega arith in
+        opened {buffer = stored x} many long low′ high′ (rw (at, long) (next-stored m left (x .expected) held fits low high before (omega arith)))
+
+    pub half-information : {q : Phase} {h : Heard} → number ≤ framesOf m → Informed rs number (fillTo 7 (partFrom number m)) left q h
+        → Halfway m q left → Ends m rs h
+    half-information inside skips h = goes (silent h)
+    half-information inside (above over) (opened many long low high before) = absurd (omega arith)
+    half-information inside (delivers {x} at whole) (opened many long low high before) =
+        ends {left = stored x} many long refl (rw (at, long) (last-stored m left (x .expected) held fits low high before (whole ∙ many)))
+    half-information inside (asks at more _) h = goes (replies (next _ at more h) (grants _ _))
+    half-information inside (goes-on at more _) h = goes (silent (next _ at more h))

@@ -1,0 +1,301 @@
+-- What the sender does in a transfer: at a tick it goes on, with a frame of the transfer or none, or fails; at a frame
+-- heard it goes on, takes up a window, or finishes.
+use Prim.Native.Nat.{ℕ, _+_, _-_, _≤_, _<_, min}
+use mathlib.Core.Bool.{Bool, true, false, _||_}
+use mathlib.Core.List.{List}
+use mathlib.Core.Path.{_≡_, refl, ap, ap₂, _∙_, subst⁻¹}
+use native.Mathlib.Omega.{arith}
+use borrow.Author.Tests.{leb-false, ltb-false, eqb-false}
+use lib.Dec.{eqb, leb, ltb}
+use lib.ListN.{length}
+use Rattle.frame.specs.Choice.{pick}
+use Rattle.frame.specs.Count.{incrementOf}
+use Rattle.frame.specs.Frames.{wordAt, announcementOf, lmAckOf, lmNackOf, endOfAckOf, smAckOf}
+use Rattle.frame.specs.Reading.{readOf, namedOf, allFiller}
+use Rattle.frame.specs.declared.Frame.{Frame}
+use Rattle.sender.specs.Hear.{hearOf, hearRead, hearKind, hearAck, hearNack, hearEnd, hearShortAck, ackOpening, ackWindow, taking, ifWhole}
+use Rattle.sender.specs.State.{aged, counted}
+use Rattle.sender.specs.Tick.{tickOf, tickPhase, tickOpening, tickSending, tickWaiting, tickShort, afterFrame}
+use Rattle.sender.specs.Told.{Told, quiet, refused, sent, failed, refusing}
+use Rattle.sender.specs.declared.Announced.{Announced}
+use Rattle.sender.specs.declared.Awaited.{Awaited}
+use Rattle.sender.specs.declared.Phase.{Phase}
+use Rattle.sender.specs.declared.Phase.the-variants.{Idle, Opening, Sending, Waiting, Short}
+use Rattle.sender.specs.declared.Sender.{Sender}
+use Rattle.sender.specs.declared.Settings.{Settings}
+use Rattle.sender.specs.declared.Single.{Single}
+use Rattle.sender.specs.declared.Streamed.{Streamed}
+use Rattle.sender.specs.declared.Transfer.{Transfer}
+use Rattle.frame.proofs.Choice.{pick-elim, read-elim}
+use Rattle.frame.proofs.Choice.{neither-left, neither-right}
+use Rattle.frame.proofs.Laws.{increment-is}
+use Rattle.delivery.proofs.Stages.{senderIn, framesOf, announces, carries, Adds, announcement, information, Keeps, Moving, opening, sending, waiting, Lone, lone, Repeats, repeats}
+use Rattle.delivery.specs.Seen.{taken}
+
+-- a tick that is lent the begun length is not refused
+abbrev Taken : Told → Type 0
+Taken a = taken (a .outcome) ≡ true
+
+opening-taken : (s : Sender) (x : Announced) → Taken (tickOpening s x)
+unfolding tickOpening
+opening-taken s x =
+    pick-elim Taken _ (λ _. refl)
+    (λ _. pick-elim Taken _ (λ _. pick-elim Taken _ (λ _. refl) (λ _. refl)) (λ _. refl))
+
+sending-taken : (s : Sender) (x : Streamed) (m : List ℕ) → Taken (tickSending s x m)
+unfolding tickSending
+sending-taken s x m = pick-elim Taken _ (λ _. refl) (λ _. pick-elim Taken _ (λ _. refl) (λ _. refl))
+
+waiting-taken : (s : Sender) (x : Awaited) (m : List ℕ) → Taken (tickWaiting s x m)
+unfolding tickWaiting
+waiting-taken s x m =
+    pick-elim Taken _ (λ _. refl)
+    (λ _. pick-elim Taken _ (λ _. pick-elim Taken _ (λ _. refl) (λ _. refl)) (λ _. refl))
+
+short-taken : (s : Sender) (x : Single) (m : List ℕ) → Taken (tickShort s x m)
+unfolding tickShort
+short-taken s x m = pick-elim Taken _ (λ _. refl) (λ _. pick-elim Taken _ (λ _. refl) (λ _. refl))
+
+-- What a tick tells of a transfer of which n ticks had passed: S says what holds of the phase after so many ticks, A which
+-- frames go out.
+pub data Ticks (st : Settings) (S : ℕ → Phase → Type 0) (A : Frame → Type 0) (n : ℕ) : Told → Type 0 where
+  over : {emits : Bool} {f : Frame} {cause ticks frames : ℕ}
+      → Ticks st S A n (record { next = senderIn st Idle; emits = emits; frame = f; outcome = failed cause ticks frames })
+  kept : {p : Phase} {f : Frame} {number : ℕ}
+      → S n p
+      → Ticks st S A n (record { next = senderIn st p; emits = false; frame = f; outcome = refused number })
+  waits : {p : Phase} {f : Frame}
+      → n + 1 < st .limit
+      → S (n + 1) p
+      → Ticks st S A n (record { next = senderIn st p; emits = false; frame = f; outcome = quiet })
+  adds : {p : Phase} {f : Frame}
+      → n + 1 < st .limit
+      → S (n + 1) p
+      → A f
+      → Ticks st S A n (record { next = senderIn st p; emits = true; frame = f; outcome = quiet })
+
+-- a tick is refused, or it is lent the begun message m
+lent : {st : Settings} {S : ℕ → Phase → Type 0} {A : Frame → Type 0} {n : ℕ} (p : Phase) {m : List ℕ} (b : Bool) (answer : List ℕ → Told) (l : List ℕ)
+    → S n p
+    → ((k : List ℕ) → Taken (answer k))
+    → Ticks st S A n (answer m)
+    → (Taken (pick b (answer l) (refusing (senderIn st p) 4)) → l ≡ m)
+    → Ticks st S A n (pick b (answer l) (refusing (senderIn st p) 4))
+unfolding pick
+lent {st} {S} {A} {n} p true answer l v u k c = subst⁻¹ (λ (j : List ℕ). Ticks st S A n (answer j)) (c (u l)) k
+lent p false answer l v u k c = kept v
+
+module _ (st : Settings) (small : st .limit ≤ 60000) (m : List ℕ) (n : ℕ) (young : n < st .limit) where
+  -- the age grows by 1
+  grows : (t : Transfer) → Keeps m t n → incrementOf (t .age) ≡ n + 1
+  grows t k = ap incrementOf (k .old) ∙ increment-is n (omega arith)
+
+  older : (t : Transfer) → Keeps m t n → Keeps m (aged t) (n + 1)
+  older t k = record { long = k .long; many = k .many; old = grows t k }
+
+  older-counted : (t : Transfer) → Keeps m t n → Keeps m (counted (aged t)) (n + 1)
+  older-counted t k = record { long = k .long; many = k .many; old = grows t k }
+
+  -- short of M after this tick
+  in-time : (t : Transfer) → Keeps m t n → leb (st .limit) (incrementOf (t .age)) ≡ false → n + 1 < st .limit
+  in-time t k e = let h = leb-false (st .limit) (incrementOf (t .age)) e in let g = grows t k in omega arith
+
+  tick-opening : (x : Announced) → Keeps m (x .transfer) n → Ticks st (λ k. Moving m k true) (Adds m true) n (tickOpening (senderIn st (Opening x)) x)
+  unfolding tickOpening
+  tick-opening x k =
+      let P = Ticks st (λ k. Moving m k true) (Adds m true) n in
+      let t = x .transfer in
+      pick-elim P _ (λ late. over)
+      (λ early. pick-elim P _
+      (λ due. pick-elim P _ (λ third. over)
+      (λ more. adds (in-time t k early) (opening (older-counted t k)) (announcement (announces (ap₂ announcementOf (k .many) (k .long))))))
+      (λ soon. waits (in-time t k early) (opening (older t k))))
+
+  -- the window's next frame has gone out
+  after-frame : (x : Streamed) → Keeps m (x .transfer) n → 1 ≤ x .next → x .next ≤ x .last → x .last ≤ framesOf m
+      → Moving m (n + 1) false (afterFrame x)
+  unfolding afterFrame
+  after-frame x k low mid high =
+      pick-elim (Moving m (n + 1) false) _ (λ end. waiting (older-counted (x .transfer) k) (omega arith) high)
+      (λ inside.
+      let h = leb-false (x .last) (x .next) inside in
+      sending (older-counted (x .transfer) k) (omega arith) (omega arith) high)
+
+  tick-sending : (x : Streamed) → Keeps m (x .transfer) n → 1 ≤ x .next → x .next ≤ x .last → x .last ≤ framesOf m
+      → Ticks st (λ k. Moving m k false) (Adds m false) n (tickSending (senderIn st (Sending x)) x m)
+  unfolding tickSending
+  tick-sending x k low mid high =
+      let P = Ticks st (λ k. Moving m k false) (Adds m false) n in
+      let t = x .transfer in
+      pick-elim P _ (λ late. over)
+      (λ early. pick-elim P _
+      (λ due. adds (in-time t k early) (after-frame x k low mid high) (information (carries (x .next) low (omega arith))))
+      (λ soon. waits (in-time t k early) (sending (older t k) low mid high)))
+
+  tick-waiting : (x : Awaited) → Keeps m (x .transfer) n → 1 ≤ x .last → x .last ≤ framesOf m
+      → Ticks st (λ k. Moving m k false) (Adds m false) n (tickWaiting (senderIn st (Waiting x)) x m)
+  unfolding tickWaiting
+  tick-waiting x k low high =
+      let P = Ticks st (λ k. Moving m k false) (Adds m false) n in
+      let t = x .transfer in
+      pick-elim P _ (λ late. over)
+      (λ early. pick-elim P _
+      (λ due. pick-elim P _ (λ third. over)
+      (λ more. adds (in-time t k early) (waiting (older-counted t k) low high) (information (carries (x .last) low high))))
+      (λ soon. waits (in-time t k early) (waiting (older t k) low high)))
+
+  pub long-tick : {isOpening : Bool} {p : Phase} → Moving m n isOpening p → (l : List ℕ)
+      → (taken (tickOf (senderIn st p) l .outcome) ≡ true → l ≡ m)
+      → Ticks st (λ k. Moving m k isOpening) (Adds m isOpening) n (tickOf (senderIn st p) l)
+  unfolding tickOf tickPhase
+  long-tick (opening {x} k) l c =
+      lent (Opening x) _ (λ j. tickOpening (senderIn st (Opening x)) x) l (opening k) (λ j. opening-taken (senderIn st (Opening x)) x) (tick-opening x k) c
+  long-tick (sending {x} k low mid high) l c =
+      lent (Sending x) _ (tickSending (senderIn st (Sending x)) x) l (sending k low mid high) (sending-taken (senderIn st (Sending x)) x) (tick-sending x k low mid high) c
+  long-tick (waiting {x} k low high) l c =
+      lent (Waiting x) _ (tickWaiting (senderIn st (Waiting x)) x) l (waiting k low high) (waiting-taken (senderIn st (Waiting x)) x) (tick-waiting x k low high) c
+
+  -- ---- a short transfer
+
+  tick-single : (x : Single) → x .transfer .length ≡ length m → x .transfer .age ≡ n
+      → Ticks st (Lone m) (Repeats m) n (tickShort (senderIn st (Short x)) x m)
+  unfolding tickShort
+  tick-single x whole old =
+      let P = Ticks st (Lone m) (Repeats m) n in
+      let older : incrementOf (x .transfer .age) ≡ n + 1 = ap incrementOf old ∙ increment-is n (omega arith) in
+      pick-elim P _ (λ late. over)
+      (λ early.
+      let h = leb-false (st .limit) (incrementOf (x .transfer .age)) early in
+      let time : n + 1 < st .limit = omega arith in
+      pick-elim P _ (λ due. adds time (lone whole older) repeats) (λ soon. waits time (lone whole older)))
+
+  pub short-tick : {p : Phase} → Lone m n p → (l : List ℕ)
+      → (taken (tickOf (senderIn st p) l .outcome) ≡ true → l ≡ m)
+      → Ticks st (Lone m) (Repeats m) n (tickOf (senderIn st p) l)
+  unfolding tickOf tickPhase
+  short-tick (lone {x} whole old) l c =
+      lent (Short x) _ (tickShort (senderIn st (Short x)) x) l (lone whole old) (short-taken (senderIn st (Short x)) x) (tick-single x whole old) c
+
+-- ---- hearing
+
+-- what the sender does at each frame that a receiver emits
+hears-ack : (s : Sender) (start count : ℕ) → hearOf s (lmAckOf start count) ≡ hearAck s (s .phase) start count
+unfolding hearOf hearRead hearKind readOf namedOf allFiller pick lmAckOf
+hears-ack s start count = refl
+
+hears-nack : (s : Sender) (cause : ℕ) → hearOf s (lmNackOf cause) ≡ hearNack s (s .phase)
+unfolding hearOf hearRead hearKind readOf namedOf allFiller pick lmNackOf
+hears-nack s cause = refl
+
+hears-end : (s : Sender) (frames length : ℕ)
+    → hearOf s (endOfAckOf frames length) ≡ hearEnd s (s .phase) frames (wordAt (endOfAckOf frames length) 1 2)
+unfolding hearOf hearRead hearKind readOf namedOf allFiller pick endOfAckOf
+hears-end s frames length = refl
+
+hears-short : (s : Sender) (first : ℕ) → hearOf s (smAckOf first) ≡ hearShortAck s (s .phase) first
+unfolding hearOf hearRead hearKind readOf namedOf allFiller pick smAckOf
+hears-short s first = refl
+
+-- What a hearing tells of a transfer: a failure; a phase of which S holds; or sent, where Z allows it.
+pub data Hears (st : Settings) (S : Phase → Type 0) (Z : Type 0) : Told → Type 0 where
+  over : {emits : Bool} {f : Frame} {cause ticks frames : ℕ}
+      → Hears st S Z (record { next = senderIn st Idle; emits = emits; frame = f; outcome = failed cause ticks frames })
+  stays : {p : Phase} {f : Frame}
+      → S p
+      → Hears st S Z (record { next = senderIn st p; emits = false; frame = f; outcome = quiet })
+  finishes : {f : Frame} {ticks frames : ℕ}
+      → Z
+      → Hears st S Z (record { next = senderIn st Idle; emits = false; frame = f; outcome = sent ticks frames })
+
+-- after an LM_ACK the phase is what it was, or a window has been taken up
+pub data Acked (m : List ℕ) (n : ℕ) (isOpening : Bool) (p : Phase) : Type 0 where
+  same : Moving m n isOpening p → Acked m n isOpening p
+  windowed : Moving m n false p → Acked m n isOpening p
+
+module _ (st : Settings) (m : List ℕ) (n : ℕ) where
+  -- the window that an LM_ACK grants lies within 1 to N
+  takes-window : {isOpening : Bool} (p : Phase) (t : Transfer) (start count misses : ℕ)
+      → Keeps m t n
+      → (eqb start 0 || eqb count 0) ≡ false
+      → ltb (t .frames) start ≡ false
+      → Hears st (Acked m n isOpening) ⊥ (taking (senderIn st p) t start count misses)
+  unfolding taking
+  takes-window p t start count misses k some inside =
+      let a = eqb-false start 0 (neither-left (eqb start 0) (eqb count 0) some) in
+      let c = eqb-false count 0 (neither-right (eqb start 0) (eqb count 0) some) in
+      let h = ltb-false (t .frames) start inside in
+      let g = k .many in
+      let low : 1 ≤ start = omega (arith, a) in
+      let mid : start ≤ min (start + count - 1) (t .frames) = omega (arith, a, c) in
+      let high : min (start + count - 1) (t .frames) ≤ framesOf m = omega arith in
+      stays (windowed (sending k low mid high))
+
+  window-ack : (p : Phase) → Moving m n false p → (t : Transfer) (start misses s c : ℕ) → Keeps m t n
+      → Hears st (Acked m n false) ⊥ (ackWindow (senderIn st p) t start misses s c)
+  unfolding ackWindow
+  window-ack p v t start misses s c k =
+      let P = Hears st (Acked m n false) ⊥ in
+      pick-elim P _ (λ zero. stays (same v))
+      (λ some. pick-elim P _ (λ above. over)
+      (λ inside. pick-elim P _ (λ old. stays (same v)) (λ new. takes-window p t s c _ k some inside)))
+
+  pub long-ack : {isOpening : Bool} {p : Phase} → Moving m n isOpening p → (start count : ℕ)
+      → Hears st (Acked m n isOpening) ⊥ (hearOf (senderIn st p) (lmAckOf start count))
+  unfolding hearAck ackOpening
+  long-ack (opening {x} k) start count =
+      let P = Hears st (Acked m n true) ⊥ in
+      rw hears-ack
+      (pick-elim P _ (λ zero. stays (same (opening k)))
+      (λ some. pick-elim P _ (λ above. over)
+      (λ inside. pick-elim P _ (λ first. takes-window (Opening x) (x .transfer) start count 0 k some inside) (λ later. stays (same (opening k))))))
+  long-ack (sending {x} k low mid high) start count =
+      rw hears-ack (window-ack (Sending x) (sending k low mid high) (x .transfer) (x .start) (x .misses) start count k)
+  long-ack (waiting {x} k low high) start count =
+      rw hears-ack (window-ack (Waiting x) (waiting k low high) (x .transfer) (x .start) (x .misses) start count k)
+
+  -- LM_NACK: failed
+  pub long-nack : {isOpening : Bool} {p : Phase} → Moving m n isOpening p → (cause : ℕ)
+      → Hears st (λ _. ⊥) ⊥ (hearOf (senderIn st p) (lmNackOf cause))
+  unfolding hearNack
+  long-nack (opening k) cause = rw hears-nack over
+  long-nack (sending k low mid high) cause = rw hears-nack over
+  long-nack (waiting k low high) cause = rw hears-nack over
+
+  -- EndofACK: sent, or ignored
+  end-heard : {p : Phase} → Moving m n false p → (frames length : ℕ)
+      → Hears st (Moving m n false) Unit (hearOf (senderIn st p) (endOfAckOf frames length))
+  unfolding hearEnd ifWhole
+  end-heard (sending k low mid high) frames length =
+      rw hears-end (pick-elim (Hears st (Moving m n false) Unit) _ (λ _. finishes tt) (λ _. stays (sending k low mid high)))
+  end-heard (waiting k low high) frames length =
+      rw hears-end (pick-elim (Hears st (Moving m n false) Unit) _ (λ _. finishes tt) (λ _. stays (waiting k low high)))
+
+  pub long-end : {p : Phase} {f : Frame} → Moving m n false p → (frames length : ℕ) → f ≡ endOfAckOf frames length
+      → Hears st (Moving m n false) Unit (hearOf (senderIn st p) f)
+  long-end {p} v frames length e =
+      subst⁻¹ (λ (g : Frame). Hears st (Moving m n false) Unit (hearOf (senderIn st p) g)) e (end-heard v frames length)
+
+  -- SM_ACK: sent, or ignored
+  pub short-end : {p : Phase} → Lone m n p → (first : ℕ) → Hears st (Lone m n) Unit (hearOf (senderIn st p) (smAckOf first))
+  unfolding hearShortAck
+  short-end (lone whole old) first =
+      rw hears-short (pick-elim (Hears st (Lone m n) Unit) _ (λ _. finishes tt) (λ _. stays (lone whole old)))
+
+-- ---- an Idle sender reports nothing
+
+pub data Rests (st : Settings) : Told → Type 0 where
+  ignores : {f : Frame} → Rests st (record { next = senderIn st Idle; emits = false; frame = f; outcome = quiet })
+  refuses : {f : Frame} {number : ℕ} → Rests st (record { next = senderIn st Idle; emits = false; frame = f; outcome = refused number })
+
+pub idle-tick : (st : Settings) (l : List ℕ) → Rests st (tickOf (senderIn st Idle) l)
+unfolding tickOf tickPhase
+idle-tick st l = ignores
+
+pub idle-hear : (st : Settings) (f : Frame) → Rests st (hearOf (senderIn st Idle) f)
+unfolding hearOf hearRead hearKind hearAck hearNack hearEnd hearShortAck
+idle-hear st f =
+    let P = Rests st in
+    read-elim (λ j. P (hearRead (senderIn st Idle) f j)) f
+    (pick-elim P _ (λ _. ignores)
+    (λ _. pick-elim P _ (λ _. ignores) (λ _. pick-elim P _ (λ _. ignores) (λ _. pick-elim P _ (λ _. ignores) (λ _. refuses)))))
+    refuses

@@ -1,0 +1,186 @@
+-- The receiver's time. While a connection is open, its ticks are at most T for each timeout that its state can still tell
+-- of, three for each frame before the one expected, and the wait; so a connection is over by 3 × T × N.
+use Prim.Native.Nat.{ℕ, _+_, _-_, _*_, _≤_, _<_}
+use mathlib.Core.Bool.{Bool, true, false, _&&_, and-false}
+use mathlib.Core.List.{List}
+use mathlib.Core.Path.{_≡_, refl}
+use native.Mathlib.Nat.{add-zero, mul-le-mul-left}
+use native.Mathlib.Omega.{arith}
+use Rattle.frame.specs.Choice.{pick}
+use Rattle.frame.specs.Count.{incrementOf, frameCountOf}
+use Rattle.frame.specs.Frames.{byteOf, wordAt, lmAckOf, lmNackOf, endOfAckOf, smAckOf}
+use Rattle.frame.specs.declared.Frame.{Frame}
+use Rattle.receiver.proofs.View.{receiverIn, Shut, moved, fresh, Ticks, rests, waits, retries, expires, tick-does, nacks, opens, again, ignored, skips, ended, above, delivers, asks, goes-on, Hears, refuses, announced, informed, closes, unmoved, short, short-only, hear-does}
+use Rattle.receiver.specs.Hear.{hearOf}
+use Rattle.receiver.specs.Tick.{tickOf}
+use Rattle.receiver.specs.Told.{Told, Heard}
+use Rattle.receiver.specs.declared.Connection.{Connection}
+use Rattle.receiver.specs.declared.Phase.{Phase}
+use Rattle.receiver.specs.declared.Phase.the-variants.{Open}
+use Rattle.receiver.specs.declared.Receiver.{Receiver}
+use Rattle.receiver.specs.declared.Settings.{Settings}
+use Rattle.frame.proofs.Laws.{increment-is}
+use Rattle.delivery.specs.Seen.{Opened, never, since, later, idle, announces, firstAck, receiverReports}
+use Rattle.transport.specs.Step.{emission}
+use Rattle.transport.specs.World.{toReceiver}
+
+-- what an open connection's state tells of the ticks since its opening
+pub record Within (st : Settings) (x : Connection) (ticks : ℕ) : Type 0 where
+  pub low : 1 ≤ x .expected
+  pub high : x .expected ≤ x .frames
+  pub waits : x .wait < st .timeout
+  pub tries : x .misses < 3
+  pub bound : ticks ≤ st .timeout * (3 * (x .expected - 1) + x .misses) + x .wait
+
+-- the receiver's state beside what has been seen of its connections
+pub data Timed (st : Settings) : Receiver → Opened → Type 0 where
+  before : {p : Phase} → Shut p → Timed st (record { settings = st; phase = p }) never
+  between : {p : Phase} {n t : ℕ} → Shut p → Timed st (record { settings = st; phase = p }) (since n t 1)
+  during : {x : Connection} {t : ℕ} → Within st x t → Timed st (record { settings = st; phase = Open x }) (since (x .frames) t 0)
+
+-- no tick and no report: the ticks since the opening are what they were
+pub timed-later : {st : Settings} {r : Receiver} {o : Opened} → Timed st r o → Timed st r (later o 0 0)
+timed-later (before shut) = before shut
+timed-later (between shut) = between shut
+timed-later (during {x} {t} w) =
+    during {t = t + 0}
+    (record { low = w .low; high = w .high; waits = w .waits; tries = w .tries; bound = rw add-zero (w .bound) })
+
+-- q whole timeouts and a wait short of one more are under k timeouts, for each k above q
+under : (timeout q k : ℕ) {t wait : ℕ} → t ≤ timeout * q + wait → wait < timeout → q < k → t < timeout * k
+under timeout q k h g l =
+    let m : timeout * (q + 1) ≤ timeout * k = mul-le-mul-left timeout (omega arith) in
+    omega (arith, m)
+
+-- after a tick that told t
+abbrev Ticked : Settings → Opened → Told → Type 0
+Ticked st o t = Timed st (t .next) (later o 1 (receiverReports (t .outcome)))
+
+-- the other frames that a receiver emits are no LM_ACK
+nack-drawn : (cause : ℕ) → firstAck (emission true (lmNackOf cause)) ≡ false
+unfolding lmNackOf
+nack-drawn cause = refl
+
+end-drawn : (frames length : ℕ) → firstAck (emission true (endOfAckOf frames length)) ≡ false
+unfolding endOfAckOf
+end-drawn frames length = refl
+
+short-drawn : (first : ℕ) → firstAck (emission true (smAckOf first)) ≡ false
+unfolding smAckOf
+short-drawn first = refl
+
+-- after a hearing of f that told a
+pub record Listened (st : Settings) (o : Opened) (f : Frame) (a : Told) : Type 0 where
+  pub timed :
+      Timed st (a .next)
+      (pick (announces (toReceiver f) && firstAck (emission (a .emits) (a .frame)) && idle o) (since (byteOf f 1) 0 0)
+      (later o 0 (receiverReports (a .outcome))))
+
+module _ (st : Settings) (pos : 1 ≤ st .timeout) (small : st .timeout ≤ 10000) where
+  waited : (x : Connection) {t : ℕ} → Within st x t → incrementOf (x .wait) < st .timeout
+      → Within st (moved x (x .expected) (x .last) (incrementOf (x .wait)) (x .misses)) (t + 1)
+  waited x w early =
+      let i = increment-is (x .wait) (omega arith) in
+      record { low = w .low; high = w .high; waits = early; tries = w .tries; bound = rw i (omega arith) }
+
+  timed-out : (x : Connection) (last : ℕ) {t : ℕ} → Within st x t → st .timeout ≤ incrementOf (x .wait) → incrementOf (x .misses) < 3
+      → Within st (moved x (x .expected) last 0 (incrementOf (x .misses))) (t + 1)
+  timed-out x last w due more =
+      let i = increment-is (x .wait) (omega arith) in
+      let j = increment-is (x .misses) (omega arith) in
+      record { low = w .low; high = w .high; waits = pos; tries = more; bound = rw j (omega arith) }
+
+  ticked : {r : Receiver} {o : Opened} {t : Told} → Timed st r o → Ticks (r .settings) (r .phase) t → Ticked st o t
+  ticked (before shut) (rests _) = before shut
+  ticked (between shut) (rests _) = between shut
+  ticked (during w) (rests shut) = absurd shut
+  ticked (before shut) (waits _) = absurd shut
+  ticked (between shut) (waits _) = absurd shut
+  ticked (during {x} w) (waits early) = during (waited x w early)
+  ticked (before shut) (retries _ _) = absurd shut
+  ticked (between shut) (retries _ _) = absurd shut
+  ticked (during {x} w) (retries due more) = during (timed-out x _ w due more)
+  ticked (before shut) expires = absurd shut
+  ticked (between shut) expires = absurd shut
+  ticked (during w) expires = between tt
+
+  pub tick-timed : {r : Receiver} {o : Opened} → Timed st r o → Ticked st o (tickOf r)
+  tick-timed {r} k = ticked k (tick-does r)
+
+  -- no connection opens: what is told is counted on
+  counts-on : {r : Receiver} (o : Opened) {o′ : Opened} (b : Bool) → b ≡ false → Timed st r o′ → Timed st r (pick b o o′)
+  unfolding pick
+  counts-on o b e k = rw e k
+
+  no-ack : (a i : Bool) → (a && false && i) ≡ false
+  no-ack true i = refl
+  no-ack false i = refl
+
+  -- the frame that was stored was expected: the next one has three timeouts of its own
+  next-expected : (x : Connection) (last : ℕ) {t : ℕ} → Within st x t → x .expected < x .frames → Within st (moved x (x .expected + 1) last 0 0) (t + 0)
+  next-expected x last {t} w more =
+      let k : t < st .timeout * (3 * (x .expected + 1 - 1) + 0) = under (st .timeout) _ _ (w .bound) (w .waits) (omega arith) in
+      record { low = omega arith; high = omega arith; waits = pos; tries = omega arith; bound = omega (arith, k) }
+
+  module _ (x : Connection) {t : ℕ} (w : Within st x t) (f : Frame) where
+    abbrev To : Told → Type 0
+    To a = Listened st (since (x .frames) t 0) f a
+
+    -- what is told is counted on: none opens while one is open
+    on : {a : Told} → Timed st (a .next) (since (x .frames) (t + 0) (0 + receiverReports (a .outcome))) → To a
+    on {a} k =
+        record { timed = counts-on (since (byteOf f 1) 0 0) _ (and-false (announces (toReceiver f) && firstAck (emission (a .emits) (a .frame)))) k }
+
+    heard-open : {lent : List ℕ} {h : Heard} → Hears st f lent (Open x) h → To (h .told)
+    heard-open (refuses number) = on (timed-later (during w))
+    heard-open (announced k z (nacks shut cause)) = absurd shut
+    heard-open (announced k z (opens shut _ _ _ _)) = absurd shut
+    heard-open (announced k z again) = on (timed-later (during w))
+    heard-open (announced k z ignored) = on (timed-later (during w))
+    heard-open (informed _ k z skips) = on (timed-later (during w))
+    heard-open (informed _ k z (above _)) = on (between tt)
+    heard-open (informed _ k z (delivers _ _)) = on (between tt)
+    heard-open (informed _ k z (asks _ more _)) = on (during (next-expected x _ w more))
+    heard-open (informed _ k z (goes-on _ more _)) = on (during (next-expected x _ w more))
+    heard-open (closes k) = on (between tt)
+    heard-open (unmoved shut k) = absurd shut
+    heard-open (short k) = on (timed-later (during w))
+    heard-open (short-only k) = on (timed-later (during w))
+
+  module _ (o : Opened) (free : idle o ≡ true) (f : Frame) where
+    -- nothing opens: the frame, if any, is no LM_ACK
+    quietly : {a : Told} → firstAck (emission (a .emits) (a .frame)) ≡ false → Timed st (a .next) (later o 0 (receiverReports (a .outcome))) → Listened st o f a
+    quietly {a} e k =
+        record { timed = counts-on (since (byteOf f 1) 0 0) (announces (toReceiver f) && firstAck (emission (a .emits) (a .frame)) && idle o) (rw e (no-ack (announces (toReceiver f)) (idle o))) k }
+
+    heard-shut : {p : Phase} {lent : List ℕ} {h : Heard} → Shut p → Timed st (receiverIn st p) (later o 0 0) → Hears st f lent p h → Listened st o f (h .told)
+    unfolding pick lmAckOf frameCountOf
+    heard-shut shut same (refuses number) = quietly refl same
+    heard-shut shut same (announced k z (nacks _ cause)) = quietly (nack-drawn cause) same
+    heard-shut shut same (announced k z (opens _ nine _ fits _)) =
+        let w : Within st (fresh st (byteOf f 1) (wordAt f 2 3)) 0 =
+        record { low = omega arith; high = omega arith; waits = pos; tries = omega arith; bound = omega arith } in
+        record { timed = rw (k, z, free) (during w) }
+    heard-shut shut same (announced k z again) = absurd shut
+    heard-shut shut same (announced k z ignored) = absurd shut
+    heard-shut shut same (informed _ k z skips) = quietly refl same
+    heard-shut shut same (informed _ k z (ended {y} _)) = quietly (end-drawn (y .frames) (y .length)) same
+    heard-shut shut same (informed _ k z (above _)) = absurd shut
+    heard-shut shut same (informed _ k z (delivers _ _)) = absurd shut
+    heard-shut shut same (informed _ k z (asks _ _ _)) = absurd shut
+    heard-shut shut same (informed _ k z (goes-on _ _ _)) = absurd shut
+    heard-shut shut same (closes k) = absurd shut
+    heard-shut shut same (unmoved _ k) = quietly refl same
+    heard-shut shut same (short k) = quietly (short-drawn _) same
+    heard-shut shut same (short-only k) = quietly refl same
+
+  pub hear-timed : {r : Receiver} {o : Opened} → Timed st r o → (f : Frame) (lent : List ℕ) → Listened st o f (hearOf r f lent .told)
+  hear-timed {r} (before shut) f lent = heard-shut never refl f shut (before shut) (hear-does r f lent)
+  hear-timed {r} (between {n = n} {t = t} shut) f lent = heard-shut (since n t 1) refl f shut (timed-later (between shut)) (hear-does r f lent)
+  hear-timed {r} (during {x} w) f lent = heard-open x w f (hear-does r f lent)
+
+  -- while a connection is open, fewer than 3 × T × N ticks have passed
+  pub in-time : (x : Connection) {t : ℕ} → Within st x t → t < 3 * st .timeout * x .frames
+  in-time x w =
+      let k = under (st .timeout) _ (3 * x .frames) (w .bound) (w .waits) (omega arith) in
+      omega arith

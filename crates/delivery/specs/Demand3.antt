@@ -1,0 +1,131 @@
+-- Demand 3, as one claim about every list of calls. Its words, each with its place below:
+--   "When the sender reports 'sent', the receiver has already delivered exactly that message: once if long, at least once
+--    if short (filled to eight bytes), and no other since the begin."                                  sent
+--   "Each accepted begin has its one report by the sender's tick M after it."                           reported, again
+--   "Each connection that the receiver opens for N frames has its one report by the receiver's tick 3 × T × N after
+--    that."                                                                                            finished
+--   "All this holds after EVERY list of begins, ticks, hearings, losses and repeats, refused calls included, from fresh
+--    ends and an empty line."                                                                          Demand3
+--   "the line keeps order and neither invents nor alters a frame"                                       stepOf
+--   "each accepted begin finds the receiver idle and the line empty; calls not refused are lent one message from begin to
+--    report, and one receiving buffer, changed by nobody else."                                        Conditions
+use Prim.Native.Nat.{ℕ, _≤_, _<_, _*_}
+use mathlib.Core.Bool.{Bool, true, false}
+use mathlib.Core.List.{List, [], _∷_}
+use mathlib.Core.Path.{_≡_}
+use lib.ListN.{length}
+use Rattle.frame.specs.Frames.{fillTo}
+use Rattle.receiver.specs.Tick as receiver-making
+use Rattle.receiver.specs.Told as receiver
+use Rattle.receiver.specs.declared.Receiver.{Receiver}
+use Rattle.sender.specs.Begin as sender-making
+use Rattle.sender.specs.Told as sender
+use Rattle.sender.specs.declared.Sender.{Sender}
+use Rattle.delivery.specs.Seen.{taken, Begun, Opened, begunIn, openedIn, idle, listened, Sort, begins, ticksSender, ticksReceiver, other, sortOf}
+use Rattle.transport.specs.Step.{stepOf, Past, next, runOf}
+use Rattle.transport.specs.World.{Call, begin, senderTick, receiverTick, hearForward, repeatForward, loseForward, hearBack, repeatBack, loseBack, Event, startOf}
+
+-- ---- the conditions
+
+-- "one message from begin to report": while the last begin has no report, a message that is lent is the begun one
+abbrev pub LentMessage : Begun → List ℕ → Type 0
+LentMessage Begun.never m = Unit
+LentMessage (Begun.since message ticks reports deliveries) m = reports ≡ 0 → m ≡ message
+
+-- what is asked of one call, by what was seen before it and what is seen of it
+abbrev pub Condition : Past → Call → Event → Type 0
+Condition p (begin m) e =
+    taken (e .sender) ≡ true
+    → (idle (openedIn (p .events)) ≡ true) × (p .world .forward ≡ []) × (p .world .back ≡ [])
+Condition p (senderTick m) e = taken (e .sender) ≡ true → LentMessage (begunIn (p .events)) m
+Condition p receiverTick e = Unit
+Condition p (hearForward b) e = listened (e .given) (e .receiver) ≡ true → b ≡ p .world .buffer
+Condition p (repeatForward b) e = listened (e .given) (e .receiver) ≡ true → b ≡ p .world .buffer
+Condition p loseForward e = Unit
+Condition p hearBack e = Unit
+Condition p repeatBack e = Unit
+Condition p loseBack e = Unit
+
+-- along the whole list
+abbrev pub Conditions : Past → List Call → Type 0
+Conditions p [] = Unit
+Conditions p (c ∷ calls) = Condition p c (stepOf (p .world) c .event) × Conditions (next p c) calls
+
+-- ---- the promise
+
+-- every one of the deliveries is these bytes
+abbrev pub Copies : List ℕ → List (List ℕ) → Type 0
+Copies bytes [] = Unit
+Copies bytes (d ∷ deliveries) = (d ≡ bytes) × Copies bytes deliveries
+
+-- "delivered exactly that message: once if long, at least once if short (filled to eight bytes), and no other"
+pub record Exactly (message : List ℕ) (deliveries : List (List ℕ)) : Type 0 where
+  pub long : 8 < length message → deliveries ≡ message ∷ []
+  pub short : length message ≤ 8 → (1 ≤ length deliveries) × Copies (fillTo 8 message) deliveries
+
+-- the newest event reports sent: there was a begin, and since then its message has been delivered
+abbrev pub SentMeans : sender.Outcome → Begun → Type 0
+SentMeans sender.quiet b = Unit
+SentMeans (sender.refused number) b = Unit
+SentMeans (sender.sent ticks frames) Begun.never = ⊥
+SentMeans (sender.sent ticks frames) (Begun.since message n reports deliveries) = Exactly message deliveries
+SentMeans (sender.failed cause ticks frames) b = Unit
+
+-- the last accepted begin has at most one report, and exactly one once M ticks have passed
+abbrev pub Reported : ℕ → Begun → Type 0
+Reported limit Begun.never = Unit
+Reported limit (Begun.since message ticks reports deliveries) = (reports ≤ 1) × (limit ≤ ticks → reports ≡ 1)
+
+-- the begin, if any, has had its one report
+abbrev pub HadReport : Begun → Type 0
+HadReport Begun.never = Unit
+HadReport (Begun.since message ticks reports deliveries) = reports ≡ 1
+
+-- where the newest event is an accepted begin, the begin before it has had its one report
+abbrev pub AgainAfter : Sort → Bool → Begun → Type 0
+AgainAfter (begins message) true b = HadReport b
+AgainAfter (begins message) false b = Unit
+AgainAfter ticksSender accepted b = Unit
+AgainAfter ticksReceiver accepted b = Unit
+AgainAfter other accepted b = Unit
+
+-- the last connection has at most one report, and exactly one once 3 × T × N ticks have passed
+abbrev pub Finished : ℕ → Opened → Type 0
+Finished timeout Opened.never = Unit
+Finished timeout (Opened.since frames ticks reports) = (reports ≤ 1) × (3 * timeout * frames ≤ ticks → reports ≡ 1)
+
+-- the two clauses that speak of the newest event
+abbrev pub Sent : List Event → Type 0
+Sent [] = Unit
+Sent (e ∷ past) = SentMeans (e .sender) (begunIn (e ∷ past))
+
+abbrev pub Again : List Event → Type 0
+Again [] = Unit
+Again (e ∷ past) = AgainAfter (sortOf (e .call)) (taken (e .sender)) (begunIn past)
+
+-- what holds of the events of every list of calls; limit is M, timeout the receiver's T
+pub record Promise (limit timeout : ℕ) (events : List Event) : Type 0 where
+  pub sent : Sent events
+  pub reported : Reported limit (begunIn events)
+  pub again : Again events
+  pub finished : Finished timeout (openedIn events)
+
+-- ---- the claim
+
+-- "from fresh ends and an empty line": no event yet
+abbrev pub fresh : Sender → Receiver → List ℕ → Past
+fresh s r buffer = record { world = startOf s r buffer; events = [] }
+
+-- for the ends that making answers, "from any settings within their limits", every "buffer of 1785 bytes of any content"
+-- and every list of calls that meets the conditions
+abbrev pub Demand3 : Type 0
+Demand3 =
+    (gap timeout limit : ℕ) (s : Sender)
+    → sender-making.makeOf gap timeout limit ≡ sender.made s
+    → (timeout′ window capacity : ℕ) (r : Receiver)
+    → receiver-making.makeOf timeout′ window capacity ≡ receiver.made r
+    → (buffer : List ℕ)
+    → length buffer ≡ 1785
+    → (calls : List Call)
+    → Conditions (fresh s r buffer) calls
+    → Promise limit timeout′ (runOf (fresh s r buffer) calls .events)

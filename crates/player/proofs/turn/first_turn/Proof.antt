@@ -1,0 +1,24 @@
+use borrow.Author.Needs.{needs}
+use Rattle.player.proofs.Turns.{begin-said}
+use Rattle.player.proofs.turn.first_turn.Statement.{statement}
+use Rattle.player.proofs.turn.first_turn.Tie as tie
+
+begin-requires : tie.Need-begin-requires
+begin-requires c κs = search needs
+
+lines-requires : tie.Need-lines-requires
+lines-requires c κs = search needs
+
+same-length : tie.Need-same-length
+same-length c = search needs
+
+same-length-2 : tie.Need-same-length-2
+same-length-2 c = search needs
+
+returns : tie.Need-returns
+returns c =
+    begin-said (c .before .before .before .before .before .before .before .begin .result) _ _ _ _ _ _ (c .before .before .before .before .before .before .before .before .before .before .before .before .pre) (c .before .before .before .before .before .before .before .begin .ensures) (c .before .before .before .lines .ensures)
+
+pub first-turn-spec : {M : Type 1} → statement M
+first-turn-spec =
+    tie.close (tie.spec begin-requires lines-requires same-length same-length-2 returns)

@@ -1,0 +1,31 @@
+use borrow.Author.Needs.{needs}
+use Rattle.transport.proofs.Calls.{lent-not, ticks-receiver}
+use lib.ListN.{length}
+use Rattle.transport.specs.World.{receiverTick}
+use Rattle.transport.proofs.Ends.tick_receiver.Statement.{statement}
+use Rattle.transport.proofs.Ends.tick_receiver.Tie as tie
+
+unheard-requires : tie.Need-unheard-requires
+unheard-requires c κs = search needs
+
+returns : tie.Need-returns
+returns c =
+    λ forward buffer. lent-not _ _ receiverTick (c .before .if1 .taken) (c .unheard .ensures forward _ buffer)
+
+tick-requires : tie.Need-tick-requires
+tick-requires c κs = search needs
+
+receiver-spoke-requires : tie.Need-receiver-spoke-requires
+receiver-spoke-requires c κs = search needs
+
+same-length : tie.Need-same-length
+same-length c = search needs
+
+returns-2 : tie.Need-returns-2
+returns-2 c =
+    ticks-receiver _ _ _ _ (c .before .before .before .before .tick .ensures) (c .before .before .before .before .before .before .if1 .left) (c .before .before .receiver-spoke .ensures)
+
+pub tick-receiver-spec : {M : Type 1} → statement M
+tick-receiver-spec =
+    tie.close
+    (tie.spec unheard-requires returns tick-requires receiver-spoke-requires same-length returns-2)
