@@ -3,7 +3,9 @@
 use mathlib.Core.Path.{_≡_, refl}
 use mathlib.Core.Bool.{Bool, true, false, _&&_, _||_, false≢true, true≢false}
 use Rattle.frame.specs.Choice.{pick}
-use Rattle.frame.specs.Reading.{Judgement, accepted, refused, readOf}
+use Rattle.frame.specs.Reading.{parsedOf, readOf}
+use Rattle.frame.specs.Result.{Result, accepted, refused}
+use Rattle.frame.specs.declared.Parsed.{Parsed}
 use Rattle.frame.specs.declared.Frame.{Frame}
 
 pub pick-true : {A : Type 0} {b : Bool} {a x : A} (y : A) → b ≡ true → a ≡ x → a ≡ pick b x y
@@ -20,8 +22,8 @@ unfolding pick
 pick-elim P true f g = f refl
 pick-elim P false f g = g refl
 
--- a frame is read as its own kind, or refused 6
-pub read-elim : (P : Judgement → Type 0) (f : Frame) → P (accepted (f .kind)) → P (refused 6) → P (readOf f)
+-- a frame is read as what it is, or refused 6
+pub read-elim : (P : Result Parsed → Type 0) (f : Frame) → P (accepted (parsedOf f)) → P (refused 6) → P (readOf f)
 unfolding readOf
 read-elim P f whole bad = pick-elim P _ (λ known. pick-elim P _ (λ clean. whole) (λ dirty. bad)) (λ unknown. bad)
 

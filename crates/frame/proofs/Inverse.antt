@@ -13,35 +13,48 @@ use lib.ListN.{length, getD, drop, replicate}
 use Rattle.frame.specs.Choice.{pick}
 use Rattle.frame.specs.Content.{Content, announcement, information, lmAck, lmNack, endOfAck, smRm, smAck, smUrm, Fits, kindOf, written, contentOf}
 use Rattle.frame.specs.Frames.{byteOf, fillTo, announcementOf, informationOf, lmAckOf, lmNackOf, endOfAckOf, smRmOf, smUrmOf, smAckOf}
-use Rattle.frame.specs.Reading.{Judgement, accepted, refused, toldReading, namedOf, allFiller, readOf}
+use Rattle.frame.specs.Reading.{toldReading, parsedOf, namedOf, allFiller, readOf}
+use Rattle.frame.specs.Result.{Result, accepted, refused}
 use Rattle.frame.specs.declared.Frame.{Frame}
+use Rattle.frame.specs.declared.Parsed.{Parsed}
 use Rattle.frame.specs.declared.Reading.{Reading}
-use Rattle.frame.specs.declared.Reading.the-variants.{Kind, Refused}
+use Rattle.frame.specs.declared.Reading.the-variants.{Read, Refused}
 use Rattle.frame.proofs.Laws.{fill, fill-whole, word-whole, word-low, word-high}
 
 -- What is told of a reading leaves nothing of it open.
-abbrev pub untoldReading : Judgement → Reading
-untoldReading (accepted kind) = Kind kind
+abbrev pub untoldReading : Result Parsed → Reading
+untoldReading (accepted parsed) = Read parsed
 untoldReading (refused number) = Refused number
 
 pub told-injective : (r : Reading) → untoldReading (toldReading r) ≡ r
-told-injective (Kind kind) = refl
+told-injective (Read parsed) = refl
 told-injective (Refused number) = refl
 
--- What is written is read as its kind, with its fields.
-pub read-written : (c : Content) → Fits c → (readOf (written c) ≡ accepted (kindOf c)) × (contentOf (written c) ≡ c)
+-- What is written has its kind, is not refused, and is read with its fields.
+pub record ReadBack (c : Content) : Type 0 where
+  pub kind : written c .kind ≡ kindOf c
+  pub read : readOf (written c) ≡ accepted (parsedOf (written c))
+  pub content : contentOf (written c) ≡ c
+
+pub read-written : (c : Content) → Fits c → ReadBack c
 unfolding readOf contentOf namedOf allFiller pick announcementOf informationOf lmAckOf lmNackOf endOfAckOf smRmOf smUrmOf smAckOf
-read-written (announcement frames l) fits = (refl, ap (λ (w : ℕ). announcement frames w) (word-whole l fits))
-read-written (information number bytes) fits = (
-  rw (ne-eqb number 0 (omega arith), fill 7),
-  rw (ne-eqb number 0 (omega arith)) (ap (λ (s : List ℕ). information number s) (fill-whole 7 bytes (fits .1))),
-)
-read-written (lmAck start count) fits = (refl, refl)
-read-written (lmNack cause) fits = (refl, refl)
-read-written (endOfAck frames l) fits = (refl, ap (λ (w : ℕ). endOfAck frames w) (word-whole l fits))
-read-written (smRm bytes) fits = (rw (fill 8), ap (λ (s : List ℕ). smRm s) (fill-whole 8 bytes fits))
-read-written (smAck first) fits = (refl, refl)
-read-written (smUrm bytes) fits = (rw (fill 8), ap (λ (s : List ℕ). smUrm s) (fill-whole 8 bytes fits))
+read-written (announcement frames l) fits =
+    record { kind = refl; read = refl; content = ap (λ (w : ℕ). announcement frames w) (word-whole l fits) }
+read-written (information number bytes) fits =
+    record {
+      kind = refl;
+      read = rw (ne-eqb number 0 (omega arith), fill 7);
+      content = rw (ne-eqb number 0 (omega arith)) (ap (λ (s : List ℕ). information number s) (fill-whole 7 bytes (fits .1)));
+    }
+read-written (lmAck start count) fits = record { kind = refl; read = refl; content = refl }
+read-written (lmNack cause) fits = record { kind = refl; read = refl; content = refl }
+read-written (endOfAck frames l) fits =
+    record { kind = refl; read = refl; content = ap (λ (w : ℕ). endOfAck frames w) (word-whole l fits) }
+read-written (smRm bytes) fits =
+    record { kind = refl; read = rw (fill 8); content = ap (λ (s : List ℕ). smRm s) (fill-whole 8 bytes fits) }
+read-written (smAck first) fits = record { kind = refl; read = refl; content = refl }
+read-written (smUrm bytes) fits =
+    record { kind = refl; read = rw (fill 8); content = ap (λ (s : List ℕ). smUrm s) (fill-whole 8 bytes fits) }
 
 -- Bytes that passed as filler are 0xFF.
 pub filled : (s : List ℕ) → allFiller s ≡ true → s ≡ replicate (length s) 255
@@ -53,15 +66,15 @@ filled (b ∷ s) h =
     let tail : s ≡ replicate (length s) 255 = filled s (both .1) in
     cc
 
-passed : (inside filler : Bool) (kind k : ℕ) → pick inside (pick filler (accepted kind) (refused 6)) (refused 6) ≡ accepted k
+passed : (inside filler : Bool) (x k : Parsed) → pick inside (pick filler (accepted x) (refused 6)) (refused 6) ≡ accepted k
     → (inside ≡ true) × (filler ≡ true)
 unfolding pick
-passed true true kind k h = (refl, refl)
-passed true false kind k h = (refl, cc)
-passed false filler kind k h = (cc, cc)
+passed true true x k h = (refl, refl)
+passed true false x k h = (refl, cc)
+passed false filler x k h = (cc, cc)
 
 -- A frame that is not refused has a kind from 1 to 7, and its filler passed.
-pub read-passed : (f : Frame) (k : ℕ) → readOf f ≡ accepted k
+pub read-passed : (f : Frame) (k : Parsed) → readOf f ≡ accepted k
     → (1 ≤ f .kind) × (f .kind ≤ 7) × (allFiller (drop (namedOf (f .kind) (byteOf f 0)) (f .bytes)) ≡ true)
 unfolding readOf
 read-passed f k h =
@@ -73,7 +86,7 @@ read-passed f k h =
 Restored : ℕ → List ℕ → Type 0
 Restored kind bytes =
     let f : Frame = record { kind = kind; bytes = bytes } in
-    ((n : ℕ) → getD bytes n 0 < 256) → (k : ℕ) → readOf f ≡ accepted k → written (contentOf f) ≡ f
+    ((n : ℕ) → getD bytes n 0 < 256) → (k : Parsed) → readOf f ≡ accepted k → written (contentOf f) ≡ f
 
 module _ (b1 b2 b3 b4 b5 b6 b7 : ℕ) where
   -- an information frame, by its number
@@ -102,7 +115,7 @@ module _ (b1 b2 b3 b4 b5 b6 b7 : ℕ) where
   restored (suc (suc (suc (suc (suc (suc (suc (suc n)))))))) b0 bound k h = absurd (omega (arith, read-passed _ k h .1))
 
 -- A frame of eight bytes that is read is what its fields write.
-pub written-read : (f : Frame) → length (f .bytes) ≡ 8 → ((n : ℕ) → getD (f .bytes) n 0 < 256) → (k : ℕ) → readOf f ≡ accepted k
+pub written-read : (f : Frame) → length (f .bytes) ≡ 8 → ((n : ℕ) → getD (f .bytes) n 0 < 256) → (k : Parsed) → readOf f ≡ accepted k
     → written (contentOf f) ≡ f
 unfolding Restored
 written-read f eight =

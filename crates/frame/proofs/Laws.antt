@@ -13,7 +13,8 @@ use lib.Seq.{drop-cons}
 use Rattle.frame.specs.Count.{frameCountOf, incrementOf, lowByte, highByte, wordOf}
 use Rattle.frame.specs.Choice.{pick}
 use Rattle.frame.specs.Frames.{byteOf, fillTo}
-use Rattle.frame.specs.Reading.{accepted, refused, namedOf, allFiller, readOf}
+use Rattle.frame.specs.Reading.{parsedOf, namedOf, allFiller, readOf}
+use Rattle.frame.specs.Result.{accepted, refused}
 use Rattle.frame.specs.declared.Frame.{Frame}
 
 -- What N is: the least number of sevens that hold l.
@@ -114,6 +115,6 @@ read-high f h = rw (le-leb 1 (f .kind) (omega arith), lt-leb (f .kind) 7 (omega 
 
 pub read-inside : (f : Frame) → 1 ≤ f .kind → f .kind < 8 → (filler : Bool)
     → filler ≡ allFiller (drop (namedOf (f .kind) (byteOf f 0)) (f .bytes))
-    → pick filler (accepted (f .kind)) (refused 6) ≡ readOf f
+    → pick filler (accepted (parsedOf f)) (refused 6) ≡ readOf f
 unfolding readOf pick
 read-inside f low high filler e = rw (le-leb 1 (f .kind) low, le-leb (f .kind) 7 (omega arith), e)

@@ -1,5 +1,7 @@
 -- Numbers that both ends count with.
 use Prim.Native.Nat.{ℕ, _+_, _*_, _/_, _%_, min}
+use mathlib.Core.Bool.{Bool, _&&_}
+use lib.Dec.{leb}
 
 -- Frames: "N = L / 7 rounded up"
 unfoldable pub frameCountOf : ℕ → ℕ
@@ -19,3 +21,7 @@ highByte word = word / 256 % 256
 
 abbrev pub wordOf : ℕ → ℕ → ℕ
 wordOf low high = low + 256 * high
+
+-- x is "low to high", both included
+abbrev pub within : ℕ → ℕ → ℕ → Bool
+within low x high = leb low x && leb x high

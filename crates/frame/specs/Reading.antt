@@ -3,23 +3,25 @@
 use Prim.Native.Nat.{ℕ}
 use mathlib.Core.Bool.{Bool, true, _&&_}
 use mathlib.Core.List.{List, [], _∷_}
-use lib.Dec.{eqb, leb}
+use lib.Dec.{eqb}
 use lib.ListN.{drop}
 use Rattle.frame.specs.Choice.{pick}
+use Rattle.frame.specs.Count.{within}
 use Rattle.frame.specs.Frames.{byteOf}
 use Rattle.frame.specs.declared.Frame.{Frame}
+use Rattle.frame.specs.Result.{Result, accepted, refused}
+use Rattle.frame.specs.declared.Parsed.{Parsed}
 use Rattle.frame.specs.declared.Reading.{Reading}
-use Rattle.frame.specs.declared.Reading.the-variants.{Kind, Refused}
-
--- a frame was read, of this kind; or it was refused, with this number
-pub data Judgement : Type 0 where
-  accepted : ℕ → Judgement
-  refused : ℕ → Judgement
+use Rattle.frame.specs.declared.Reading.the-variants.{Read, Refused}
 
 -- document 01's values for each case of `Reading`
-abbrev pub toldReading : Reading → Judgement
-toldReading (Kind kind) = accepted kind
+abbrev pub toldReading : Reading → Result Parsed
+toldReading (Read parsed) = accepted parsed
 toldReading (Refused number) = refused number
+
+-- what reading tells of a frame: its kind, and d0, which is the number of an information frame
+abbrev pub parsedOf : Frame → Parsed
+parsedOf f = record { kind = f .kind; number = byteOf f 0 }
 
 -- How many bytes of a frame are named, from d0 on, by its kind and its d0; the bytes after them are filler. Frames, each
 -- kind's line: an announcement names d0 to d3, an information frame from number 1 all eight (its d1 to d7 are message
@@ -35,9 +37,9 @@ unfoldable pub allFiller : List ℕ → Bool
 allFiller [] = true
 allFiller (b ∷ bytes) = eqb b 255 && allFiller bytes
 
--- "kind not 1 to 7, or filler not 0xFF" is refused 6; else the frame's kind
-unfoldable pub readOf : Frame → Judgement
+-- "kind not 1 to 7, or filler not 0xFF" is refused 6
+unfoldable pub readOf : Frame → Result Parsed
 readOf f =
-    pick (leb 1 (f .kind) && leb (f .kind) 7)
-    (pick (allFiller (drop (namedOf (f .kind) (byteOf f 0)) (f .bytes))) (accepted (f .kind)) (refused 6))
+    pick (within 1 (f .kind) 7)
+    (pick (allFiller (drop (namedOf (f .kind) (byteOf f 0)) (f .bytes))) (accepted (parsedOf f)) (refused 6))
     (refused 6)

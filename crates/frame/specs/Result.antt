@@ -5,3 +5,8 @@ use Prim.Native.Nat.{ℕ}
 pub data Result (A : Type 0) : Type 0 where
   accepted : A → Result A
   refused : ℕ → Result A
+
+-- the number of a refusal, 0 where there is none
+abbrev pub refusalOf : {A : Type 0} → Result A → ℕ
+refusalOf (accepted a) = 0
+refusalOf (refused number) = number

@@ -1,6 +1,6 @@
 // Numbers that both ends count with.
 ghost use mathlib.Core.Path.{_≡_};
-ghost use Rattle.frame.specs.Count.{frameCountOf, incrementOf, lowByte, highByte, wordOf};
+ghost use Rattle.frame.specs.Count.{frameCountOf, incrementOf, lowByte, highByte, wordOf, within};
 
 // How many frames of seven bytes hold a message of this length.
 pub fn frame_count(length: u16) -> u16
@@ -34,4 +34,11 @@ pub fn word(low: u8, high: u8) -> u16
     ensures { λ r. ⌜ r ≡ wordOf low high ⌝ }
 {
     low as u16 + 256 * (high as u16)
+}
+
+// x is low to high, both included.
+pub fn within(low: u16, x: u16, high: u16) -> bool
+    ensures { λ r. ⌜ r ≡ within low x high ⌝ }
+{
+    (low <= x) & (x <= high)
 }

@@ -12,8 +12,14 @@ pub struct Frame {
     pub bytes: [u8; 8],
 }
 
-// What reading a frame answers: its kind, or the number of the refusal.
+// What reading tells of a frame: its kind, and d0, which is the number of an information frame.
+pub struct Parsed {
+    pub kind: u8,
+    pub number: u8,
+}
+
+// What reading a frame answers: what it tells of the frame, or the number of the refusal.
 pub enum Reading {
-    Kind(u8),
+    Read(Parsed),
     Refused(u8),
 }

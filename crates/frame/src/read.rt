@@ -1,9 +1,11 @@
-// Reading a frame: its kind, or refusal 6.
+// Reading a frame: what is told of it, or refusal 6.
 ghost use mathlib.Core.Path.{_≡_};
 ghost use lib.ListN.{drop};
 ghost use Rattle.frame.specs.Reading.{toldReading, namedOf, allFiller, readOf};
+ghost use Rattle.frame.specs.Result.{refusalOf};
 use crate::FILLER;
 use crate::Frame;
+use crate::Parsed;
 use crate::Reading;
 
 // How many bytes a kind names, from d0 on; those after them are filler.
@@ -33,7 +35,7 @@ pub fn all_filler(bytes: &[u8], from: usize) -> bool
     true
 }
 
-// The kind of a frame, if it is one of the seven and its filler is as it must be.
+// What a frame is, if its kind is one of the seven and its filler is as it must be.
 pub fn read(f: Frame) -> Reading
     ensures { λ r. ⌜ toldReading r ≡ readOf f ⌝ }
 {
@@ -44,11 +46,21 @@ pub fn read(f: Frame) -> Reading
             let number = bytes[0];
             let from = named(kind, number);
             if all_filler(&bytes, from) {
-                Reading::Kind(kind)
+                Reading::Read(Parsed { kind, number })
             } else {
                 Reading::Refused(6)
             }
         }
         _ => Reading::Refused(6),
+    }
+}
+
+// The number of a reading that was refused, 0 of another.
+pub fn refusal(reading: Reading) -> u8
+    ensures { λ r. ⌜ r ≡ refusalOf (toldReading reading) ⌝ }
+{
+    match reading {
+        Reading::Read(_) => 0,
+        Reading::Refused(number) => number,
     }
 }
