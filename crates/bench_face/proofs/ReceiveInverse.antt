@@ -3,10 +3,11 @@
 -- Assumes nothing.
 use Prim.Native.Nat.{ℕ}
 use mathlib.Core.Path.{_≡_, refl, sym, ap, _∙_}
+use Rattle.frame.specs.Result as result
 use Rattle.frame.specs.Choice.{pick}
 use Rattle.bench_face.specs.Receive.{connectionFrom, phaseFrom, receiverFrom, flatOf, flatPhase, flatReceiver, Written, idle, done, opened, flatOutcome, flatAnswer, flatMade, outcomeFrom, answerFrom, madeFrom}
 use Rattle.bench_face.specs.declared.receive.FlatReceiver.{FlatReceiver}
-use Rattle.receiver.specs.Told.{Made, made, unmade, Outcome, quiet, refused, delivered, failed, short, Told}
+use Rattle.receiver.specs.Told.{Outcome, quiet, refused, delivered, failed, short, Told}
 use Rattle.bench_face.proofs.ReceivePaths.{reads-done, reads-open, reads-idle}
 use Rattle.receiver.specs.declared.Connection.{Connection}
 use Rattle.receiver.specs.declared.Phase.{Phase}
@@ -66,7 +67,7 @@ answer-back t =
     ∙ ap (λ (o : Outcome). record { next = t .next; emits = t .emits; frame = t .frame; outcome = o; bytes = t .bytes })
     (outcome-back (t .outcome))
 
-pub made-back : (m : Made) → madeFrom (flatMade m) ≡ m
+pub made-back : (m : result.Result Receiver) → madeFrom (flatMade m) ≡ m
 unfolding madeFrom flatMade pick
-made-back (made r) = ap made (receiver-back r)
-made-back (unmade number) = refl
+made-back (result.accepted r) = ap result.accepted (receiver-back r)
+made-back (result.refused number) = refl

@@ -5,6 +5,7 @@ use mathlib.Core.Path.{_≡_}
 use mathlib.Core.Bool.{true, false}
 use mathlib.Core.List.{List}
 use borrow.Author.Tests.{ne-eqb}
+use Rattle.frame.specs.Result.{Result}
 use Rattle.frame.specs.Choice.{pick}
 use Rattle.frame.specs.declared.Frame.{Frame}
 use Rattle.bench_face.specs.Frames.{frameFrom, flatFrame}
@@ -16,7 +17,7 @@ use Rattle.bench_face.specs.declared.receive.ReceiverMade.{ReceiverMade}
 use Rattle.bench_face.specs.declared.receive.Report.{Report}
 use Rattle.receiver.specs.Hear.{hearOf}
 use Rattle.receiver.specs.Tick.{makeOf, tickOf}
-use Rattle.receiver.specs.Told.{Made, toldMade, toldOutcome, Told, told, heard}
+use Rattle.receiver.specs.Told.{toldMade, toldOutcome, Told, told, heard}
 use Rattle.receiver.specs.declared.Answer.{Answer}
 use Rattle.receiver.specs.declared.Connection.{Connection}
 use Rattle.receiver.specs.declared.Delivery.{Delivery}
@@ -133,7 +134,7 @@ pub ruleset makings = (makes, makes-none)
 
 -- ---- the calls: read, called, written
 
-pub made-so : (a : ReceiverMade) (m : Made) (timeout window capacity : ℕ) → a ≡ flatMade m
+pub made-so : (a : ReceiverMade) (m : Result Receiver) (timeout window capacity : ℕ) → a ≡ flatMade m
     → m ≡ makeOf timeout window capacity → a ≡ flatMade (makeOf timeout window capacity)
 made-so a m timeout window capacity e k = cc
 

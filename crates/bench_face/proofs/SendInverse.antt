@@ -3,10 +3,11 @@
 -- Assumes nothing.
 use Prim.Native.Nat.{ℕ}
 use mathlib.Core.Path.{_≡_, refl, sym, ap, _∙_}
+use Rattle.frame.specs.Result as result
 use Rattle.frame.specs.Choice.{pick}
 use Rattle.bench_face.specs.Send.{transferFrom, phaseFrom, senderFrom, flatOf, flatPhase, flatSender, windowFrom, Written, idle, opening, sending, waiting, short, flatOutcome, flatAnswer, flatMade, outcomeFrom, answerFrom, madeFrom}
 use Rattle.bench_face.specs.declared.send.FlatSender.{FlatSender}
-use Rattle.sender.specs.Told.{Made, made, unmade, Outcome, quiet, refused, sent, failed, Told}
+use Rattle.sender.specs.Told.{Outcome, quiet, refused, sent, failed, Told}
 use Rattle.bench_face.proofs.SendPaths.{reads-opening, reads-sending, reads-waiting, reads-short, reads-idle}
 use Rattle.bench_face.specs.declared.send.Window.{Window}
 use Rattle.sender.specs.declared.Transfer.{Transfer}
@@ -75,7 +76,7 @@ answer-back t =
     (sender-back (t .next))
     ∙ ap (λ (o : Outcome). record { next = t .next; emits = t .emits; frame = t .frame; outcome = o }) (outcome-back (t .outcome))
 
-pub made-back : (m : Made) → madeFrom (flatMade m) ≡ m
+pub made-back : (m : result.Result Sender) → madeFrom (flatMade m) ≡ m
 unfolding madeFrom flatMade pick
-made-back (made s) = ap made (sender-back s)
-made-back (unmade number) = refl
+made-back (result.accepted s) = ap result.accepted (sender-back s)
+made-back (result.refused number) = refl

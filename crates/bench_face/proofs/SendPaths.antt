@@ -5,6 +5,7 @@ use mathlib.Core.Path.{_≡_}
 use mathlib.Core.Bool.{true, false}
 use mathlib.Core.List.{List}
 use borrow.Author.Tests.{ne-eqb}
+use Rattle.frame.specs.Result.{Result}
 use Rattle.frame.specs.Choice.{pick}
 use Rattle.frame.specs.declared.Frame.{Frame}
 use Rattle.bench_face.specs.Frames.{frameFrom, flatFrame}
@@ -18,7 +19,7 @@ use Rattle.bench_face.specs.declared.send.Window.{Window}
 use Rattle.sender.specs.Begin.{makeOf, beginOf, postOf}
 use Rattle.sender.specs.Hear.{hearOf}
 use Rattle.sender.specs.Tick.{tickOf}
-use Rattle.sender.specs.Told.{Made, toldMade, toldOutcome, Told, told}
+use Rattle.sender.specs.Told.{toldMade, toldOutcome, Told, told}
 use Rattle.sender.specs.declared.Announced.{Announced}
 use Rattle.sender.specs.declared.Answer.{Answer}
 use Rattle.sender.specs.declared.Awaited.{Awaited}
@@ -153,7 +154,7 @@ pub ruleset makings = (makes, makes-none)
 
 -- ---- the calls: read, called, written
 
-pub made-so : (a : SenderMade) (m : Made) (gap timeout limit : ℕ) → a ≡ flatMade m → m ≡ makeOf gap timeout limit
+pub made-so : (a : SenderMade) (m : Result Sender) (gap timeout limit : ℕ) → a ≡ flatMade m → m ≡ makeOf gap timeout limit
     → a ≡ flatMade (makeOf gap timeout limit)
 made-so a m gap timeout limit e k = cc
 

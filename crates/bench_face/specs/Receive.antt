@@ -4,13 +4,14 @@ use mathlib.Core.Path.{_≡_}
 use mathlib.Core.Bool.{true, false}
 use mathlib.Core.List.{List}
 use lib.Dec.{eqb}
+use Rattle.frame.specs.Result as result
 use Rattle.frame.specs.Choice.{pick}
 use Rattle.bench_face.specs.Frames.{frameFrom, flatFrame}
 use Rattle.bench_face.specs.declared.receive.FlatReceiver.{FlatReceiver}
 use Rattle.bench_face.specs.declared.receive.ReceiverAnswer.{ReceiverAnswer}
 use Rattle.bench_face.specs.declared.receive.ReceiverMade.{ReceiverMade}
 use Rattle.bench_face.specs.declared.receive.Report.{Report}
-use Rattle.receiver.specs.Told.{Made, made, unmade, Outcome, quiet, refused, delivered, failed, short, Told, Heard}
+use Rattle.receiver.specs.Told.{Outcome, quiet, refused, delivered, failed, short, Told, Heard}
 use Rattle.receiver.specs.declared.Connection.{Connection}
 use Rattle.receiver.specs.declared.Phase.{Phase}
 use Rattle.receiver.specs.declared.Phase.the-variants.{Idle, Done, Open}
@@ -80,9 +81,9 @@ flatAnswer t = answerOf (flatReceiver (t .next)) t (flatOutcome (t .outcome))
 abbrev pub noReceiver : FlatReceiver
 noReceiver = flatOf (record { timeout = 0; window = 0; capacity = 0 }) 0 (remembering 0 0)
 
-unfoldable pub flatMade : Made → ReceiverMade
-flatMade (made r) = record { made = true; number = 0; end = flatReceiver r }
-flatMade (unmade number) = record { made = false; number = number; end = noReceiver }
+unfoldable pub flatMade : result.Result Receiver → ReceiverMade
+flatMade (result.accepted r) = record { made = true; number = 0; end = flatReceiver r }
+flatMade (result.refused number) = record { made = false; number = number; end = noReceiver }
 
 -- a hearing's answer, and the lent buffer as the hearing leaves it
 pub record FlatHeard : Type 0 where
@@ -107,5 +108,5 @@ unfoldable pub answerFrom : ReceiverAnswer → Told
 answerFrom a =
     record { next = receiverFrom (a .next); emits = a .emits; frame = frameFrom (a .frame); outcome = outcomeFrom (record { outcome = a .outcome; number = a .number; length = a .length }); bytes = a .bytes }
 
-unfoldable pub madeFrom : ReceiverMade → Made
-madeFrom m = pick (m .made) (made (receiverFrom (m .end))) (unmade (m .number))
+unfoldable pub madeFrom : ReceiverMade → result.Result Receiver
+madeFrom m = pick (m .made) (result.accepted (receiverFrom (m .end))) (result.refused (m .number))

@@ -3,6 +3,7 @@ use Prim.Native.Nat.{ℕ}
 use mathlib.Core.Path.{_≡_}
 use mathlib.Core.Bool.{true, false}
 use lib.Dec.{eqb}
+use Rattle.frame.specs.Result as result
 use Rattle.frame.specs.Choice.{pick}
 use Rattle.bench_face.specs.Frames.{frameFrom, flatFrame}
 use Rattle.bench_face.specs.declared.send.FlatSender.{FlatSender}
@@ -10,7 +11,7 @@ use Rattle.bench_face.specs.declared.send.Report.{Report}
 use Rattle.bench_face.specs.declared.send.SenderAnswer.{SenderAnswer}
 use Rattle.bench_face.specs.declared.send.SenderMade.{SenderMade}
 use Rattle.bench_face.specs.declared.send.Window.{Window}
-use Rattle.sender.specs.Told.{Made, made, unmade, Outcome, quiet, refused, sent, failed, Told}
+use Rattle.sender.specs.Told.{Outcome, quiet, refused, sent, failed, Told}
 use Rattle.sender.specs.declared.Phase.{Phase}
 use Rattle.sender.specs.declared.Phase.the-variants.{Idle, Opening, Sending, Waiting, Short}
 use Rattle.sender.specs.declared.Sender.{Sender}
@@ -99,9 +100,9 @@ flatAnswer t = answerOf (flatSender (t .next)) t (flatOutcome (t .outcome))
 abbrev pub noSender : FlatSender
 noSender = flatOf (record { gap = 0; timeout = 0; limit = 0 }) 0 noTransfer noWindow 0 0
 
-unfoldable pub flatMade : Made → SenderMade
-flatMade (made s) = record { made = true; number = 0; end = flatSender s }
-flatMade (unmade number) = record { made = false; number = number; end = noSender }
+unfoldable pub flatMade : result.Result Sender → SenderMade
+flatMade (result.accepted s) = record { made = true; number = 0; end = flatSender s }
+flatMade (result.refused number) = record { made = false; number = number; end = noSender }
 
 -- ---- what a caller reads off an answer
 
@@ -115,5 +116,5 @@ unfoldable pub answerFrom : SenderAnswer → Told
 answerFrom a =
     record { next = senderFrom (a .next); emits = a .emits; frame = frameFrom (a .frame); outcome = outcomeFrom (record { outcome = a .outcome; number = a .number; ticks = a .ticks; frames = a .frames }) }
 
-unfoldable pub madeFrom : SenderMade → Made
-madeFrom m = pick (m .made) (made (senderFrom (m .end))) (unmade (m .number))
+unfoldable pub madeFrom : SenderMade → result.Result Sender
+madeFrom m = pick (m .made) (result.accepted (senderFrom (m .end))) (result.refused (m .number))

@@ -8,13 +8,14 @@ use native.Mathlib.Omega.{arith}
 use borrow.Author.Tests.{le-leb, eq-eqb}
 use lib.Dec.{leb}
 use lib.ListN.{length}
+use Rattle.frame.specs.Result.{accepted, refused}
 use Rattle.frame.specs.Choice.{pick}
 use Rattle.frame.specs.Count.{frameCountOf, incrementOf, lowByte, highByte, wordOf}
 use Rattle.frame.specs.Frames.{announcementOf, lmAckOf, lmNackOf}
 use Rattle.frame.specs.Reading.{namedOf, allFiller, readOf}
 use Rattle.receiver.specs.Hear.{hearOf, hearRead, hearKind, hearNumbered, hearAnnouncement, announceIdle, opening}
 use Rattle.receiver.specs.Tick.{makeOf, tickOf, tickPhase, tickOpen}
-use Rattle.receiver.specs.Told.{Told, failingWith, inPhase, made, unmade}
+use Rattle.receiver.specs.Told.{Told, failingWith, inPhase}
 use Rattle.receiver.specs.declared.Connection.{Connection}
 use Rattle.receiver.specs.declared.Phase.the-variants.{Idle, Open}
 use Rattle.receiver.specs.declared.Receiver.{Receiver}
@@ -115,8 +116,8 @@ by-fit : (timeout window capacity frames l : ℕ) (buffer : List ℕ) (ticks : �
     → length buffer ≡ 1785
     → ofReceiver
     (pick (fit && true)
-    (made (record { settings = record { timeout = timeout; window = window; capacity = capacity }; phase = Idle }))
-    (unmade 1))
+    (accepted (record { settings = record { timeout = timeout; window = window; capacity = capacity }; phase = Idle }))
+    (refused 1))
     (λ r. receiverInSilence r frames l buffer ticks)
     ≡ pick fit (openNumbers timeout 1 0 0 1 ticks) (refusal 1)
 unfolding ofReceiver pick

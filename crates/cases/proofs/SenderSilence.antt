@@ -7,13 +7,14 @@ use Prim.Native.Nat.{ℕ, zero, suc, _≤_}
 use borrow.Author.Tests.{le-leb, eq-eqb}
 use lib.Dec.{leb}
 use lib.ListN.{length}
+use Rattle.frame.specs.Result.{accepted, refused}
 use Rattle.frame.specs.Choice.{pick}
 use Rattle.frame.specs.Count.{incrementOf}
 use Rattle.frame.specs.Frames.{announcementOf, lmNackOf}
 use Rattle.sender.specs.Begin.{makeOf, beginLong}
 use Rattle.sender.specs.State.{aged, counted, inPhase}
 use Rattle.sender.specs.Tick.{tickOf, tickPhase, tickOpening}
-use Rattle.sender.specs.Told.{Told, failingWith, made, unmade}
+use Rattle.sender.specs.Told.{Told, failingWith}
 use Rattle.sender.specs.declared.Announced.{Announced}
 use Rattle.sender.specs.declared.Phase.the-variants.{Idle, Opening}
 use Rattle.sender.specs.declared.Sender.{Sender}
@@ -110,8 +111,8 @@ by-fit : (gap timeout limit : ℕ) (message : List ℕ) (ticks : ℕ) (fit : Boo
     → length message ≤ 1785
     → ofSender
     (pick fit
-    (made (record { settings = record { gap = gap; timeout = timeout; limit = limit }; phase = Idle }))
-    (unmade 1))
+    (accepted (record { settings = record { gap = gap; timeout = timeout; limit = limit }; phase = Idle }))
+    (refused 1))
     (λ s. senderInSilence s message ticks)
     ≡ pick fit (at 0 frame0 ++ openingNumbers timeout limit 0 0 0 1 ticks) (refusal 1)
 unfolding ofSender pick

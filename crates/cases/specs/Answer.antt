@@ -4,6 +4,7 @@ use mathlib.Core.Bool.{Bool}
 use mathlib.Core.List.{List, [], _∷_, _++_}
 use lib.Dec.{eqb}
 use lib.ListN.{replicate}
+use Rattle.frame.specs.Result.{Result, accepted, refused}
 use Rattle.frame.specs.Choice.{pick}
 use Rattle.frame.specs.Frames.{byteOf, announcementOf, lmAckOf}
 use Rattle.frame.specs.declared.Frame.{Frame}
@@ -75,13 +76,13 @@ receiverInSilence r frames length buffer ticks =
     receiverTicks (receiver-hear.hearOf r (announcementOf frames length) buffer .told .next) 1 ticks
 
 -- what the end that making answers shows; the number of the refusal, where the settings are refused
-unfoldable pub ofSender : sender.Made → (Sender → List ℕ) → List ℕ
-ofSender (sender.made s) shows = shows s
-ofSender (sender.unmade number) shows = refusal number
+unfoldable pub ofSender : Result Sender → (Sender → List ℕ) → List ℕ
+ofSender (accepted s) shows = shows s
+ofSender (refused number) shows = refusal number
 
-unfoldable pub ofReceiver : receiver.Made → (Receiver → List ℕ) → List ℕ
-ofReceiver (receiver.made r) shows = shows r
-ofReceiver (receiver.unmade number) shows = refusal number
+unfoldable pub ofReceiver : Result Receiver → (Receiver → List ℕ) → List ℕ
+ofReceiver (accepted r) shows = shows r
+ofReceiver (refused number) shows = refusal number
 
 -- what joining parts shows: the identifier, or the number of the refusal
 unfoldable pub shownJoined : parts.Answer ℕ → List ℕ

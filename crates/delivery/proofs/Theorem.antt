@@ -7,6 +7,7 @@ use mathlib.Core.Path.{_≡_, refl, subst}
 use native.Mathlib.Omega.{arith}
 use borrow.Author.Tests.{leb-true}
 use lib.Dec.{leb}
+use Rattle.frame.specs.Result.{accepted, refused}
 use Rattle.frame.specs.Choice.{pick}
 use Rattle.frame.specs.declared.Frame.{Frame}
 use Rattle.receiver.specs.Tick as receiver-tick
@@ -158,14 +159,14 @@ data SenderMade (gap timeout limit : ℕ) : Sender → Type 0 where
       sender-making.settingsFit gap timeout limit ≡ true
       → SenderMade gap timeout limit (senderIn (record { gap = gap; timeout = timeout; limit = limit }) Idle)
 
-sender-made : (gap timeout limit : ℕ) (s : Sender) → sender-making.makeOf gap timeout limit ≡ sender.made s → SenderMade gap timeout limit s
+sender-made : (gap timeout limit : ℕ) (s : Sender) → sender-making.makeOf gap timeout limit ≡ accepted s → SenderMade gap timeout limit s
 unfolding sender-making.makeOf pick
 sender-made gap timeout limit s = go (sender-making.settingsFit gap timeout limit) refl
   where
     fresh-sender : Sender
     fresh-sender = senderIn (record { gap = gap; timeout = timeout; limit = limit }) Idle
 
-    go : (b : Bool) → sender-making.settingsFit gap timeout limit ≡ b → pick b (sender.made fresh-sender) (sender.unmade 1) ≡ sender.made s
+    go : (b : Bool) → sender-making.settingsFit gap timeout limit ≡ b → pick b (accepted fresh-sender) (refused 1) ≡ accepted s
         → SenderMade gap timeout limit s
     go true e q = let z : fresh-sender ≡ s = cc in subst (SenderMade gap timeout limit) z (fits e)
     go false e q = let z : _≡_ {A = ℕ} 0 1 = cc in absurd (omega arith)
@@ -175,7 +176,7 @@ data ReceiverMade (timeout window capacity : ℕ) : Receiver → Type 0 where
       receiver-tick.settingsFit timeout window capacity ≡ true
       → ReceiverMade timeout window capacity (receiverIn (record { timeout = timeout; window = window; capacity = capacity }) at.Idle)
 
-receiver-made : (timeout window capacity : ℕ) (r : Receiver) → receiver-tick.makeOf timeout window capacity ≡ receiver.made r
+receiver-made : (timeout window capacity : ℕ) (r : Receiver) → receiver-tick.makeOf timeout window capacity ≡ accepted r
     → ReceiverMade timeout window capacity r
 unfolding receiver-tick.makeOf pick
 receiver-made timeout window capacity r = go (receiver-tick.settingsFit timeout window capacity) refl
@@ -184,7 +185,7 @@ receiver-made timeout window capacity r = go (receiver-tick.settingsFit timeout 
     fresh-receiver = receiverIn (record { timeout = timeout; window = window; capacity = capacity }) at.Idle
 
     go : (b : Bool) → receiver-tick.settingsFit timeout window capacity ≡ b
-        → pick b (receiver.made fresh-receiver) (receiver.unmade 1) ≡ receiver.made r
+        → pick b (accepted fresh-receiver) (refused 1) ≡ accepted r
         → ReceiverMade timeout window capacity r
     go true e q = let z : fresh-receiver ≡ r = cc in subst (ReceiverMade timeout window capacity) z (fits e)
     go false e q = let z : _≡_ {A = ℕ} 0 1 = cc in absurd (omega arith)

@@ -4,6 +4,7 @@ use Prim.Native.Nat.{ℕ}
 use mathlib.Core.List.{List, [], _∷_}
 use mathlib.Core.Path.{_≡_}
 use lib.ListN.{length}
+use Rattle.frame.specs.Result.{accepted}
 use Rattle.transport.specs.Capped.{cappedStep}
 use Rattle.delivery.specs.Turns.{eventsFrom}
 use Rattle.frame.specs.Frames.{blankOf}
@@ -61,9 +62,9 @@ CappedRuns =
 abbrev pub CappedKeeps : Type 0
 CappedKeeps =
     (gap timeout limit : ℕ) (s : Sender)
-    → sender-making.makeOf gap timeout limit ≡ sender.made s
+    → sender-making.makeOf gap timeout limit ≡ accepted s
     → (timeout′ window capacity : ℕ) (r : Receiver)
-    → receiver-making.makeOf timeout′ window capacity ≡ receiver.made r
+    → receiver-making.makeOf timeout′ window capacity ≡ accepted r
     → (buffer message events : List ℕ)
     → length buffer ≡ 1785
     → Promise limit timeout′ (newestFirst [] (runFrom s r buffer message events))

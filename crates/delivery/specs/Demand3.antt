@@ -14,6 +14,7 @@ use mathlib.Core.Bool.{Bool, true, false}
 use mathlib.Core.List.{List, [], _∷_}
 use mathlib.Core.Path.{_≡_}
 use lib.ListN.{length}
+use Rattle.frame.specs.Result.{accepted}
 use Rattle.frame.specs.Frames.{fillTo}
 use Rattle.receiver.specs.Tick as receiver-making
 use Rattle.receiver.specs.Told as receiver
@@ -121,9 +122,9 @@ fresh s r buffer = record { world = startOf s r buffer; events = [] }
 abbrev pub Demand3 : Type 0
 Demand3 =
     (gap timeout limit : ℕ) (s : Sender)
-    → sender-making.makeOf gap timeout limit ≡ sender.made s
+    → sender-making.makeOf gap timeout limit ≡ accepted s
     → (timeout′ window capacity : ℕ) (r : Receiver)
-    → receiver-making.makeOf timeout′ window capacity ≡ receiver.made r
+    → receiver-making.makeOf timeout′ window capacity ≡ accepted r
     → (buffer : List ℕ)
     → length buffer ≡ 1785
     → (calls : List Call)

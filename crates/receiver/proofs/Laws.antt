@@ -15,18 +15,20 @@ use borrow.Rule.Slice.PartMut.{putMid}
 use lib.Dec.{eqb}
 use lib.ListN.{length, getD, take, drop, set, length-drop, drop-of-length-le}
 use lib.Seq.{drop-cons, drop-drop, take-suc, take-all, set-at, append-snoc, length-take-le, paste}
+use Rattle.frame.specs.Result.{accepted, refused, refusalOf}
 use Rattle.frame.proofs.Choice.{pick-true, pick-false}
 use Rattle.frame.specs.Choice.{pick}
 use Rattle.frame.specs.Count.{incrementOf, wordOf}
 use Rattle.frame.specs.Frames.{byteOf, lmAckOf, lmNackOf, endOfAckOf, smAckOf}
-use Rattle.frame.specs.Reading.{refused, readOf, toldReading}
+use Rattle.frame.specs.Reading.{readOf, toldReading}
 use Rattle.frame.specs.declared.Frame.{Frame}
+use Rattle.frame.specs.declared.Parsed.{Parsed}
 use Rattle.frame.specs.declared.Reading.{Reading}
-use Rattle.frame.specs.declared.Reading.the-variants.{Kind, Refused}
+use Rattle.frame.specs.declared.Reading.the-variants.{Read, Refused}
 use Rattle.receiver.proofs.View.{moved}
 use Rattle.receiver.specs.Hear.{announcesWell, opening, announceIdle, announceOpen, hearAnnouncement, stored, carried, storing, informationOpen, hearInformation, hearNack, hearNumbered, hearKind, hearRead, hearOf}
 use Rattle.receiver.specs.Tick.{settingsFit, makeOf, windowOf, windowAck, tickOpen, tickPhase, tickOf}
-use Rattle.receiver.specs.Told.{Told, Heard, made, unmade, heard, inPhase, refusing, silently, emitting, delivering, failingWith, failing, shortWith, shortOnly}
+use Rattle.receiver.specs.Told.{Told, Heard, heard, inPhase, refusing, silently, emitting, delivering, failingWith, failing, shortWith, shortOnly}
 use Rattle.receiver.specs.declared.Connection.{Connection}
 use Rattle.receiver.specs.declared.Delivery.{Delivery}
 use Rattle.receiver.specs.declared.Phase.{Phase}
@@ -36,13 +38,13 @@ use Rattle.receiver.specs.declared.Receiver.{Receiver}
 -- ---- making
 
 pub make-made : (timeout window capacity : ℕ) {fit : Bool} → fit ≡ settingsFit timeout window capacity → fit ≡ true
-    → made (record { settings = record { timeout = timeout; window = window; capacity = capacity }; phase = Idle })
+    → accepted (record { settings = record { timeout = timeout; window = window; capacity = capacity }; phase = Idle })
     ≡ makeOf timeout window capacity
 unfolding makeOf
 make-made timeout window capacity f t = pick-true _ (sym f ∙ t) refl
 
 pub make-refused : (timeout window capacity : ℕ) {fit : Bool} → fit ≡ settingsFit timeout window capacity → fit ≡ false
-    → unmade 1 ≡ makeOf timeout window capacity
+    → refused 1 ≡ makeOf timeout window capacity
 unfolding makeOf
 make-refused timeout window capacity f t = pick-false _ (sym f ∙ t) refl
 
@@ -304,64 +306,64 @@ module _ (r : Receiver) {a : Told} where
 pub ruleset nacks = (nack-idle, nack-done, nack-open)
 
 module _ (r : Receiver) (f : Frame) (buffer : List ℕ) where
-  pub numbered-zero : {a : Told} {length : ℕ} → a ≡ hearAnnouncement r (r .phase) (byteOf f 1) length
-      → length ≡ wordOf (byteOf f 2) (byteOf f 3) → byteOf f 0 ≡ 0
-      → heard a buffer ≡ hearNumbered r f buffer
+  pub numbered-zero : (p : Parsed) {a : Told} {length : ℕ} → a ≡ hearAnnouncement r (r .phase) (byteOf f 1) length
+      → length ≡ wordOf (byteOf f 2) (byteOf f 3) → p .number ≡ 0
+      → heard a buffer ≡ hearNumbered r f p buffer
   unfolding hearNumbered
-  numbered-zero e l zero = pick-true _ (eq-eqb _ _ zero) (cc)
+  numbered-zero p e l zero = pick-true _ (eq-eqb _ _ zero) (cc)
 
-  pub numbered-from-one : {h : Heard} → h ≡ hearInformation r (r .phase) (byteOf f 0) (drop 1 (f .bytes)) buffer
-      → (byteOf f 0 ≡ 0 → ⊥)
-      → h ≡ hearNumbered r f buffer
+  pub numbered-from-one : (p : Parsed) {h : Heard} → h ≡ hearInformation r (r .phase) (p .number) (drop 1 (f .bytes)) buffer
+      → (p .number ≡ 0 → ⊥)
+      → h ≡ hearNumbered r f p buffer
   unfolding hearNumbered
-  numbered-from-one e other = pick-false _ (ne-eqb _ _ other) e
+  numbered-from-one p e other = pick-false _ (ne-eqb _ _ other) e
 
-  pub kind-1 : (k : ℕ) {h : Heard} → h ≡ hearNumbered r f buffer → k ≡ 1 → h ≡ hearKind r f buffer k
-  unfolding hearKind pick
-  kind-1 k e at = rw at e
-
-  pub kind-3 : (k : ℕ) {a : Told} → a ≡ hearNack r (r .phase) → k ≡ 3 → heard a buffer ≡ hearKind r f buffer k
-  unfolding hearKind pick
-  kind-3 k e at = rw at (cc)
-
-  pub kind-5 : (k : ℕ) {a : Told} {ack : Frame} → a ≡ shortWith r ack (f .bytes) → ack ≡ smAckOf (byteOf f 0) → k ≡ 5
-      → heard a buffer ≡ hearKind r f buffer k
-  unfolding hearKind pick
-  kind-5 k e s at = rw at (cc)
-
-  pub kind-7 : (k : ℕ) {a : Told} → a ≡ shortOnly r (f .bytes) → k ≡ 7 → heard a buffer ≡ hearKind r f buffer k
-  unfolding hearKind pick
-  kind-7 k e at = rw at (cc)
-
-  pub kind-other : (k : ℕ) {a : Told} → a ≡ refusing r 7 → (k ≡ 1 → ⊥) → (k ≡ 3 → ⊥) → (k ≡ 5 → ⊥) → (k ≡ 7 → ⊥)
-      → heard a buffer ≡ hearKind r f buffer k
+  pub kind-1 : (p : Parsed) {h : Heard} → h ≡ hearNumbered r f p buffer → p .kind ≡ 1 → h ≡ hearKind r f p buffer
   unfolding hearKind
-  kind-other k e one three five seven =
+  kind-1 p e at = pick-true _ (eq-eqb _ _ at) e
+
+  pub kind-3 : (p : Parsed) {a : Told} → a ≡ hearNack r (r .phase) → p .kind ≡ 3 → heard a buffer ≡ hearKind r f p buffer
+  unfolding hearKind pick
+  kind-3 p e at = rw at (cc)
+
+  pub kind-5 : (p : Parsed) {a : Told} {ack : Frame} → a ≡ shortWith r ack (f .bytes) → ack ≡ smAckOf (byteOf f 0) → p .kind ≡ 5
+      → heard a buffer ≡ hearKind r f p buffer
+  unfolding hearKind pick
+  kind-5 p e s at = rw at (cc)
+
+  pub kind-7 : (p : Parsed) {a : Told} → a ≡ shortOnly r (f .bytes) → p .kind ≡ 7 → heard a buffer ≡ hearKind r f p buffer
+  unfolding hearKind pick
+  kind-7 p e at = rw at (cc)
+
+  pub kind-other : (p : Parsed) {a : Told} → a ≡ refusing r 7 → (p .kind ≡ 1 → ⊥) → (p .kind ≡ 3 → ⊥) → (p .kind ≡ 5 → ⊥) → (p .kind ≡ 7 → ⊥)
+      → heard a buffer ≡ hearKind r f p buffer
+  unfolding hearKind
+  kind-other p e one three five seven =
       pick-false _ (ne-eqb _ _ one)
       (pick-false _ (ne-eqb _ _ three) (pick-false _ (ne-eqb _ _ five) (pick-false _ (ne-eqb _ _ seven) (cc))))
 
-  pub kind-even : (k : ℕ) {a : Told} → a ≡ refusing r 7 → (k ≡ 0) ⊎ ((k ≡ 2) ⊎ ((k ≡ 4) ⊎ (k ≡ 6)))
-      → heard a buffer ≡ hearKind r f buffer k
+  pub kind-even : (p : Parsed) {a : Told} → a ≡ refusing r 7 → (p .kind ≡ 0) ⊎ ((p .kind ≡ 2) ⊎ ((p .kind ≡ 4) ⊎ (p .kind ≡ 6)))
+      → heard a buffer ≡ hearKind r f p buffer
   unfolding hearKind pick
-  kind-even k e (inl at) = rw at (cc)
-  kind-even k e (inr (inl at)) = rw at (cc)
-  kind-even k e (inr (inr (inl at))) = rw at (cc)
-  kind-even k e (inr (inr (inr at))) = rw at (cc)
+  kind-even p e (inl at) = rw at (cc)
+  kind-even p e (inr (inl at)) = rw at (cc)
+  kind-even p e (inr (inr (inl at))) = rw at (cc)
+  kind-even p e (inr (inr (inr at))) = rw at (cc)
 
   pub buffer-refused : {a : Told} → a ≡ refusing r 5 → (length buffer ≡ 1785 → ⊥) → heard a buffer ≡ hearOf r f buffer
   unfolding hearOf
   buffer-refused e other = pick-false _ (ne-eqb _ _ other) (cc)
 
   pub reading-refused : (reading : Reading) {a : Told} {n m : ℕ} → a ≡ refusing r n
-      → ((m : ℕ) → toldReading reading ≡ refused m → n ≡ m) → reading ≡ Refused m → toldReading reading ≡ readOf f
+      → n ≡ refusalOf (toldReading reading) → reading ≡ Refused m → toldReading reading ≡ readOf f
       → length buffer ≡ 1785
       → heard a buffer ≡ hearOf r f buffer
   unfolding hearOf hearRead
   reading-refused reading {a} {n} {m} e number p t whole =
       pick-true _ (eq-eqb _ _ whole)
-      (cc (number m (ap toldReading p)) ∙ ap (hearRead r f buffer) (ap toldReading (sym p) ∙ t))
+      ((cc) ∙ ap (hearRead r f buffer) (ap toldReading (sym p) ∙ t))
 
-  pub reading-accepted : (reading : Reading) {h : Heard} {k : ℕ} → h ≡ hearKind r f buffer k → reading ≡ Kind k
+  pub reading-accepted : (reading : Reading) {h : Heard} {k : Parsed} → h ≡ hearKind r f k buffer → reading ≡ Read k
       → toldReading reading ≡ readOf f → length buffer ≡ 1785
       → h ≡ hearOf r f buffer
   unfolding hearOf hearRead

@@ -9,6 +9,7 @@ use mathlib.Core.List.{List}
 use native.Mathlib.Omega.{arith}
 use borrow.Author.Tests.{leb-true, eqb-true, eqb-false, le-leb, lt-leb}
 use lib.Dec.{eqb, leb}
+use Rattle.frame.specs.Result.{Result, accepted}
 use Rattle.frame.specs.Count.{frameCountOf, incrementOf}
 use Rattle.frame.specs.Frames.{byteOf, wordAt}
 use Rattle.frame.specs.declared.Frame.{Frame}
@@ -17,7 +18,7 @@ use Rattle.frame.proofs.Laws.{frame-count-bounds}
 use Rattle.receiver.proofs.View.{receiverIn, moved, fresh, end, Ticks, rests, waits, retries, expires, tick-does, nacks, opens, again, ignored, skips, ended, above, delivers, asks, goes-on, Hears, refuses, announced, informed, closes, unmoved, short, short-only, hear-does}
 use Rattle.receiver.specs.Reachable.{Reachable, new, ticked, hearing, SettingsWithin, Announced, OpenWithin, PhaseWithin, Within, Exact}
 use Rattle.receiver.specs.Tick.{settingsFit, makeOf, windowOf}
-use Rattle.receiver.specs.Told.{Made, made, Told, Heard}
+use Rattle.receiver.specs.Told.{Told, Heard}
 use Rattle.receiver.specs.declared.Connection.{Connection}
 use Rattle.receiver.specs.declared.Phase.{Phase}
 use Rattle.receiver.specs.declared.Phase.the-variants.{Idle, Open}
@@ -60,8 +61,8 @@ settings-within timeout window capacity e =
     }
 
 -- what is made is within
-abbrev MadeWithin : Made → Type 0
-MadeWithin m = (r : Receiver) → m ≡ made r → Within r
+abbrev MadeWithin : Result Receiver → Type 0
+MadeWithin m = (r : Receiver) → m ≡ accepted r → Within r
 
 made-within : (timeout window capacity : ℕ) → MadeWithin (makeOf timeout window capacity)
 unfolding makeOf

@@ -1,16 +1,18 @@
 -- What is told of an answer leaves nothing of it open: telling has a left inverse, by cases.
 -- Assumes nothing.
 use mathlib.Core.Path.{_≡_, refl, ap}
-use Rattle.receiver.specs.Told.{Made, made, unmade, toldMade, Outcome, quiet, refused, delivered, failed, short, toldOutcome, Told, told}
+use Rattle.frame.specs.Result as result
+use Rattle.receiver.specs.Told.{toldMade, Outcome, quiet, refused, delivered, failed, short, toldOutcome, Told, told}
 use Rattle.receiver.specs.declared.Answer as answer
 use Rattle.receiver.specs.declared.Made as made-enum
+use Rattle.receiver.specs.declared.Receiver.{Receiver}
 use Rattle.receiver.specs.declared.Made.the-variants as made-variants
 use Rattle.receiver.specs.declared.Outcome as outcome-enum
 use Rattle.receiver.specs.declared.Outcome.the-variants as outcome-variants
 
-abbrev pub untoldMade : Made → made-enum.Made
-untoldMade (made r) = made-variants.End r
-untoldMade (unmade number) = made-variants.Refused number
+abbrev pub untoldMade : result.Result Receiver → made-enum.Made
+untoldMade (result.accepted r) = made-variants.End r
+untoldMade (result.refused number) = made-variants.Refused number
 
 pub told-made-injective : (m : made-enum.Made) → untoldMade (toldMade m) ≡ m
 told-made-injective (made-variants.End r) = refl

@@ -12,7 +12,8 @@ use lib.ListN.{length, drop}
 use Rattle.frame.proofs.Choice.{pick-elim, read-elim}
 use Rattle.frame.specs.Count.{frameCountOf, incrementOf}
 use Rattle.frame.specs.Frames.{byteOf, wordAt, lmAckOf, lmNackOf, endOfAckOf, smAckOf}
-use Rattle.frame.specs.Reading.{Judgement}
+use Rattle.frame.specs.Result.{Result}
+use Rattle.frame.specs.declared.Parsed.{Parsed}
 use Rattle.frame.specs.declared.Frame.{Frame}
 use Rattle.receiver.specs.Hear.{announcesWell, opening, announceIdle, announceOpen, hearAnnouncement, stored, storing, informationOpen, hearInformation, hearNack, hearNumbered, hearKind, hearRead, hearOf}
 use Rattle.receiver.specs.Tick.{windowOf, windowAck, tickOpen, tickPhase, tickOf}
@@ -188,7 +189,7 @@ module _ (s : Settings) where
   hear-phase f buffer p =
       let P : Heard → Type 0 = Hears s f buffer p in
       pick-elim P _
-      (λ whole. read-elim (λ (j : Judgement). P (hearRead (receiverIn s p) f buffer j)) f
+      (λ whole. read-elim (λ (j : Result Parsed). P (hearRead (receiverIn s p) f buffer j)) f
       (pick-elim P _
       (λ one. pick-elim P _
       (λ zero. announced (eqb-true _ _ one) (eqb-true _ _ zero) (announcement-does p _ _ buffer))

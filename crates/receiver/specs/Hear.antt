@@ -8,7 +8,9 @@ use lib.Seq.{paste}
 use Rattle.frame.specs.Choice.{pick}
 use Rattle.frame.specs.Count.{frameCountOf}
 use Rattle.frame.specs.Frames.{byteOf, wordAt, lmAckOf, lmNackOf, endOfAckOf, smAckOf}
-use Rattle.frame.specs.Reading.{Judgement, accepted, refused, readOf}
+use Rattle.frame.specs.Reading.{readOf}
+use Rattle.frame.specs.Result.{Result, accepted, refused}
+use Rattle.frame.specs.declared.Parsed.{Parsed}
 use Rattle.frame.specs.declared.Frame.{Frame}
 use Rattle.receiver.specs.Tick.{windowOf, windowAck}
 use Rattle.receiver.specs.Told.{Told, Heard, heard, inPhase, refusing, silently, emitting, delivering, failingWith, failing, shortWith, shortOnly}
@@ -94,23 +96,23 @@ hearNack r (Done x) = silently r
 hearNack r (Open x) = failing r 1
 
 -- kind 1: number 0 announces N and L; a number from 1 carries bytes d1 to d7
-unfoldable pub hearNumbered : Receiver → Frame → List ℕ → Heard
-hearNumbered r f buffer =
-    pick (eqb (byteOf f 0) 0) (heard (hearAnnouncement r (r .phase) (byteOf f 1) (wordAt f 2 3)) buffer)
-    (hearInformation r (r .phase) (byteOf f 0) (drop 1 (f .bytes)) buffer)
+unfoldable pub hearNumbered : Receiver → Frame → Parsed → List ℕ → Heard
+hearNumbered r f parsed buffer =
+    pick (eqb (parsed .number) 0) (heard (hearAnnouncement r (r .phase) (byteOf f 1) (wordAt f 2 3)) buffer)
+    (hearInformation r (r .phase) (parsed .number) (drop 1 (f .bytes)) buffer)
 
 -- by the kind that was read: "SM_RM: SM_ACK and a short delivery of its eight bytes; SM_URM: a delivery only. State and
 -- buffer stay."; refusals: "7 kind for the other end (.. receiver 1, 3, 5, 7)"
-unfoldable pub hearKind : Receiver → Frame → List ℕ → ℕ → Heard
-hearKind r f buffer kind =
-    pick (eqb kind 1) (hearNumbered r f buffer)
-    (pick (eqb kind 3) (heard (hearNack r (r .phase)) buffer)
-    (pick (eqb kind 5) (heard (shortWith r (smAckOf (byteOf f 0)) (f .bytes)) buffer)
-    (pick (eqb kind 7) (heard (shortOnly r (f .bytes)) buffer) (heard (refusing r 7) buffer))))
+unfoldable pub hearKind : Receiver → Frame → Parsed → List ℕ → Heard
+hearKind r f parsed buffer =
+    pick (eqb (parsed .kind) 1) (hearNumbered r f parsed buffer)
+    (pick (eqb (parsed .kind) 3) (heard (hearNack r (r .phase)) buffer)
+    (pick (eqb (parsed .kind) 5) (heard (shortWith r (smAckOf (byteOf f 0)) (f .bytes)) buffer)
+    (pick (eqb (parsed .kind) 7) (heard (shortOnly r (f .bytes)) buffer) (heard (refusing r 7) buffer))))
 
 -- refusals: 6 goes before 7
-unfoldable pub hearRead : Receiver → Frame → List ℕ → Judgement → Heard
-hearRead r f buffer (accepted kind) = hearKind r f buffer kind
+unfoldable pub hearRead : Receiver → Frame → List ℕ → Result Parsed → Heard
+hearRead r f buffer (accepted parsed) = hearKind r f parsed buffer
 hearRead r f buffer (refused number) = heard (refusing r number) buffer
 
 -- "Every hearing is lent a buffer of 1785 bytes."; refusals: "5 buffer not 1785 (receiver)" goes before 6

@@ -4,11 +4,11 @@ use Prim.Native.Nat.{ℕ, _+_, _-_, _*_, _≤_, _<_}
 use mathlib.Core.Path.{_≡_}
 use mathlib.Core.List.{List}
 use lib.Dec.{eqb, leb}
+use Rattle.frame.specs.Result.{accepted}
 use Rattle.frame.specs.Count.{frameCountOf, incrementOf}
 use Rattle.frame.specs.declared.Frame.{Frame}
 use Rattle.receiver.specs.Hear.{carried, hearOf}
 use Rattle.receiver.specs.Tick.{makeOf, windowOf, tickOf}
-use Rattle.receiver.specs.Told.{made}
 use Rattle.receiver.specs.declared.Connection.{Connection}
 use Rattle.receiver.specs.declared.Phase.{Phase}
 use Rattle.receiver.specs.declared.Phase.the-variants.{Idle, Done, Open}
@@ -18,7 +18,7 @@ use Rattle.receiver.specs.declared.Settings.{Settings}
 -- a receiver that making answered, and what a tick, or a hearing of any frame with any buffer, leaves of a reachable
 -- one
 pub data Reachable : Receiver → Type 0 where
-  new : {r : Receiver} (timeout window capacity : ℕ) → makeOf timeout window capacity ≡ made r → Reachable r
+  new : {r : Receiver} (timeout window capacity : ℕ) → makeOf timeout window capacity ≡ accepted r → Reachable r
   ticked : {r : Receiver} → Reachable r → Reachable (tickOf r .next)
   hearing : {r : Receiver} → Reachable r → (f : Frame) (buffer : List ℕ) → Reachable (hearOf r f buffer .told .next)
 

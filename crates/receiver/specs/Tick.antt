@@ -2,11 +2,12 @@
 use Prim.Native.Nat.{ℕ, _+_, _-_, min}
 use mathlib.Core.Bool.{Bool, _&&_}
 use lib.Dec.{leb}
+use Rattle.frame.specs.Result.{Result, accepted, refused}
 use Rattle.frame.specs.Choice.{pick}
 use Rattle.frame.specs.Count.{incrementOf}
 use Rattle.frame.specs.Frames.{lmAckOf}
 use Rattle.frame.specs.declared.Frame.{Frame}
-use Rattle.receiver.specs.Told.{Made, made, unmade, Told, inPhase, silently, emitting, failingWith}
+use Rattle.receiver.specs.Told.{Told, inPhase, silently, emitting, failingWith}
 use Rattle.receiver.specs.declared.Connection.{Connection}
 use Rattle.receiver.specs.declared.Phase.{Phase}
 use Rattle.receiver.specs.declared.Phase.the-variants.{Idle, Done, Open}
@@ -18,11 +19,11 @@ settingsFit timeout window capacity =
     (leb 1 timeout && leb timeout 10000) && ((leb 1 window && leb window 255) && (leb 9 capacity && leb capacity 1785))
 
 -- refusals: "making an end: 1 setting"
-unfoldable pub makeOf : ℕ → ℕ → ℕ → Made
+unfoldable pub makeOf : ℕ → ℕ → ℕ → Result Receiver
 makeOf timeout window capacity =
     pick (settingsFit timeout window capacity)
-    (made (record { settings = record { timeout = timeout; window = window; capacity = capacity }; phase = Idle }))
-    (unmade 1)
+    (accepted (record { settings = record { timeout = timeout; window = window; capacity = capacity }; phase = Idle }))
+    (refused 1)
 
 -- "w is the smaller of e + C − 1 and N"
 unfoldable pub windowOf : Receiver → ℕ → ℕ → ℕ

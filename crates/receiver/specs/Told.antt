@@ -2,6 +2,7 @@
 use Prim.Native.Nat.{ℕ}
 use mathlib.Core.Bool.{Bool, true, false}
 use mathlib.Core.List.{List, [], _∷_}
+use Rattle.frame.specs.Result as result
 use Rattle.frame.specs.Frames.{blankOf, lmNackOf}
 use Rattle.frame.specs.declared.Frame.{Frame}
 use Rattle.receiver.specs.declared.Answer as answer
@@ -13,15 +14,10 @@ use Rattle.receiver.specs.declared.Phase.{Phase}
 use Rattle.receiver.specs.declared.Phase.the-variants.{Idle}
 use Rattle.receiver.specs.declared.Receiver.{Receiver}
 
--- what making says: the end, or a refusal's number
-pub data Made : Type 0 where
-  made : Receiver → Made
-  unmade : ℕ → Made
-
 -- document 01's value for each case of making's answer
-abbrev pub toldMade : made-enum.Made → Made
-toldMade (made-variants.End r) = made r
-toldMade (made-variants.Refused number) = unmade number
+abbrev pub toldMade : made-enum.Made → result.Result Receiver
+toldMade (made-variants.End r) = result.accepted r
+toldMade (made-variants.Refused number) = result.refused number
 
 -- what a call reports: nothing; "A refusal returns its number, no frame and no report"; "delivered L"; "failed" with its
 -- cause; "a short delivery", whose eight bytes stand beside it

@@ -1,8 +1,6 @@
 // A hearing: by the length of the buffer, by the reading of the frame, by its kind.
 ghost use mathlib.Core.Path.{_≡_};
-ghost use Prim.Native.Nat.{ℕ};
 ghost use lib.ListN.{length};
-ghost use Rattle.frame.specs.Reading.{refused, toldReading};
 ghost use Rattle.receiver.specs.Hear.{hearNack, hearNumbered, hearKind, hearOf};
 ghost use Rattle.receiver.specs.Told.{told, heard};
 use crate::Answer;
@@ -16,10 +14,12 @@ use crate::answers::refuse;
 use crate::answers::stay_quiet;
 use crate::information::hear_information;
 use frame::Frame;
+use frame::Parsed;
 use frame::Reading;
 use frame::build::sm_ack;
 use frame::count::word;
 use frame::read::read;
+use frame::read::refusal;
 
 // The length of the buffer that a hearing is lent.
 const BUFFER: usize = 1785;
@@ -37,12 +37,12 @@ fn hear_nack(r: Receiver) -> Answer
 }
 
 // Number 0 announces, a number from 1 carries message bytes.
-fn hear_numbered(r: Receiver, f: Frame, buffer: &mut [u8]) -> Answer
+fn hear_numbered(r: Receiver, f: Frame, parsed: Parsed, buffer: &mut [u8]) -> Answer
     requires { ⌜ length (now buffer) ≡ 1785 ⌝ }
-    ensures { λ a. ⌜ heard (told a) (now (buffer .exit)) ≡ hearNumbered r f (now (buffer .entry)) ⌝ }
+    ensures { λ a. ⌜ heard (told a) (now (buffer .exit)) ≡ hearNumbered r f parsed (now (buffer .entry)) ⌝ }
 {
     let bytes = f.bytes;
-    let number = bytes[0];
+    let number = parsed.number;
     if number == 0 {
         hear_announcement(r, bytes[1], word(bytes[2], bytes[3]))
     } else {
@@ -51,12 +51,13 @@ fn hear_numbered(r: Receiver, f: Frame, buffer: &mut [u8]) -> Answer
 }
 
 // By the kind that was read; the kinds for the sender are refused 7.
-fn hear_kind(r: Receiver, f: Frame, kind: u8, buffer: &mut [u8]) -> Answer
+fn hear_kind(r: Receiver, f: Frame, parsed: Parsed, buffer: &mut [u8]) -> Answer
     requires { ⌜ length (now buffer) ≡ 1785 ⌝ }
-    ensures { λ a. ⌜ heard (told a) (now (buffer .exit)) ≡ hearKind r f (now (buffer .entry)) kind ⌝ }
+    ensures { λ a. ⌜ heard (told a) (now (buffer .exit)) ≡ hearKind r f parsed (now (buffer .entry)) ⌝ }
 {
+    let kind = parsed.kind;
     match kind {
-        1 => hear_numbered(r, f, buffer),
+        1 => hear_numbered(r, f, parsed, buffer),
         3 => hear_nack(r),
         5 => {
             let bytes = f.bytes;
@@ -70,16 +71,6 @@ fn hear_kind(r: Receiver, f: Frame, kind: u8, buffer: &mut [u8]) -> Answer
     }
 }
 
-// The number of a reading that was refused. Nobody asks for that of another.
-fn refusal(reading: Reading) -> u8
-    ensures { λ n. ⌜ ((number : ℕ) → toldReading reading ≡ refused number → n ≡ number) ⌝ }
-{
-    match reading {
-        Reading::Kind(_) => 0,
-        Reading::Refused(number) => number,
-    }
-}
-
 impl Receiver {
     // A frame is heard, with the buffer lent.
     pub fn hear(self, f: Frame, buffer: &mut [u8]) -> Answer
@@ -89,9 +80,9 @@ impl Receiver {
             return refuse(self, 5);
         }
         let reading = read(f);
-        let Reading::Kind(kind) = reading else {
+        let Reading::Read(parsed) = reading else {
             return refuse(self, refusal(reading));
         };
-        hear_kind(self, f, kind, buffer)
+        hear_kind(self, f, parsed, buffer)
     }
 }

@@ -1,20 +1,12 @@
 // Making a receiver.
 ghost use mathlib.Core.Path.{_≡_};
-ghost use mathlib.Core.Bool.{_&&_};
-ghost use lib.Dec.{leb};
 ghost use Rattle.receiver.specs.Tick.{settingsFit, makeOf};
 ghost use Rattle.receiver.specs.Told.{toldMade};
 use crate::Made;
 use crate::Phase;
 use crate::Receiver;
 use crate::Settings;
-
-// x is low to high.
-fn within(low: u16, x: u16, high: u16) -> bool
-    ensures { λ r. ⌜ r ≡ (leb low x && leb x high) ⌝ }
-{
-    (low <= x) & (x <= high)
-}
+use frame::count::within;
 
 // T is 1 to 10000, C is 1 to 255, K is 9 to 1785.
 fn settings_fit(timeout: u16, window: u16, capacity: u16) -> bool

@@ -13,19 +13,21 @@ use lib.Dec.{eqb, leb, ltb}
 use lib.ListN.{length, getD, take, drop, drop-of-length-le, List·getD-eq-default}
 use mir.Syntax.{w8}
 use mir.Val.{Fits}
+use Rattle.frame.specs.Result.{Result, accepted, refused, refusalOf}
 use Rattle.frame.specs.Choice.{pick}
 use Rattle.frame.specs.Count.{incrementOf, frameCountOf}
 use Rattle.frame.specs.Frames.{informationOf, byteOf, wordAt, announcementOf, smRmOf, smUrmOf}
 use Rattle.frame.specs.declared.Frame.{Frame}
 use Rattle.frame.specs.Reading.{toldReading, readOf}
+use Rattle.frame.specs.declared.Parsed.{Parsed}
 use Rattle.frame.specs.declared.Reading.{Reading}
-use Rattle.frame.specs.declared.Reading.the-variants.{Kind, Refused}
+use Rattle.frame.specs.declared.Reading.the-variants.{Read, Refused}
 use Rattle.sender.specs.Begin.{settingsFit, makeOf, begunWith, beginLong, beginShort, beginIdle, postOf}
 use Rattle.sender.specs.Hear.{taking, unlessBad, ackOpening, ackWindow, hearAck, hearNack, ifWhole, hearEnd, hearShortAck, hearKind, hearRead, hearOf}
-use Rattle.sender.specs.Parts.{openingAgain, sendingNext, waitingAgain, shortAgain, lentTo, ifFirst, refusalOf}
+use Rattle.sender.specs.Parts.{openingAgain, sendingNext, waitingAgain, shortAgain, lentTo, ifFirst}
 use Rattle.sender.specs.State.{aged, counted, inPhase}
 use Rattle.sender.specs.Tick.{informationAt, tickOpening, afterFrame, tickSending, tickWaiting, tickShort, tickPhase, tickOf}
-use Rattle.sender.specs.Told.{Made, made, unmade, Told, refusing, silently, emitting, failingWith, failing, sending}
+use Rattle.sender.specs.Told.{Told, refusing, silently, emitting, failingWith, failing, sending}
 use Rattle.sender.specs.declared.Announced.{Announced}
 use Rattle.sender.specs.declared.Awaited.{Awaited}
 use Rattle.sender.specs.declared.Phase.{Phase}
@@ -68,14 +70,14 @@ pub frames-fit : (n l : ℕ) → n ≡ frameCountOf l → l ≤ 1785 → Fits w8
 unfolding frameCountOf
 frames-fit n l count most = record { fits = omega arith }
 
-module _ (a : Made) (gap timeout limit : ℕ) (fit : Bool) (asked : fit ≡ settingsFit gap timeout limit) where
+module _ (a : Result Sender) (gap timeout limit : ℕ) (fit : Bool) (asked : fit ≡ settingsFit gap timeout limit) where
   pub makes : fit ≡ true
-      → a ≡ made (record { settings = record { gap = gap; timeout = timeout; limit = limit }; phase = Idle })
+      → a ≡ accepted (record { settings = record { gap = gap; timeout = timeout; limit = limit }; phase = Idle })
       → a ≡ makeOf gap timeout limit
   unfolding makeOf pick
   makes fits e = cc
 
-  pub makes-none : fit ≡ false → a ≡ unmade 1 → a ≡ makeOf gap timeout limit
+  pub makes-none : fit ≡ false → a ≡ refused 1 → a ≡ makeOf gap timeout limit
   unfolding makeOf pick
   makes-none unfit e = cc
 
@@ -378,9 +380,9 @@ module _ (a : Told) (s : Sender) (t : Transfer) where
 pub ruleset sent-paths = (whole, not-whole, first-byte, not-first)
 
 module _ (a : Told) (s : Sender) (f : Frame) (reading : Reading) (read : toldReading reading ≡ readOf f) where
-  pub hear-read : (kind : ℕ) → reading ≡ Kind kind → a ≡ hearKind s f kind → a ≡ hearOf s f
+  pub hear-read : (parsed : Parsed) → reading ≡ Read parsed → a ≡ hearKind s f parsed → a ≡ hearOf s f
   unfolding hearOf hearRead
-  hear-read kind is e = cc
+  hear-read parsed is e = cc
 
   pub hear-refused : (number n : ℕ) → reading ≡ Refused n → number ≡ refusalOf (toldReading reading) → a ≡ refusing s number → a ≡ hearOf s f
   unfolding hearOf hearRead
@@ -389,28 +391,28 @@ module _ (a : Told) (s : Sender) (f : Frame) (reading : Reading) (read : toldRea
 pub ruleset hear-paths = (hear-read, hear-refused)
 
 -- by the kind's number
-module _ (a : Told) (s : Sender) (f : Frame) (kind : ℕ) where
-  pub kind-ack : kind ≡ 2 → a ≡ hearAck s (s .phase) (byteOf f 0) (byteOf f 1) → a ≡ hearKind s f kind
+module _ (a : Told) (s : Sender) (f : Frame) (parsed : Parsed) where
+  pub kind-ack : parsed .kind ≡ 2 → a ≡ hearAck s (s .phase) (byteOf f 0) (byteOf f 1) → a ≡ hearKind s f parsed
   unfolding hearKind pick
   kind-ack is e = rw is e
 
-  pub kind-nack : kind ≡ 3 → a ≡ hearNack s (s .phase) → a ≡ hearKind s f kind
+  pub kind-nack : parsed .kind ≡ 3 → a ≡ hearNack s (s .phase) → a ≡ hearKind s f parsed
   unfolding hearKind pick
   kind-nack is e = rw is e
 
-  pub kind-end : (length : ℕ) → kind ≡ 4 → length ≡ wordAt f 1 2 → a ≡ hearEnd s (s .phase) (byteOf f 0) length → a ≡ hearKind s f kind
+  pub kind-end : (length : ℕ) → parsed .kind ≡ 4 → length ≡ wordAt f 1 2 → a ≡ hearEnd s (s .phase) (byteOf f 0) length → a ≡ hearKind s f parsed
   unfolding hearKind pick
   kind-end length is word e = rw (is, ← word) e
 
-  pub kind-short-ack : kind ≡ 6 → a ≡ hearShortAck s (s .phase) (byteOf f 0) → a ≡ hearKind s f kind
+  pub kind-short-ack : parsed .kind ≡ 6 → a ≡ hearShortAck s (s .phase) (byteOf f 0) → a ≡ hearKind s f parsed
   unfolding hearKind pick
   kind-short-ack is e = rw is e
 
-  pub kind-other : (kind ≡ 2 → ⊥) → (kind ≡ 3 → ⊥) → (kind ≡ 4 → ⊥) → (kind ≡ 6 → ⊥) → a ≡ refusing s 7 → a ≡ hearKind s f kind
+  pub kind-other : (parsed .kind ≡ 2 → ⊥) → (parsed .kind ≡ 3 → ⊥) → (parsed .kind ≡ 4 → ⊥) → (parsed .kind ≡ 6 → ⊥) → a ≡ refusing s 7 → a ≡ hearKind s f parsed
   unfolding hearKind pick
-  kind-other two three four six e = rw (ne-eqb kind 2 two, ne-eqb kind 3 three, ne-eqb kind 4 four, ne-eqb kind 6 six) e
+  kind-other two three four six e = rw (ne-eqb (parsed .kind) 2 two, ne-eqb (parsed .kind) 3 three, ne-eqb (parsed .kind) 4 four, ne-eqb (parsed .kind) 6 six) e
 
-  pub kind-five : kind ≡ 5 → a ≡ refusing s 7 → a ≡ hearKind s f kind
+  pub kind-five : parsed .kind ≡ 5 → a ≡ refusing s 7 → a ≡ hearKind s f parsed
   unfolding hearKind pick
   kind-five is e = rw is e
 

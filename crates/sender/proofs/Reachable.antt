@@ -10,16 +10,18 @@ use native.Mathlib.Omega.{arith}
 use borrow.Author.Tests.{leb-true, leb-false, ltb-false, eqb-true, eqb-false, le-leb, lt-leb}
 use lib.Dec.{eqb, leb}
 use lib.ListN.{length}
+use Rattle.frame.specs.Result.{Result, accepted, refused}
 use Rattle.frame.proofs.Choice.{pick-elim}
 use Rattle.frame.specs.Count.{frameCountOf, incrementOf}
-use Rattle.frame.specs.Reading.{Judgement, accepted, refused, readOf}
+use Rattle.frame.specs.Reading.{readOf}
+use Rattle.frame.specs.declared.Parsed.{Parsed}
 use Rattle.frame.specs.declared.Frame.{Frame}
 use Rattle.sender.specs.Begin.{settingsFit, makeOf, beginLong, beginShort, beginIdle, beginPhase, beginOf, postOf}
 use Rattle.sender.specs.Hear.{taking, unlessBad, ackOpening, ackWindow, hearAck, hearNack, ifWhole, hearEnd, hearShortAck, hearKind, hearRead, hearOf}
 use Rattle.sender.specs.Reachable.{Reachable, fresh, begun, ticked, heard, posted, SettingsWithin, TransferWithin, LongWithin, PhaseWithin, Within, Counts, OfTransfer, OfWait, OfGap, OfMisses, Exact}
 use Rattle.sender.specs.State.{aged, counted, inPhase}
 use Rattle.sender.specs.Tick.{tickOpening, afterFrame, tickSending, tickWaiting, tickShort, tickPhase, tickOf}
-use Rattle.sender.specs.Told.{made, Told}
+use Rattle.sender.specs.Told.{Told}
 use Rattle.sender.specs.declared.Announced.{Announced}
 use Rattle.sender.specs.declared.Awaited.{Awaited}
 use Rattle.sender.specs.declared.Phase.{Phase}
@@ -40,10 +42,10 @@ Keeps a = Within (a .next)
 
 -- ---- making
 
-makes : (gap timeout limit : ℕ) (s : Sender) → makeOf gap timeout limit ≡ made s → Within s
+makes : (gap timeout limit : ℕ) (s : Sender) → makeOf gap timeout limit ≡ accepted s → Within s
 unfolding makeOf
 makes gap timeout limit s =
-    pick-elim (λ m. m ≡ made s → Within s) (settingsFit gap timeout limit)
+    pick-elim (λ m. m ≡ accepted s → Within s) (settingsFit gap timeout limit)
     (λ fit e.
     let all = and-eq-true-iff _ _ .0 fit in
     let g = and-eq-true-iff _ _ .0 (all .0) in
@@ -247,7 +249,7 @@ module _ (s : Sender) (h : Within s) where
   short-acks (Waiting x) first = h
   short-acks (Short x) first = pick-elim Keeps _ (λ same. idles) (λ other. h)
 
-  hears : (f : Frame) (j : Judgement) → Keeps (hearRead s f j)
+  hears : (f : Frame) (j : Result Parsed) → Keeps (hearRead s f j)
   unfolding hearRead hearKind
   hears f (accepted kind) =
       pick-elim Keeps _ (λ ack. acks (s .phase) _ _ (h .phase))

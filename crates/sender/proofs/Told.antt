@@ -1,16 +1,18 @@
 -- What is told of an answer leaves nothing of it open: each case has its own values, so the answer comes back from them.
 -- Assumes nothing.
 use mathlib.Core.Path.{_≡_, refl, ap}
-use Rattle.sender.specs.Told.{Made, made, unmade, toldMade, Outcome, quiet, refused, sent, failed, toldOutcome, Told, told}
+use Rattle.frame.specs.Result as result
+use Rattle.sender.specs.Told.{toldMade, Outcome, quiet, refused, sent, failed, toldOutcome, Told, told}
 use Rattle.sender.specs.declared.Answer as answer
 use Rattle.sender.specs.declared.Made as made-enum
+use Rattle.sender.specs.declared.Sender.{Sender}
 use Rattle.sender.specs.declared.Made.the-variants as made-variants
 use Rattle.sender.specs.declared.Outcome as outcome-enum
 use Rattle.sender.specs.declared.Outcome.the-variants as outcome-variants
 
-abbrev pub untoldMade : Made → made-enum.Made
-untoldMade (made s) = made-variants.End s
-untoldMade (unmade number) = made-variants.Refused number
+abbrev pub untoldMade : result.Result Sender → made-enum.Made
+untoldMade (result.accepted s) = made-variants.End s
+untoldMade (result.refused number) = made-variants.Refused number
 
 pub made-injective : (m : made-enum.Made) → untoldMade (toldMade m) ≡ m
 made-injective (made-variants.End s) = refl

@@ -4,11 +4,12 @@ use mathlib.Core.Bool.{Bool, _&&_}
 use mathlib.Core.List.{List}
 use lib.Dec.{leb}
 use lib.ListN.{length, getD}
+use Rattle.frame.specs.Result.{Result, accepted, refused}
 use Rattle.frame.specs.Choice.{pick}
 use Rattle.frame.specs.Count.{frameCountOf}
 use Rattle.frame.specs.Frames.{announcementOf, smRmOf, smUrmOf}
 use Rattle.sender.specs.State.{inPhase}
-use Rattle.sender.specs.Told.{Made, made, unmade, Told, refusing, emitting}
+use Rattle.sender.specs.Told.{Told, refusing, emitting}
 use Rattle.sender.specs.declared.Phase.{Phase}
 use Rattle.sender.specs.declared.Phase.the-variants.{Idle, Opening, Sending, Waiting, Short}
 use Rattle.sender.specs.declared.Sender.{Sender}
@@ -20,11 +21,11 @@ settingsFit gap timeout limit =
     (leb 1 gap && leb gap 10) && ((leb 1 timeout && leb timeout 10000) && (leb 1 limit && leb limit 60000))
 
 -- refusals: "making an end: 1 setting"
-unfoldable pub makeOf : ℕ → ℕ → ℕ → Made
+unfoldable pub makeOf : ℕ → ℕ → ℕ → Result Sender
 makeOf gap timeout limit =
     pick (settingsFit gap timeout limit)
-    (made (record { settings = record { gap = gap; timeout = timeout; limit = limit }; phase = Idle }))
-    (unmade 1)
+    (accepted (record { settings = record { gap = gap; timeout = timeout; limit = limit }; phase = Idle }))
+    (refused 1)
 
 -- "age, wait and misses are 0"; the begin's own frame is counted: what a begin knows of a message
 abbrev pub begunWith : List ℕ → ℕ → Transfer

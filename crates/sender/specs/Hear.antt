@@ -4,7 +4,9 @@ use mathlib.Core.Bool.{_&&_, _||_}
 use lib.Dec.{eqb, ltb}
 use Rattle.frame.specs.Choice.{pick}
 use Rattle.frame.specs.Frames.{byteOf, wordAt}
-use Rattle.frame.specs.Reading.{Judgement, accepted, refused, readOf}
+use Rattle.frame.specs.Reading.{readOf}
+use Rattle.frame.specs.Result.{Result, accepted, refused}
+use Rattle.frame.specs.declared.Parsed.{Parsed}
 use Rattle.frame.specs.declared.Frame.{Frame}
 use Rattle.sender.specs.State.{inPhase}
 use Rattle.sender.specs.Told.{Told, refusing, silently, failingWith, failing, sending}
@@ -75,16 +77,16 @@ hearShortAck s (Waiting x) first = silently s
 hearShortAck s (Short x) first = pick (eqb first (x .transfer .first)) (sending s (x .transfer)) (silently s)
 
 -- by the kind that was read; refusals: "7 kind for the other end (sender takes 2, 3, 4, 6 ..)"
-unfoldable pub hearKind : Sender → Frame → ℕ → Told
-hearKind s f kind =
-    pick (eqb kind 2) (hearAck s (s .phase) (byteOf f 0) (byteOf f 1))
-    (pick (eqb kind 3) (hearNack s (s .phase))
-    (pick (eqb kind 4) (hearEnd s (s .phase) (byteOf f 0) (wordAt f 1 2))
-    (pick (eqb kind 6) (hearShortAck s (s .phase) (byteOf f 0)) (refusing s 7))))
+unfoldable pub hearKind : Sender → Frame → Parsed → Told
+hearKind s f parsed =
+    pick (eqb (parsed .kind) 2) (hearAck s (s .phase) (byteOf f 0) (byteOf f 1))
+    (pick (eqb (parsed .kind) 3) (hearNack s (s .phase))
+    (pick (eqb (parsed .kind) 4) (hearEnd s (s .phase) (byteOf f 0) (wordAt f 1 2))
+    (pick (eqb (parsed .kind) 6) (hearShortAck s (s .phase) (byteOf f 0)) (refusing s 7))))
 
 -- refusals: 6 goes before 7
-unfoldable pub hearRead : Sender → Frame → Judgement → Told
-hearRead s f (accepted kind) = hearKind s f kind
+unfoldable pub hearRead : Sender → Frame → Result Parsed → Told
+hearRead s f (accepted parsed) = hearKind s f parsed
 hearRead s f (refused number) = refusing s number
 
 unfoldable pub hearOf : Sender → Frame → Told

@@ -6,7 +6,6 @@ use lib.Dec.{eqb}
 use lib.ListN.{length}
 use Rattle.frame.specs.Choice.{pick}
 use Rattle.frame.specs.Frames.{announcementOf, smRmOf}
-use Rattle.frame.specs.Reading.{Judgement, accepted, refused}
 use Rattle.sender.specs.State.{counted, inPhase}
 use Rattle.sender.specs.Tick.{informationAt, afterFrame}
 use Rattle.sender.specs.Told.{Told, silently, emitting, sending}
@@ -49,8 +48,3 @@ lentTo (Short x) message = eqb (length message) (x .transfer .length)
 -- "with the message's first byte: sent"
 unfoldable pub ifFirst : Sender → Transfer → ℕ → Told
 ifFirst s t first = pick (eqb first (t .first)) (sending s t) (silently s)
-
--- the number of a reading that was refused
-abbrev pub refusalOf : Judgement → ℕ
-refusalOf (accepted kind) = 0
-refusalOf (refused number) = number

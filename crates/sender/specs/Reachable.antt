@@ -4,12 +4,12 @@ use Prim.Native.Nat.{ℕ, _+_, _≤_, _<_}
 use mathlib.Core.Path.{_≡_}
 use mathlib.Core.List.{List}
 use lib.Dec.{eqb, leb}
+use Rattle.frame.specs.Result.{accepted}
 use Rattle.frame.specs.Count.{frameCountOf, incrementOf}
 use Rattle.frame.specs.declared.Frame.{Frame}
 use Rattle.sender.specs.Begin.{makeOf, beginOf, postOf}
 use Rattle.sender.specs.Hear.{hearOf}
 use Rattle.sender.specs.Tick.{tickOf}
-use Rattle.sender.specs.Told.{made}
 use Rattle.sender.specs.declared.Phase.{Phase}
 use Rattle.sender.specs.declared.Phase.the-variants.{Idle, Opening, Sending, Waiting, Short}
 use Rattle.sender.specs.declared.Sender.{Sender}
@@ -18,7 +18,7 @@ use Rattle.sender.specs.declared.Transfer.{Transfer}
 
 -- a sender that making answered, and the next state of every call on a reachable one, whatever is lent or heard
 pub data Reachable : Sender → Type 0 where
-  fresh : {s : Sender} (gap timeout limit : ℕ) → makeOf gap timeout limit ≡ made s → Reachable s
+  fresh : {s : Sender} (gap timeout limit : ℕ) → makeOf gap timeout limit ≡ accepted s → Reachable s
   begun : {s : Sender} (message : List ℕ) → Reachable s → Reachable (beginOf s message .next)
   ticked : {s : Sender} (message : List ℕ) → Reachable s → Reachable (tickOf s message .next)
   heard : {s : Sender} (f : Frame) → Reachable s → Reachable (hearOf s f .next)

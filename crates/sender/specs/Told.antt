@@ -1,6 +1,7 @@
 -- What the sender's calls answer, in document 01's words and numbers.
 use Prim.Native.Nat.{ℕ}
 use mathlib.Core.Bool.{Bool, true, false}
+use Rattle.frame.specs.Result as result
 use Rattle.frame.specs.Frames.{blankOf, lmNackOf}
 use Rattle.frame.specs.declared.Frame.{Frame}
 use Rattle.sender.specs.State.{counted, inPhase}
@@ -13,15 +14,10 @@ use Rattle.sender.specs.declared.Phase.the-variants.{Idle}
 use Rattle.sender.specs.declared.Sender.{Sender}
 use Rattle.sender.specs.declared.Transfer.{Transfer}
 
--- what making says: the end, or a refusal's number
-pub data Made : Type 0 where
-  made : Sender → Made
-  unmade : ℕ → Made
-
 -- document 01's value for each case of making's answer
-abbrev pub toldMade : made-enum.Made → Made
-toldMade (made-variants.End s) = made s
-toldMade (made-variants.Refused number) = unmade number
+abbrev pub toldMade : made-enum.Made → result.Result Sender
+toldMade (made-variants.End s) = result.accepted s
+toldMade (made-variants.Refused number) = result.refused number
 
 -- what a call reports: nothing; "A refusal returns its number, no frame and no report"; "sent", "failed" with its cause,
 -- each with "the ticks and the frames emitted since begin"

@@ -27,12 +27,7 @@ use frame::build::announcement;
 use frame::build::sm_rm;
 use frame::build::sm_urm;
 use frame::count::frame_count;
-
-fn within(low: u16, x: u16, high: u16) -> bool
-    ensures { λ r. ⌜ r ≡ (leb low x && leb x high) ⌝ }
-{
-    low <= x && x <= high
-}
+use frame::count::within;
 
 fn settings_fit(gap: u16, timeout: u16, limit: u16) -> bool
     ensures { λ r. ⌜ r ≡ settingsFit gap timeout limit ⌝ }

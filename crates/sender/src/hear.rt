@@ -15,8 +15,7 @@ ghost use Rattle.sender.specs.Hear.{
   hearKind,
   hearOf,
 };
-ghost use Rattle.sender.specs.Parts.{ifFirst, refusalOf};
-ghost use Rattle.frame.specs.Reading.{toldReading};
+ghost use Rattle.sender.specs.Parts.{ifFirst};
 ghost use Rattle.sender.specs.Told.{told};
 use crate::Answer;
 use crate::Phase;
@@ -24,9 +23,11 @@ use crate::Sender;
 use crate::Streamed;
 use crate::Transfer;
 use frame::Frame;
+use frame::Parsed;
 use frame::Reading;
 use frame::count::word;
 use frame::read::read;
+use frame::read::refusal;
 
 // The window's last number: the smaller of start + count − 1 and N.
 fn window_last(start: u8, count: u8, frames: u8) -> u8
@@ -55,16 +56,6 @@ fn is_whole(transfer: Transfer, frames: u8, length: u16) -> bool
     ensures { λ r. ⌜ r ≡ (eqb frames (transfer .frames) && eqb length (transfer .length)) ⌝ }
 {
     frames == transfer.frames && length == transfer.length
-}
-
-// The number of a reading that was refused.
-fn refusal(reading: Reading) -> u8
-    ensures { λ r. ⌜ r ≡ refusalOf (toldReading reading) ⌝ }
-{
-    match reading {
-        Reading::Kind(_) => 0,
-        Reading::Refused(number) => number,
-    }
 }
 
 impl Sender {
@@ -191,9 +182,10 @@ impl Sender {
     }
 
     // A frame that was read, by its kind. Refused 7 where the kind is for the other end.
-    fn hear_kind(self, f: Frame, kind: u8) -> Answer
-        ensures { λ r. ⌜ told r ≡ hearKind self f kind ⌝ }
+    fn hear_kind(self, f: Frame, parsed: Parsed) -> Answer
+        ensures { λ r. ⌜ told r ≡ hearKind self f parsed ⌝ }
     {
+        let kind = parsed.kind;
         let phase = self.phase;
         let bytes = f.bytes;
         match kind {
@@ -213,9 +205,9 @@ impl Sender {
         ensures { λ r. ⌜ told r ≡ hearOf self f ⌝ }
     {
         let reading = read(f);
-        let Reading::Kind(kind) = reading else {
+        let Reading::Read(parsed) = reading else {
             return self.refusing(refusal(reading));
         };
-        self.hear_kind(f, kind)
+        self.hear_kind(f, parsed)
     }
 }

@@ -8,7 +8,8 @@ use lib.ListN.{length}
 use Rattle.frame.proofs.Choice.{pick-elim, read-elim}
 use Rattle.frame.proofs.Laws.{length-fill}
 use Rattle.frame.specs.Frames.{blankOf, announcementOf, informationOf, lmAckOf, lmNackOf, endOfAckOf, smRmOf, smAckOf}
-use Rattle.frame.specs.Reading.{Judgement}
+use Rattle.frame.specs.Result.{Result}
+use Rattle.frame.specs.declared.Parsed.{Parsed}
 use Rattle.frame.specs.declared.Frame.{Frame}
 use Rattle.receiver.proofs.View.{Ticks, rests, waits, retries, expires, tick-does, nacks, opens, again, ignored, skips, ended, above, delivers, asks, goes-on, Hears, refuses, announced, informed, closes, unmoved, short, short-only, hear-does}
 use Rattle.receiver.specs.Hear as hearing
@@ -113,7 +114,7 @@ short-ack-eight s (Short x) first = pick-elim Eight _ (λ _. refl) (λ _. refl)
 pub hear-eight : (s : Sender) (f : Frame) → Eight (hearOf s f)
 unfolding hearOf hearRead hearKind blankOf
 hear-eight s f =
-    read-elim (λ (j : Judgement). Eight (hearRead s f j)) f
+    read-elim (λ (j : Result Parsed). Eight (hearRead s f j)) f
     (pick-elim Eight _ (λ _. ack-eight s (s .phase) _ _)
     (λ _. pick-elim Eight _ (λ _. nack-eight s (s .phase))
     (λ _. pick-elim Eight _ (λ _. end-eight s (s .phase) _ _)

@@ -3,6 +3,7 @@
 use Prim.Native.Nat.{ℕ}
 use mathlib.Core.List.{List}
 use mathlib.Core.Path.{_≡_, refl, sym, ap, _∙_}
+use Rattle.frame.specs.Result.{Result, accepted, refused}
 use Rattle.line.specs.Ring.{framesFrom, framesIn, emptyOf}
 use Rattle.line.specs.declared.Ring.{Ring}
 use Rattle.receiver.specs.Tick as receiver-making
@@ -36,26 +37,26 @@ module _ (m : List ℕ) (s : Sender) (r : Receiver) (a : Answer) where
       → sender.told a ≡ beginOf s m
       → a .outcome ≡ o
       → x ≡ madeBegin (sender.toldOutcome o) s r
-      → x ≡ madeEnds m (sender.made s) (receiver.made r)
+      → x ≡ madeEnds m (accepted s) (accepted r)
   unfolding madeEnds
   outcome-starts o x told same h =
       h
       ∙ ap (λ (y : sender.Outcome). madeBegin y s r) (ap sender.toldOutcome (sym same) ∙ ap (λ (t : sender.Told). t .outcome) told)
 
   pub starts-quiet : (x : Made) → sender.told a ≡ beginOf s m → a .outcome ≡ Quiet → x ≡ madeBegin sender.quiet s r
-      → x ≡ madeEnds m (sender.made s) (receiver.made r)
+      → x ≡ madeEnds m (accepted s) (accepted r)
   starts-quiet = outcome-starts Quiet
 
   pub starts-refused : (number : ℕ) → sender.told a ≡ beginOf s m → a .outcome ≡ outcome-variants.Refused number
-      → unmade number ≡ madeEnds m (sender.made s) (receiver.made r)
+      → unmade number ≡ madeEnds m (accepted s) (accepted r)
   starts-refused number told same = outcome-starts (outcome-variants.Refused number) (unmade number) told same refl
 
   pub starts-sent : (x : Made) (ticks frames : ℕ) → sender.told a ≡ beginOf s m → a .outcome ≡ Sent ticks frames → x ≡ madeBegin sender.quiet s r
-      → x ≡ madeEnds m (sender.made s) (receiver.made r)
+      → x ≡ madeEnds m (accepted s) (accepted r)
   starts-sent x ticks frames = outcome-starts (Sent ticks frames) x
 
   pub starts-failed : (x : Made) (cause ticks frames : ℕ) → sender.told a ≡ beginOf s m → a .outcome ≡ Failed cause ticks frames → x ≡ madeBegin sender.quiet s r
-      → x ≡ madeEnds m (sender.made s) (receiver.made r)
+      → x ≡ madeEnds m (accepted s) (accepted r)
   starts-failed x cause ticks frames = outcome-starts (Failed cause ticks frames) x
 
 pub ruleset starts = (starts-quiet, starts-refused, starts-sent, starts-failed)
@@ -80,7 +81,7 @@ module _ (gap timeout limit patience window capacity : ℕ) (m : List ℕ) (made
     made-no-receiver s number k n = made-starts (unmade number) (rw (k, n) refl)
 
     pub made-both : (x : Made) (s : Sender) (r : Receiver) → made ≡ sender-made.End s → answered ≡ receiver-made.End r
-        → x ≡ madeEnds m (sender.made s) (receiver.made r)
+        → x ≡ madeEnds m (accepted s) (accepted r)
         → x ≡ makeOf gap timeout limit patience window capacity m
     made-both x s r k n h = made-starts x (rw (k, n) h)
 
@@ -99,11 +100,11 @@ begin-starts (sender.refused n) s r = tt
 begin-starts (sender.sent ticks frames) s r = λ forward back buffer. refl
 begin-starts (sender.failed cause ticks frames) s r = λ forward back buffer. refl
 
-ends-start : (m : List ℕ) (x : sender.Made) (y : receiver.Made) → AtStart (madeEnds m x y)
+ends-start : (m : List ℕ) (x : Result Sender) (y : Result Receiver) → AtStart (madeEnds m x y)
 unfolding madeEnds
-ends-start m (sender.unmade n) y = tt
-ends-start m (sender.made s) (receiver.unmade n) = tt
-ends-start m (sender.made s) (receiver.made r) = begin-starts (beginOf s m .outcome) s r
+ends-start m (refused n) y = tt
+ends-start m (accepted s) (refused n) = tt
+ends-start m (accepted s) (accepted r) = begin-starts (beginOf s m .outcome) s r
 
 pub make-starts : (gap timeout limit patience window capacity : ℕ) (m : List ℕ) → AtStart (makeOf gap timeout limit patience window capacity m)
 unfolding makeOf

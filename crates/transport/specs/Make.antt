@@ -1,6 +1,7 @@
 -- The start: two ends just made at an empty line, for a message that begin takes.
 use Prim.Native.Nat.{ℕ}
 use mathlib.Core.List.{List}
+use Rattle.frame.specs.Result.{Result, accepted, refused}
 use Rattle.line.specs.Ring.{emptyOf}
 use Rattle.receiver.specs.Tick as receiver-making
 use Rattle.receiver.specs.Told as receiver
@@ -33,10 +34,10 @@ madeBegin (sender.sent ticks frames) s r = made (endsOf s r)
 madeBegin (sender.failed cause ticks frames) s r = made (endsOf s r)
 
 -- "settings outside their limits are 1": what making the ends says
-unfoldable pub madeEnds : List ℕ → sender.Made → receiver.Made → Made
-madeEnds message (sender.unmade number) r = unmade number
-madeEnds message (sender.made s) (receiver.unmade number) = unmade number
-madeEnds message (sender.made s) (receiver.made r) = madeBegin (sender-making.beginOf s message .outcome) s r
+unfoldable pub madeEnds : List ℕ → Result Sender → Result Receiver → Made
+madeEnds message (refused number) r = unmade number
+madeEnds message (accepted s) (refused number) = unmade number
+madeEnds message (accepted s) (accepted r) = madeBegin (sender-making.beginOf s message .outcome) s r
 
 -- "settings (G byte, sender T, M, receiver T words, C byte, K word)"; "after that settings outside their limits are 1, a
 -- message of bad length 2"

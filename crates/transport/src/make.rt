@@ -1,6 +1,6 @@
 // Making both ends, for a message that begin takes.
 ghost use mathlib.Core.Path.{_≡_};
-ghost use Rattle.receiver.specs.Told as receiver-told;
+ghost use Rattle.frame.specs.Result.{accepted};
 ghost use Rattle.sender.specs.Told as sender-told;
 ghost use Rattle.transport.specs.Make.{toldMade, madeBegin, madeEnds, makeOf};
 use crate::Ends;
@@ -25,7 +25,7 @@ fn ready(s: Sender, r: Receiver) -> Made
 
 // The begin is tried on the ends that were made.
 fn try_begin(message: &[u8], s: Sender, r: Receiver) -> Made
-    ensures { λ m. ⌜ toldMade m ≡ madeEnds (now (message .entry)) (sender-told.made s) (receiver-told.made r) ⌝ }
+    ensures { λ m. ⌜ toldMade m ≡ madeEnds (now (message .entry)) (accepted s) (accepted r) ⌝ }
 {
     let begun = s.begin(message);
     let outcome = begun.outcome;

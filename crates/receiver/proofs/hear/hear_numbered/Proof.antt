@@ -5,9 +5,6 @@ use Rattle.receiver.proofs.Laws.{hears}
 use Rattle.receiver.proofs.hear.hear_numbered.Statement.{statement}
 use Rattle.receiver.proofs.hear.hear_numbered.Tie as tie
 
-array-read-number : tie.Need-array-read-number
-array-read-number c = search needs
-
 array-read-hear-announcement : tie.Need-array-read-hear-announcement
 array-read-hear-announcement c = search needs
 
@@ -39,7 +36,6 @@ pub hear-numbered-spec : {M : Type 1} → statement M
 hear-numbered-spec =
     tie.close
     (tie.spec
-    array-read-number
     array-read-hear-announcement
     array-read-word
     array-read-word-2
