@@ -86,9 +86,9 @@ HadReport (Begun.since message ticks reports deliveries) = reports ≡ 1
 abbrev pub AgainAfter : Sort → Bool → Begun → Type 0
 AgainAfter (begins message) true b = HadReport b
 AgainAfter (begins message) false b = Unit
-AgainAfter ticksSender accepted b = Unit
-AgainAfter ticksReceiver accepted b = Unit
-AgainAfter other accepted b = Unit
+AgainAfter ticksSender any b = Unit
+AgainAfter ticksReceiver any b = Unit
+AgainAfter other any b = Unit
 
 -- the last connection has at most one report, and exactly one once 3 × T × N ticks have passed
 abbrev pub Finished : ℕ → Opened → Type 0
