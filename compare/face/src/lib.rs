@@ -10,6 +10,7 @@ pub mod empty;
 pub mod ends;
 pub mod forged;
 pub mod frames;
+mod groups;
 pub mod interface;
 pub mod lists;
 pub mod session;
