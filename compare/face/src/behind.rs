@@ -4,7 +4,6 @@
 
 use std::slice::{from_raw_parts, from_raw_parts_mut};
 
-use crate::boundary::boundary;
 use crate::interface::{Around, Ends};
 use crate::values::*;
 use crate::Reference;
@@ -12,6 +11,26 @@ use crate::Reference;
 /// The reference behind the same boundary as the proved code.
 #[derive(Clone, Copy, Debug)]
 pub struct Behind;
+
+/// Functions that are called as C calls them, through a pointer that is read from memory at each call, as the proved code is
+/// (its addresses stand in the table that the linker makes). So the compiler inlines none of them, leaves their parameters
+/// and results as they are declared, and knows nothing of what they do.
+macro_rules! boundary {
+    ($(
+        fn $name:ident($($given:ident: $kind:ty),* $(,)?) -> $answer:ty $body:block
+    )*) => {
+        $(
+            #[inline(always)]
+            fn $name($($given: $kind),*) -> $answer {
+                extern "C" fn called($($given: $kind),*) -> $answer $body
+                static CALLED: extern "C" fn($($kind),*) -> $answer = called;
+                // Sound: a static that is never written.
+                let call = unsafe { std::ptr::read_volatile(&raw const CALLED) };
+                call($($given),*)
+            }
+        )*
+    };
+}
 
 boundary! {
     fn sender_make(gap: u16, timeout: u16, limit: u16) -> SenderMade {

@@ -2,11 +2,9 @@
 
 pub mod around;
 pub mod behind;
-mod boundary;
 pub mod broken;
 pub mod call;
 pub mod differences;
-pub mod empty;
 pub mod ends;
 pub mod forged;
 pub mod frames;
