@@ -1,6 +1,6 @@
 //! Measures the proved code beside the reference, same inputs, same run, by turns: calls through the C face, beside the
-//! reference behind the same boundary and beside the reference's own functions, and the player beside the reference's.
-//! Prints tables; `docs/PERFORMANCE.md` explains them.
+//! reference behind the same boundary and beside the reference's own functions, and the player beside the reference's and
+//! another build's. Prints tables; `docs/PERFORMANCE.md` explains them.
 //! Exit status: 0 measured, 2 bad usage or a program that is missing.
 
 mod around;
@@ -9,36 +9,45 @@ mod ends;
 mod measure;
 mod player;
 
-use std::path::PathBuf;
+use std::path::{Path, PathBuf};
 use std::process::ExitCode;
 
 use measure::Row;
 
-const USAGE: &str = "usage: benchmark [--rounds N] [--before PLAYER] | --calls N
-    --rounds N        how often each is measured (default 21)
-    --before PLAYER   another build of the player, measured by turns with this one
-    --calls N         times nothing and makes each call N times, for tools/instructions";
+const USAGE: &str = "usage: benchmark [--rounds N] [--before CHECKOUT] | --calls N | --packs FOLDER
+    --rounds N          how often each is measured (default 21)
+    --before CHECKOUT   measures the player that was built there, too, by turns with this one
+for tools/instructions, and without timing:
+    --calls N           makes each call N times
+    --packs FOLDER      writes the player's packs of 60000 events there";
 
-#[derive(Default)]
-struct Options {
-    rounds: Option<usize>,
-    before: Option<PathBuf>,
-    calls: Option<u64>,
+enum Task {
+    Measure(usize, Option<PathBuf>),
+    Count(u64),
+    Write(PathBuf),
 }
 
-fn options(mut words: impl Iterator<Item = String>) -> Option<Options> {
-    let mut options = Options::default();
-    while let Some(name) = words.next() {
-        let value = words.next()?;
-        match name.as_str() {
-            "--rounds" => options.rounds = Some(value.parse().ok().filter(|&rounds| rounds > 0)?),
-            "--before" => options.before = Some(value.into()),
-            "--calls" => options.calls = Some(value.parse().ok().filter(|&calls| calls > 0)?),
+fn task(words: impl Iterator<Item = String>) -> Option<Task> {
+    let words: Vec<String> = words.collect();
+    let words: Vec<&str> = words.iter().map(String::as_str).collect();
+    match words[..] {
+        ["--calls", count] => return Some(Task::Count(positive(count)? as u64)),
+        ["--packs", folder] => return Some(Task::Write(folder.into())),
+        _ => (),
+    }
+    let (mut rounds, mut before) = (21, None);
+    for pair in words.chunks(2) {
+        match pair {
+            ["--rounds", count] => rounds = positive(count)?,
+            ["--before", checkout] => before = Some(PathBuf::from(checkout)),
             _ => return None,
         }
     }
-    let timed = options.rounds.is_some() || options.before.is_some();
-    (options.calls.is_none() || !timed).then_some(options)
+    Some(Task::Measure(rounds, before))
+}
+
+fn positive(word: &str) -> Option<usize> {
+    word.parse().ok().filter(|&number| number > 0)
 }
 
 /// Every table of calls, by its title.
@@ -51,7 +60,7 @@ fn tables() -> [(&'static str, Vec<Row>); 4] {
     ]
 }
 
-fn measure(rounds: usize, before: Option<PathBuf>) -> Result<(), String> {
+fn measure(rounds: usize, before: Option<&Path>) -> Result<(), String> {
     let programs = player::programs(before)?;
     for (title, rows) in tables() {
         measure::print_table(title, rows, rounds);
@@ -66,15 +75,20 @@ fn count(calls: u64) {
 }
 
 fn main() -> ExitCode {
-    let Some(options) = options(std::env::args().skip(1)) else {
-        eprintln!("{USAGE}");
-        return ExitCode::from(2);
+    let done = match task(std::env::args().skip(1)) {
+        Some(Task::Measure(rounds, before)) => measure(rounds, before.as_deref()),
+        Some(Task::Count(calls)) => {
+            count(calls);
+            Ok(())
+        }
+        Some(Task::Write(folder)) => player::write_packs(&folder),
+        None => Err(USAGE.to_string()),
     };
-    if let Some(calls) = options.calls {
-        count(calls);
-    } else if let Err(problem) = measure(options.rounds.unwrap_or(21), options.before) {
-        eprintln!("benchmark: {problem}");
-        return ExitCode::from(2);
+    match done {
+        Ok(()) => ExitCode::SUCCESS,
+        Err(problem) => {
+            eprintln!("{problem}");
+            ExitCode::from(2)
+        }
     }
-    ExitCode::SUCCESS
 }

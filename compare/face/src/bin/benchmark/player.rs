@@ -87,21 +87,22 @@ fn transfer(count: usize, frame: &[u8]) -> Vec<u8> {
     std::iter::once(3).chain(frames).take(count).collect()
 }
 
-/// The player, the reference's, and the other build of the player where one is given.
-pub fn programs(before: Option<PathBuf>) -> Result<Vec<PathBuf>, String> {
-    let built = [
-        ("target/bin/play", "run `rt check play`"),
-        (
-            "compare/target/release/reference_player",
-            "run `cargo build --release` in compare/",
-        ),
-    ];
-    let built = built.map(|(place, how)| (Path::new(REPOSITORY).join(place), how));
-    let given = before.map(|player| (player, "it was given as --before"));
-    let programs = built.into_iter().chain(given);
-    let found = programs.map(|(program, how)| match program.is_file() {
-        true => Ok(program),
-        false => Err(format!("{} is missing: {how}", program.display())),
+/// The player, the reference's, and that of another checkout where one is given.
+pub fn programs(before: Option<&Path>) -> Result<Vec<PathBuf>, String> {
+    let here = Path::new(REPOSITORY);
+    let play = ("target/bin/play", "run `rt check play`");
+    let reference = (
+        "compare/target/release/reference_player",
+        "run `cargo build --release` in compare/",
+    );
+    let mut wanted = vec![(here, play), (here, reference)];
+    wanted.extend(before.map(|checkout| (checkout, play)));
+    let found = wanted.into_iter().map(|(checkout, (place, how))| {
+        let program = checkout.join(place);
+        match program.is_file() {
+            true => Ok(program),
+            false => Err(format!("{} is missing: {how}", program.display())),
+        }
     });
     found.collect()
 }
@@ -208,17 +209,35 @@ fn print_head(rounds: usize, before: bool) {
     println!("|---|---:|---:|---:|---:|---:|---:|---:|---:|---:|{rule}");
 }
 
+/// The pack with so many events, and the one without.
+fn packs(Sort(_, events): &Sort, count: usize) -> [Vec<u8>; 2] {
+    let (settings, events) = events(count);
+    [&events[..], &[]].map(|events| build(&settings, &pool()[..1785], events))
+}
+
 pub fn print_table(programs: &[PathBuf], rounds: usize) -> Result<(), String> {
     print_head(rounds, programs.len() > 2);
-    for Sort(name, events) in &SORTS {
+    for sort in &SORTS {
         for count in COUNTS {
-            let (settings, events) = events(count);
-            let bytes = build(&settings, &pool()[..1785], &events);
+            let [bytes, without] = packs(sort, count);
             let lines = play(&bytes).lines().count();
             let pack = Kept::new("events", &bytes)?;
-            let empty = Kept::new("empty", &build(&settings, &pool()[..1785], &[]))?;
+            let empty = Kept::new("empty", &without)?;
             let times = measure(programs, &pack, &empty, count, rounds)?;
-            print_row(name, count, lines, &times);
+            print_row(sort.0, count, lines, &times);
+        }
+    }
+    Ok(())
+}
+
+/// For each sort its pack of 60000 events, by its name, and beside it the one without events.
+pub fn write_packs(folder: &Path) -> Result<(), String> {
+    for (place, sort) in SORTS.iter().enumerate() {
+        let [bytes, without] = packs(sort, 60000);
+        let name = |ending: &str| folder.join(format!("{place} {}.{ending}", sort.0));
+        for (path, pack) in [(name("pack"), bytes), (name("empty"), without)] {
+            std::fs::write(&path, pack)
+                .map_err(|problem| format!("{}: {problem}", path.display()))?;
         }
     }
     Ok(())
