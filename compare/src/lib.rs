@@ -4,4 +4,3 @@
 pub mod packs;
 pub mod reference;
 pub mod sessions;
-pub mod vectors;

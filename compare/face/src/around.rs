@@ -8,8 +8,8 @@ use compare::reference::groups::row_of;
 use compare::reference::identifier::{self, Parts, EVCC, SECC};
 use compare::reference::version::{self, Message, Outcome, Side, State, Talker, Version};
 use compare::reference::{refusal, Refused};
-use compare::vectors::{number, raw, version_message, versions, write};
 
+use crate::groups::{raw, write};
 use crate::interface::Around;
 use crate::lists::{standing, version_at};
 use crate::values::*;
@@ -73,11 +73,11 @@ impl Around for Reference {
     }
 
     fn charger_version(&self) -> u32 {
-        version_message((0x38, EVCC, SECC))
+        version_message(0x38, EVCC, SECC)
     }
 
     fn vehicle_version(&self) -> u32 {
-        version_message((0x36, SECC, EVCC))
+        version_message(0x36, SECC, EVCC)
     }
 
     fn version_list(&self, bytes: &[u8]) -> FlatListing {
@@ -200,6 +200,20 @@ fn told<T: Default>(answer: Result<T, Refused>) -> (u8, u8, T) {
     }
 }
 
+/// The identifier of a version message, tables 4 and 5.
+fn version_message(pf: u32, ps: u8, sa: u8) -> u32 {
+    let (ps, sa) = (ps.into(), sa.into());
+    let parts = Parts {
+        p: 3,
+        edp: 0,
+        dp: 0,
+        pf,
+        ps,
+        sa,
+    };
+    identifier::build(parts).expect("the parts of table 4 or 5")
+}
+
 fn flat_parts(parts: Parts) -> FlatParts {
     FlatParts {
         p: parts.p,
@@ -223,6 +237,21 @@ fn flat_row(row: compare::reference::groups::Row) -> FlatRow {
         third,
         fourth,
     }
+}
+
+/// The list in lent bytes; bytes that are no whole number of versions are no list.
+pub fn versions(lent: &[u8]) -> Result<Vec<Version>, Refused> {
+    let (whole, left) = lent.as_chunks::<3>();
+    version::check_list(whole)?;
+    if left.is_empty() {
+        Ok(whole.to_vec())
+    } else {
+        Err(refusal::VERSIONS)
+    }
+}
+
+fn number([main, minor, temporary]: Version) -> u32 {
+    u32::from_be_bytes([0, main, minor, temporary])
 }
 
 /// Main, minor and temporary number, the lowest three bytes.

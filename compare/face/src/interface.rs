@@ -47,3 +47,163 @@ pub trait Around {
 pub trait Face: Ends + Around {}
 
 impl<T: Ends + Around> Face for T {}
+
+/// A face over functions in C's manner, which the module has under the names of `include/kospelna.h`: a lent slice goes as a
+/// pointer and a length. Sound where the functions take every value, read lent bytes only within their length, write only to
+/// bytes lent for writing, and keep nothing. The methods are inlined where they are called.
+macro_rules! through {
+    ($face:ident, $module:ident) => {
+        impl Ends for $face {
+            #[inline]
+            fn sender_make(&self, gap: u16, timeout: u16, limit: u16) -> SenderMade {
+                unsafe { $module::kospelna_sender_make(gap, timeout, limit) }
+            }
+
+            #[inline]
+            fn sender_begin(&self, sender: FlatSender, message: &[u8]) -> SenderAnswer {
+                unsafe { $module::kospelna_sender_begin(sender, message.as_ptr(), message.len()) }
+            }
+
+            #[inline]
+            fn sender_post(&self, sender: FlatSender, message: &[u8]) -> SenderAnswer {
+                unsafe { $module::kospelna_sender_post(sender, message.as_ptr(), message.len()) }
+            }
+
+            #[inline]
+            fn sender_tick(&self, sender: FlatSender, message: &[u8]) -> SenderAnswer {
+                unsafe { $module::kospelna_sender_tick(sender, message.as_ptr(), message.len()) }
+            }
+
+            #[inline]
+            fn sender_hear(&self, sender: FlatSender, frame: FlatFrame) -> SenderAnswer {
+                unsafe { $module::kospelna_sender_hear(sender, frame) }
+            }
+
+            #[inline]
+            fn receiver_make(&self, timeout: u16, window: u16, capacity: u16) -> ReceiverMade {
+                unsafe { $module::kospelna_receiver_make(timeout, window, capacity) }
+            }
+
+            #[inline]
+            fn receiver_tick(&self, receiver: FlatReceiver) -> ReceiverAnswer {
+                unsafe { $module::kospelna_receiver_tick(receiver) }
+            }
+
+            #[inline]
+            fn receiver_hear(
+                &self,
+                receiver: FlatReceiver,
+                frame: FlatFrame,
+                buffer: &mut [u8],
+            ) -> ReceiverAnswer {
+                unsafe {
+                    $module::kospelna_receiver_hear(
+                        receiver,
+                        frame,
+                        buffer.as_mut_ptr(),
+                        buffer.len(),
+                    )
+                }
+            }
+        }
+
+        impl Around for $face {
+            #[inline]
+            fn identifier_join(&self, parts: FlatParts) -> FlatJoined {
+                unsafe { $module::kospelna_identifier_join(parts) }
+            }
+
+            #[inline]
+            fn identifier_part(&self, identifier: u32) -> FlatParted {
+                unsafe { $module::kospelna_identifier_part(identifier) }
+            }
+
+            #[inline]
+            fn charger_address(&self) -> u32 {
+                unsafe { $module::kospelna_charger_address() }
+            }
+
+            #[inline]
+            fn vehicle_address(&self) -> u32 {
+                unsafe { $module::kospelna_vehicle_address() }
+            }
+
+            #[inline]
+            fn charger_version(&self) -> u32 {
+                unsafe { $module::kospelna_charger_version() }
+            }
+
+            #[inline]
+            fn vehicle_version(&self) -> u32 {
+                unsafe { $module::kospelna_vehicle_version() }
+            }
+
+            #[inline]
+            fn version_list(&self, bytes: &[u8]) -> FlatListing {
+                unsafe { $module::kospelna_version_list(bytes.as_ptr(), bytes.len()) }
+            }
+
+            #[inline]
+            fn version_message_write(&self, message: FlatMessage) -> FlatBytes {
+                unsafe { $module::kospelna_version_message_write(message) }
+            }
+
+            #[inline]
+            fn version_message_read(&self, bytes: FlatBytes) -> FlatMessageReading {
+                unsafe { $module::kospelna_version_message_read(bytes) }
+            }
+
+            #[inline]
+            fn talker_make(&self, side: u8, versions: FlatVersions, control: u8) -> FlatTalker {
+                unsafe { $module::kospelna_talker_make(side, versions, control) }
+            }
+
+            #[inline]
+            fn talker_connect(&self, talker: FlatTalker) -> FlatAnswer {
+                unsafe { $module::kospelna_talker_connect(talker) }
+            }
+
+            #[inline]
+            fn talker_tick(&self, talker: FlatTalker) -> FlatAnswer {
+                unsafe { $module::kospelna_talker_tick(talker) }
+            }
+
+            #[inline]
+            fn talker_hear(&self, talker: FlatTalker, bytes: FlatBytes) -> FlatAnswer {
+                unsafe { $module::kospelna_talker_hear(talker, bytes) }
+            }
+
+            #[inline]
+            fn talker_stop(&self, talker: FlatTalker) -> FlatAnswer {
+                unsafe { $module::kospelna_talker_stop(talker) }
+            }
+
+            #[inline]
+            fn talker_greet(&self, talker: FlatTalker) -> FlatAnswer {
+                unsafe { $module::kospelna_talker_greet(talker) }
+            }
+
+            #[inline]
+            fn talker_functions_heard(&self, talker: FlatTalker) -> FlatAnswer {
+                unsafe { $module::kospelna_talker_functions_heard(talker) }
+            }
+
+            #[inline]
+            fn group_read(&self, bytes: &[u8]) -> FlatGroupReading {
+                unsafe { $module::kospelna_group_read(bytes.as_ptr(), bytes.len()) }
+            }
+
+            #[inline]
+            fn group_write(&self, group: FlatGroup, bytes: &mut [u8]) -> FlatGroupWriting {
+                unsafe { $module::kospelna_group_write(group, bytes.as_mut_ptr(), bytes.len()) }
+            }
+
+            #[inline]
+            fn group_find(&self, code: u8) -> FlatFinding {
+                unsafe { $module::kospelna_group_find(code) }
+            }
+        }
+    };
+}
+
+pub(crate) use through;

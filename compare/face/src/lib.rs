@@ -2,14 +2,13 @@
 
 pub mod around;
 pub mod behind;
-mod boundary;
 pub mod broken;
 pub mod call;
 pub mod differences;
-pub mod empty;
 pub mod ends;
 pub mod forged;
 pub mod frames;
+mod groups;
 pub mod interface;
 pub mod lists;
 pub mod session;

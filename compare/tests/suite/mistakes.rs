@@ -1,7 +1,7 @@
 //! "Mistakes to shut out", in order, and the ends that "Holding both ends to it" shuts out.
 
 use crate::help::*;
-use compare::reference::frame;
+use compare::reference::frame::{self, Frame};
 use compare::reference::line::{Bench, Call, Outcome};
 use compare::reference::receiver::{Receiver, State};
 use compare::reference::sender::{Phase, Sender};
@@ -102,6 +102,16 @@ fn receiver_wait_goes_on_over_a_repeated_announcement() {
     assert_eq!(receiver.tick(), r_failed(2, Some(frame::lm_nack(2))));
 }
 
+/// A tick before each frame; nothing comes of the frame.
+fn ticks_over(sender: &mut Sender, message: &[u8], ignored: [Frame; 3]) {
+    for frame in ignored {
+        assert_eq!(sender.tick(message), Ok(s_nothing()));
+        let before = sender.clone();
+        assert_eq!(sender.hear(frame), Ok(s_nothing()));
+        assert_eq!(*sender, before);
+    }
+}
+
 /// "restarting wait on a frame that was ignored": the sender.
 #[test]
 fn sender_wait_goes_on_over_ignored_frames() {
@@ -111,12 +121,7 @@ fn sender_wait_goes_on_over_ignored_frames() {
         frame::lm_ack(0, 1),
         frame::lm_ack(1, 0),
     ];
-    for frame in ignored {
-        assert_eq!(sender.tick(&message), Ok(s_nothing()));
-        let before = sender.clone();
-        assert_eq!(sender.hear(frame), Ok(s_nothing()));
-        assert_eq!(sender, before);
-    }
+    ticks_over(&mut sender, &message, ignored);
     assert_eq!(
         sender.tick(&message),
         Ok(s_frame(frame::announcement(3, 21)))
@@ -132,12 +137,7 @@ fn sender_wait_goes_on_over_ignored_frames() {
         frame::endof_ack(3, 20),
         frame::sm_ack(1),
     ];
-    for frame in ignored {
-        assert_eq!(sender.tick(&message), Ok(s_nothing()));
-        let before = sender.clone();
-        assert_eq!(sender.hear(frame), Ok(s_nothing()));
-        assert_eq!(sender, before);
-    }
+    ticks_over(&mut sender, &message, ignored);
     assert_eq!(
         sender.tick(&message),
         Ok(s_frame(frame::information(3, &message)))

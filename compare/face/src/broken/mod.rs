@@ -1,6 +1,6 @@
 //! References with one mistake each, to test that the comparison catches it.
 
-mod around;
+pub mod around;
 mod ends;
 
 use crate::interface::{Around, Ends};

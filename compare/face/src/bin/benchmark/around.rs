@@ -3,10 +3,9 @@
 use std::hint::black_box;
 
 use compare::reference::groups::{self, Group, Reading};
-use compare::reference::identifier::{self, Parts};
+use compare::reference::identifier;
 use compare::reference::version::{self, Message, Outcome, Side, Talker, Version};
-use compare::vectors::versions;
-use face::around::talker_of;
+use face::around::{talker_of, versions};
 use face::behind::Behind;
 use face::ffi::Proved;
 use face::interface::Around;
@@ -19,14 +18,7 @@ const IDENTIFIER: u32 = 0x0C38_F456;
 const VEHICLE: [Version; 3] = [[1, 1, 0], [2, 0, 1], [2, 1, 0]];
 
 fn joins(face: impl Around) -> impl FnMut() -> FlatJoined {
-    let parts = FlatParts {
-        p: 3,
-        edp: 0,
-        dp: 0,
-        pf: 0x38,
-        ps: 0xF4,
-        sa: 0x56,
-    };
+    let parts = face.identifier_part(IDENTIFIER).parts;
     given(parts, move |parts| face.identifier_join(*parts))
 }
 
@@ -37,14 +29,7 @@ fn divides(face: impl Around) -> impl FnMut() -> FlatParted {
 }
 
 fn identifier_rows() -> Vec<Row> {
-    let parts = Parts {
-        p: 3,
-        edp: 0,
-        dp: 0,
-        pf: 0x38,
-        ps: 0xF4,
-        sa: 0x56,
-    };
+    let parts = identifier::read(IDENTIFIER).expect("a good identifier");
     vec![
         Row::new(
             "identifier, join",

@@ -2,7 +2,6 @@
 
 use std::hint::black_box;
 
-use crate::boundary::shapes;
 use crate::measure::{Calls, Row};
 
 /// callgrind counts in here alone; `tools/instructions` names it. It must return by itself, and not by a jump to the calls.
@@ -12,21 +11,13 @@ fn counted(calls: &mut Calls, count: u64) {
     black_box(());
 }
 
-/// Prints a title, and under it the names in the order in which they are counted.
+/// Prints a title, and under it the names in the order in which they are counted, each with its number of sides.
 pub fn count_table(title: &str, rows: Vec<Row>, count: u64) {
     println!("{title}");
     for mut row in rows {
-        println!("| {} | 3", row.name);
+        println!("| {} | {}", row.name, row.sides.len());
         for calls in &mut row.sides {
             counted(calls, count);
         }
-    }
-}
-
-pub fn count_shapes(count: u64) {
-    println!("the boundary alone");
-    for mut shape in shapes() {
-        println!("| {} | 1", shape.name);
-        counted(&mut shape.calls, count);
     }
 }

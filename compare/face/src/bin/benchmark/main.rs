@@ -1,39 +1,53 @@
 //! Measures the proved code beside the reference, same inputs, same run, by turns: calls through the C face, beside the
-//! reference behind the same boundary and beside the reference's own functions; what that boundary costs without any rule;
-//! and the player beside the reference's. Prints tables; `docs/PERFORMANCE.md` explains them.
+//! reference behind the same boundary and beside the reference's own functions, and the player beside the reference's and
+//! another build's. Prints tables; `docs/PERFORMANCE.md` explains them.
 //! Exit status: 0 measured, 2 bad usage or a program that is missing.
 
 mod around;
-mod boundary;
 mod count;
 mod ends;
 mod measure;
 mod player;
 
+use std::path::{Path, PathBuf};
 use std::process::ExitCode;
 
 use measure::Row;
 
-const USAGE: &str = "usage: benchmark [--rounds N | --calls N]
-    --rounds N   how often each is measured (default 21)
-    --calls N    times nothing and makes each call N times, for tools/instructions";
+const USAGE: &str = "usage: benchmark [--rounds N] [--before CHECKOUT] | --calls N | --packs FOLDER
+    --rounds N          how often each is measured (default 21)
+    --before CHECKOUT   measures the player that was built there, too, by turns with this one
+for tools/instructions, and without timing:
+    --calls N           makes each call N times
+    --packs FOLDER      writes the player's packs of 60000 events there";
 
-enum Wanted {
-    Rounds(usize),
-    Calls(u64),
+enum Task {
+    Measure(usize, Option<PathBuf>),
+    Count(u64),
+    Write(PathBuf),
 }
 
-fn wanted(mut words: impl Iterator<Item = String>) -> Option<Wanted> {
-    let (name, value) = match (words.next(), words.next(), words.next()) {
-        (None, ..) => return Some(Wanted::Rounds(21)),
-        (Some(name), Some(value), None) => (name, value.parse().ok().filter(|&value| value > 0)?),
-        _ => return None,
-    };
-    match name.as_str() {
-        "--rounds" => Some(Wanted::Rounds(value)),
-        "--calls" => Some(Wanted::Calls(value as u64)),
-        _ => None,
+fn task(words: impl Iterator<Item = String>) -> Option<Task> {
+    let words: Vec<String> = words.collect();
+    let words: Vec<&str> = words.iter().map(String::as_str).collect();
+    match words[..] {
+        ["--calls", count] => return Some(Task::Count(positive(count)? as u64)),
+        ["--packs", folder] => return Some(Task::Write(folder.into())),
+        _ => (),
     }
+    let (mut rounds, mut before) = (21, None);
+    for pair in words.chunks(2) {
+        match pair {
+            ["--rounds", count] => rounds = positive(count)?,
+            ["--before", checkout] => before = Some(PathBuf::from(checkout)),
+            _ => return None,
+        }
+    }
+    Some(Task::Measure(rounds, before))
+}
+
+fn positive(word: &str) -> Option<usize> {
+    word.parse().ok().filter(|&number| number > 0)
 }
 
 /// Every table of calls, by its title.
@@ -46,34 +60,35 @@ fn tables() -> [(&'static str, Vec<Row>); 4] {
     ]
 }
 
-fn measure(rounds: usize) -> Result<(), String> {
+fn measure(rounds: usize, before: Option<&Path>) -> Result<(), String> {
+    let programs = player::programs(before)?;
     for (title, rows) in tables() {
         measure::print_table(title, rows, rounds);
     }
-    boundary::print_table(rounds);
-    player::print_tables(rounds)
+    player::print_table(&programs, rounds)
 }
 
 fn count(calls: u64) {
     for (title, rows) in tables() {
         count::count_table(title, rows, calls);
     }
-    count::count_shapes(calls);
 }
 
 fn main() -> ExitCode {
-    match wanted(std::env::args().skip(1)) {
-        Some(Wanted::Calls(calls)) => count(calls),
-        Some(Wanted::Rounds(rounds)) => {
-            if let Err(problem) = measure(rounds) {
-                eprintln!("benchmark: {problem}");
-                return ExitCode::from(2);
-            }
+    let done = match task(std::env::args().skip(1)) {
+        Some(Task::Measure(rounds, before)) => measure(rounds, before.as_deref()),
+        Some(Task::Count(calls)) => {
+            count(calls);
+            Ok(())
         }
-        None => {
-            eprintln!("{USAGE}");
-            return ExitCode::from(2);
+        Some(Task::Write(folder)) => player::write_packs(&folder),
+        None => Err(USAGE.to_string()),
+    };
+    match done {
+        Ok(()) => ExitCode::SUCCESS,
+        Err(problem) => {
+            eprintln!("{problem}");
+            ExitCode::from(2)
         }
     }
-    ExitCode::SUCCESS
 }

@@ -34,12 +34,9 @@ impl Row {
 }
 
 /// Nanoseconds of a call of each side, round by round, by turns.
-pub fn by_turns<const SIDES: usize>(
-    sides: &mut [Calls; SIDES],
-    rounds: usize,
-) -> [Vec<f64>; SIDES] {
+fn by_turns(sides: &mut [Calls; 3], rounds: usize) -> [Vec<f64>; 3] {
     let counts = sides.each_mut().map(enough);
-    let mut times = [const { Vec::new() }; SIDES];
+    let mut times = [const { Vec::new() }; 3];
     for _ in 0..rounds {
         for (side, calls) in sides.iter_mut().enumerate() {
             times[side].push(nanoseconds(calls, counts[side]));
@@ -55,7 +52,7 @@ pub fn given<G, T>(given: G, call: impl Fn(&G) -> T) -> impl FnMut() -> T {
 }
 
 /// The answer of every call counts as used.
-pub fn many<T>(mut call: impl FnMut() -> T + 'static) -> Calls {
+fn many<T>(mut call: impl FnMut() -> T + 'static) -> Calls {
     Box::new(move |count| {
         for _ in 0..count {
             black_box(&call());

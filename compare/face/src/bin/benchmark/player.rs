@@ -10,7 +10,7 @@ use face::call::pool;
 
 use crate::measure::{ratio, spread};
 
-const COUNTS: [usize; 3] = [1000, 10000, 60000];
+const COUNTS: [usize; 2] = [10000, 60000];
 /// Runs of each program on each pack in a round, of which the quickest counts.
 const RUNS: usize = 5;
 const REPOSITORY: &str = concat!(env!("CARGO_MANIFEST_DIR"), "/../..");
@@ -18,8 +18,9 @@ const REPOSITORY: &str = concat!(env!("CARGO_MANIFEST_DIR"), "/../..");
 /// A sort of pack: its name, and its settings and events for so many events.
 struct Sort(&'static str, fn(usize) -> (Settings, Vec<u8>));
 
-const SORTS: [Sort; 5] = [
+const SORTS: [Sort; 6] = [
     Sort("ticks of both ends", ticks),
+    Sort("both lines empty, heard", empty_lines),
     Sort("a clean transfer, spread by ticks", clean),
     Sort("a transfer, each frame lost twice", lossy),
     Sort("a transfer, frames repeated and ignored", ignored),
@@ -38,6 +39,11 @@ const SETTINGS: Settings = Settings {
 /// Sender and receiver by turns.
 fn ticks(count: usize) -> (Settings, Vec<u8>) {
     (SETTINGS, (0..count).map(|n| 1 + (n % 2) as u8).collect())
+}
+
+/// Forward and back by turns. After the announcement and its LM_ACK nothing is there to be heard.
+fn empty_lines(count: usize) -> (Settings, Vec<u8>) {
+    (SETTINGS, [3, 6].into_iter().cycle().take(count).collect())
 }
 
 /// A window is one frame: LM_ACK is heard, the frame goes out, both ends tick, the frame is heard.
@@ -81,21 +87,24 @@ fn transfer(count: usize, frame: &[u8]) -> Vec<u8> {
     std::iter::once(3).chain(frames).take(count).collect()
 }
 
-/// The two programs, the proved one first.
-fn programs() -> Result<[PathBuf; 2], String> {
-    let places = [
-        ("target/bin/play", "run `rt check play`"),
-        (
-            "compare/target/release/reference_player",
-            "run `cargo build --release` in compare/",
-        ),
-    ];
-    for (place, how) in places {
-        if !Path::new(REPOSITORY).join(place).exists() {
-            return Err(format!("{place} is missing: {how}"));
+/// The player, the reference's, and that of another checkout where one is given.
+pub fn programs(before: Option<&Path>) -> Result<Vec<PathBuf>, String> {
+    let here = Path::new(REPOSITORY);
+    let play = ("target/bin/play", "run `rt check play`");
+    let reference = (
+        "compare/target/release/reference_player",
+        "run `cargo build --release` in compare/",
+    );
+    let mut wanted = vec![(here, play), (here, reference)];
+    wanted.extend(before.map(|checkout| (checkout, play)));
+    let found = wanted.into_iter().map(|(checkout, (place, how))| {
+        let program = checkout.join(place);
+        match program.is_file() {
+            true => Ok(program),
+            false => Err(format!("{} is missing: {how}", program.display())),
         }
-    }
-    Ok(places.map(|(place, _)| Path::new(REPOSITORY).join(place)))
+    });
+    found.collect()
 }
 
 /// A pack in a file that goes with the value.
@@ -142,15 +151,15 @@ fn quickest(program: &Path, pack: &Kept) -> Result<f64, String> {
     Ok(least)
 }
 
-/// Nanoseconds of an event, round by round: what a pack takes beyond one without events.
+/// Nanoseconds of an event, for each program round by round: what a pack takes beyond one without events.
 fn measure(
-    programs: &[PathBuf; 2],
+    programs: &[PathBuf],
     pack: &Kept,
     empty: &Kept,
     count: usize,
     rounds: usize,
-) -> Result<[Vec<f64>; 2], String> {
-    let mut times = [Vec::new(), Vec::new()];
+) -> Result<Vec<Vec<f64>>, String> {
+    let mut times = vec![Vec::new(); programs.len()];
     for _ in 0..rounds {
         for (program, times) in programs.iter().zip(&mut times) {
             let beyond = quickest(program, pack)? - quickest(program, empty)?;
@@ -160,36 +169,75 @@ fn measure(
     Ok(times)
 }
 
-fn print_row(name: &str, count: usize, lines: usize, [proved, reference]: [Vec<f64>; 2]) {
-    let ratio = ratio(&proved, &reference);
-    let (proved, reference) = (spread(proved).median, spread(reference).median);
-    println!(
-        "| {name} | {count} | {lines} | {proved:.1} | {reference:.1} | {:.1} | {:.1} | {:.2} | {:.2} | {:.2} |",
-        1e3 / proved,
-        1e3 / reference,
-        ratio.median,
-        ratio.least,
-        ratio.most
-    );
+/// The ratio's median, least and greatest.
+fn told_ratio(upper: &[f64], lower: &[f64]) -> String {
+    let ratio = ratio(upper, lower);
+    format!(
+        "{:.2} | {:.2} | {:.2}",
+        ratio.median, ratio.least, ratio.most
+    )
 }
 
-pub fn print_tables(rounds: usize) -> Result<(), String> {
-    let programs = programs()?;
-    println!("\nthe player: ns an event and million events a second, median of {rounds} rounds, each the quickest of");
-    println!("{RUNS} runs; ratio proved to reference; start and end of the process, as measured on a pack without");
-    println!("events, are taken off");
+fn print_row(name: &str, count: usize, lines: usize, times: &[Vec<f64>]) {
+    let [proved, reference, before @ ..] = times else {
+        panic!("two programs or more");
+    };
+    let median = |times: &Vec<f64>| spread(times.clone()).median;
+    let (ns, other) = (median(proved), median(reference));
+    let told = told_ratio(proved, reference);
+    print!("| {name} | {count} | {lines} | {ns:.1} | {other:.1} | ");
+    print!("{:.1} | {:.1} | {told} |", 1e3 / ns, 1e3 / other);
+    for before in before {
+        print!(" {:.1} | {} |", median(before), told_ratio(proved, before));
+    }
     println!();
-    println!("| pack | events | lines | proved ns | reference ns | proved M/s | reference M/s | ratio | least | greatest |");
-    println!("|---|---:|---:|---:|---:|---:|---:|---:|---:|---:|");
-    for Sort(name, events) in &SORTS {
+}
+
+fn print_head(rounds: usize, before: bool) {
+    println!("\nthe player: ns an event and million events a second, median of {rounds} rounds, each the quickest of");
+    println!("{RUNS} runs; ratio proved to reference, and to the build before; start and end of the process, as");
+    println!("measured on a pack without events, are taken off");
+    println!();
+    let (names, rule) = match before {
+        true => (
+            " before ns | to before | least | greatest |",
+            "---:|---:|---:|---:|",
+        ),
+        false => ("", ""),
+    };
+    println!("| pack | events | lines | proved ns | reference ns | proved M/s | reference M/s | ratio | least | greatest |{names}");
+    println!("|---|---:|---:|---:|---:|---:|---:|---:|---:|---:|{rule}");
+}
+
+/// The pack with so many events, and the one without.
+fn packs(Sort(_, events): &Sort, count: usize) -> [Vec<u8>; 2] {
+    let (settings, events) = events(count);
+    [&events[..], &[]].map(|events| build(&settings, &pool()[..1785], events))
+}
+
+pub fn print_table(programs: &[PathBuf], rounds: usize) -> Result<(), String> {
+    print_head(rounds, programs.len() > 2);
+    for sort in &SORTS {
         for count in COUNTS {
-            let (settings, events) = events(count);
-            let bytes = build(&settings, &pool()[..1785], &events);
+            let [bytes, without] = packs(sort, count);
             let lines = play(&bytes).lines().count();
             let pack = Kept::new("events", &bytes)?;
-            let empty = Kept::new("empty", &build(&settings, &pool()[..1785], &[]))?;
-            let times = measure(&programs, &pack, &empty, count, rounds)?;
-            print_row(name, count, lines, times);
+            let empty = Kept::new("empty", &without)?;
+            let times = measure(programs, &pack, &empty, count, rounds)?;
+            print_row(sort.0, count, lines, &times);
+        }
+    }
+    Ok(())
+}
+
+/// For each sort its pack of 60000 events, by its name, and beside it the one without events.
+pub fn write_packs(folder: &Path) -> Result<(), String> {
+    for (place, sort) in SORTS.iter().enumerate() {
+        let [bytes, without] = packs(sort, 60000);
+        let name = |ending: &str| folder.join(format!("{place} {}.{ending}", sort.0));
+        for (path, pack) in [(name("pack"), bytes), (name("empty"), without)] {
+            std::fs::write(&path, pack)
+                .map_err(|problem| format!("{}: {problem}", path.display()))?;
         }
     }
     Ok(())

@@ -1,0 +1,75 @@
+//! The table of `tests/vectors.txt`: each call in it is made on the proved code and on the reference, and each of them must
+//! answer as the table says.
+
+mod single;
+mod talk;
+mod words;
+
+use face::broken::{around::MISTAKES, Broken};
+use face::interface::Around;
+use face::Reference;
+
+use talk::Talk;
+
+const TABLE: &str = include_str!("../../../../tests/vectors.txt");
+
+/// The first line at which a face answers otherwise than the table, by its number.
+fn difference(face: &impl Around, table: &str) -> Option<String> {
+    let mut talk = Talk::new(face);
+    let answered: String = table.lines().map(|line| talk.line(line)).collect();
+    let end = ["(the end)"];
+    let expected = table.lines().chain(end);
+    let mut pairs = expected.zip(answered.lines().chain(end)).enumerate();
+    let (place, (line, answer)) = pairs.find(|(_, (line, answer))| line != answer)?;
+    Some(format!("{}: {line}\nanswered: {answer}", place + 1))
+}
+
+fn check(face: &impl Around) {
+    if let Some(difference) = difference(face, TABLE) {
+        panic!("tests/vectors.txt:{difference}");
+    }
+}
+
+#[test]
+fn the_reference_answers_as_the_table_says() {
+    check(&Reference);
+}
+
+#[test]
+#[cfg(feature = "proved")]
+fn the_proved_code_answers_as_the_table_says() {
+    check(&face::ffi::Proved);
+}
+
+/// All but the three in counts and places above 255, which no line has.
+#[test]
+fn the_table_catches_every_mistake() {
+    let missed: Vec<&str> = MISTAKES
+        .iter()
+        .filter(|(_, mistake)| difference(&Broken(*mistake), TABLE).is_none())
+        .map(|(name, _)| *name)
+        .collect();
+    let wide = [
+        "a list is counted modulo 256",
+        "made at the count's low byte",
+        "a place is taken modulo 256",
+    ];
+    assert_eq!(missed, wide);
+}
+
+/// In a call's answer, a message's time and a line left out or added.
+#[test]
+fn an_altered_table_is_found() {
+    for (line, altered) in [
+        ("find 71: 71 2 charger", "find 71: 71 3 charger"),
+        ("list 01 01: refused 11", "list 01 01: refused 10"),
+        ("310 said: 3 5", "310 said: 3 6"),
+        ("\n271 V: S3", "\n270 V: S3"),
+        ("says 00 01 02 00 00 02 01 FF\n160 C", "\n160 C"),
+        ("\n160 C functions", "\n160 C: S3\n160 C functions"),
+    ] {
+        assert!(TABLE.contains(line), "{line}");
+        let table = TABLE.replacen(line, altered, 1);
+        assert!(difference(&Reference, &table).is_some(), "{line}");
+    }
+}

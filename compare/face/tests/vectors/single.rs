@@ -1,0 +1,114 @@
+//! Calls that stand alone: groups, identifiers, version lists and messages.
+
+use face::interface::Around;
+use face::values::*;
+
+use crate::words::{
+    byte, bytes, eight, hex, hexadecimal, told, version, version_of, versions, RESULTS,
+};
+
+/// The answer to a call of these words.
+pub fn answer(face: &impl Around, call: &str, words: &[&str]) -> String {
+    match call {
+        "find" => {
+            let found = face.group_find(byte(words[0]));
+            told(found.outcome, found.refusal, found.row, row)
+        }
+        "read" => {
+            let read = face.group_read(&bytes(words));
+            told(read.outcome, read.refusal, read.group, group)
+        }
+        "write" => write(face, words),
+        "named" => {
+            let [secc, evcc] = [face.charger_address(), face.vehicle_address()];
+            let [charger, vehicle] = [face.charger_version(), face.vehicle_version()];
+            format!(" {secc:X} {evcc:X} {charger:08X} {vehicle:08X}")
+        }
+        "join" => {
+            let joined = face.identifier_join(parts_of(words));
+            let tell = |identifier| format!(" {identifier:08X}");
+            told(joined.outcome, joined.refusal, joined.identifier, tell)
+        }
+        "part" => {
+            let [identifier] = hexadecimal(words);
+            let parted = face.identifier_part(identifier);
+            told(parted.outcome, parted.refusal, parted.parts, parts)
+        }
+        "list" => {
+            let listed = face.version_list(&bytes(words));
+            told(listed.outcome, listed.refusal, listed.versions, versions)
+        }
+        "message" => {
+            let bytes = eight(words);
+            let read = face.version_message_read(FlatBytes { bytes });
+            told(read.outcome, read.refusal, read.message, message)
+        }
+        "say" => hex(&face.version_message_write(message_of(words)).bytes),
+        _ => panic!("no such call: {call}"),
+    }
+}
+
+fn row(row: FlatRow) -> String {
+    let sender = ["charger", "vehicle"][usize::from(row.sender)];
+    let reliable = if row.reliable { " reliable" } else { "" };
+    let kinds = [row.first, row.second, row.third, row.fourth].map(|kind| format!(" {kind}"));
+    let kinds = kinds.concat();
+    format!(" {:02X} {} {sender}{reliable}{kinds}", row.code, row.length)
+}
+
+fn group(group: FlatGroup) -> String {
+    let values = [group.first, group.second, group.third, group.fourth];
+    let values = values.map(|value| format!(" {value}")).concat();
+    format!(" {:02X}{values}", group.code)
+}
+
+/// A group's code and values, `into`, and the lent bytes.
+fn write(face: &impl Around, words: &[&str]) -> String {
+    let value = |place: usize| words[place].parse().expect("a value");
+    let group = FlatGroup {
+        code: byte(words[0]),
+        first: value(1),
+        second: value(2),
+        third: value(3),
+        fourth: value(4),
+    };
+    assert_eq!(words[5], "into");
+    let mut lent = bytes(&words[6..]);
+    let done = face.group_write(group, &mut lent);
+    told(done.outcome, done.refusal, (), |()| " done".into()) + &hex(&lent)
+}
+
+fn parts(parts: FlatParts) -> String {
+    let parts = [parts.p, parts.edp, parts.dp, parts.pf, parts.ps, parts.sa];
+    parts.map(|part| format!(" {part:X}")).concat()
+}
+
+fn parts_of(words: &[&str]) -> FlatParts {
+    let [p, edp, dp, pf, ps, sa] = hexadecimal(words);
+    FlatParts {
+        p,
+        edp,
+        dp,
+        pf,
+        ps,
+        sa,
+    }
+}
+
+fn message(message: FlatMessage) -> String {
+    let result = RESULTS[usize::from(message.verdict)];
+    format!(
+        " {result} {} {:02X}",
+        version(message.version),
+        message.control
+    )
+}
+
+fn message_of(words: &[&str]) -> FlatMessage {
+    let verdict = RESULTS.iter().position(|&result| result == words[0]);
+    FlatMessage {
+        verdict: verdict.expect("a result") as u8,
+        version: version_of(words[1]),
+        control: byte(words[2]),
+    }
+}

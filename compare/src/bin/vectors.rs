@@ -1,7 +1,0 @@
-//! Prints the line of every vector.
-
-use compare::vectors::{output, vectors};
-
-fn main() {
-    print!("{}", output(&vectors()));
-}
