@@ -1,5 +1,6 @@
--- What a list that is accepted holds, and what the places found in it are. Rising goes from each version to the next, so from
--- each to every later one; a place is found at the first version that is the one sought, or at the last that is below it.
+-- What a list that is accepted holds, and what the places found in it are. Rising goes from each version to the next, so
+-- from each to every later one; a place is found at the first version that is the one sought, or at the last that is
+-- below it.
 -- Assumes nothing.
 use Prim.Native.Nat.{ℕ, zero, suc, _+_, _*_, _-_, _<_, _≤_}
 use mathlib.Core.Path.{_≡_, refl, sym, ap, _∙_, subst}
@@ -13,7 +14,8 @@ use lib.Dec.{eqb, leb, ltb}
 use lib.ListN.{length, getD, replicate}
 use lib.Seq.{take-take, take-append-seam}
 use Rattle.frame.specs.Choice.{pick}
-use Rattle.version.specs.List.{versionsIn, rising, placed, Listing, accepted, refused, listed, refusing, listOf, standing, Place, nowhere, here, orElse, placeOf, placeBelow}
+use Rattle.frame.specs.Result.{accepted, refused}
+use Rattle.version.specs.List.{versionsIn, rising, placed, ifRising, listOf, standing, Place, nowhere, here, orElse, placeOf, placeBelow}
 use Rattle.version.specs.declared.Versions.{Versions}
 
 -- ---- an accepted list
@@ -46,18 +48,13 @@ pub record Standing (v : Versions) : Type 0 where
   pub rises : rising (standing v) ≡ true
   pub below : (i j : ℕ) → i < j → j < length (standing v) → getD (standing v) i 0 < getD (standing v) j 0
 
-not-both : {w : Versions} → refusing 11 ≡ listed w → ⊥
-not-both h =
-    let same : refused 11 ≡ accepted = ap (λ (l : Listing). l .outcome) h in
-    let z : _≡_ {A = ℕ} 0 1 = cc in
-    omega arith
-
-chosen : (fits rises : Bool) (v w : Versions) → pick fits (pick rises (listed v) (refusing 11)) (refusing 11) ≡ listed w
+-- a list that is accepted passed both tests
+chosen : (fits rises : Bool) (v w : Versions) → pick fits (pick rises (accepted v) (refused 11)) (refused 11) ≡ accepted w
     → (fits ≡ true) × (rises ≡ true) × (v ≡ w)
 unfolding pick
-chosen true true v w h = (refl, refl, ap (λ (l : Listing). l .versions) h)
-chosen true false v w h = absurd (not-both h)
-chosen false rises v w h = absurd (not-both h)
+chosen true true v w h = (refl, refl, cc)
+chosen true false v w h = (refl, cc, cc)
+chosen false rises v w h = (cc, cc, cc)
 
 standing-placed : (s : List ℕ) → length s ≤ 8 → standing (placed s) ≡ s
 standing-placed s h = take-take (length s) 8 (s ++ replicate 8 0) h ∙ take-append-seam s (replicate 8 0)
@@ -73,7 +70,7 @@ fits true true c h = (refl, refl)
 fits true false c h = (refl, h)
 fits false b c h = (h, cc)
 
-pub listed-stands : (bytes : List ℕ) (v : Versions) → listOf bytes ≡ listed v → Standing v × (standing v ≡ versionsIn bytes)
+pub listed-stands : (bytes : List ℕ) (v : Versions) → listOf bytes ≡ accepted v → Standing v × (standing v ≡ versionsIn bytes)
 unfolding listOf
 listed-stands bytes v h =
     let s : List ℕ = versionsIn bytes in
@@ -147,13 +144,15 @@ pub record Below (s : List ℕ) (version n p : ℕ) : Type 0 where
   pub last : (i : ℕ) → k < i → i < length s → version ≤ getD s i 0
 
 module _ (v : ℕ) (s : List ℕ) (version n : ℕ) where
-  none-first : (b : Bool) (q : Place) → ltb v version ≡ b → (q ≡ nowhere → (i : ℕ) → i < length s → version ≤ getD s i 0)
-      → pick b (orElse q (here n)) q ≡ nowhere → (i : ℕ) → i < suc (length s) → version ≤ getD (v ∷ s) i 0
+  none-first : (b : Bool) (q : Place) → ltb v version ≡ b
+      → (q ≡ nowhere → (i : ℕ) → i < length s → version ≤ getD s i 0)
+      → orElse q (pick b (here n) nowhere) ≡ nowhere
+      → (i : ℕ) → i < suc (length s) → version ≤ getD (v ∷ s) i 0
   unfolding pick
   none-first true nowhere t later e i l = absurd (no-place (sym e))
-  none-first true (here p) t later e i l = absurd (no-place (sym e))
-  none-first false q t later e zero l = ltb-false v version t
-  none-first false q t later e (suc i) l = later e i (omega arith)
+  none-first b (here p) t later e i l = absurd (no-place (sym e))
+  none-first false nowhere t later e zero l = ltb-false v version t
+  none-first false nowhere t later e (suc i) l = later refl i (omega arith)
 
   -- what holds after a place of the rest holds after the next place of the whole
   after : (k : ℕ) → ((i : ℕ) → k < i → i < length s → version ≤ getD s i 0)
@@ -177,8 +176,10 @@ module _ (v : ℕ) (s : List ℕ) (version n : ℕ) where
       }
 
   below-first : (b : Bool) (q : Place) (p : ℕ) → ltb v version ≡ b
-      → (q ≡ nowhere → (i : ℕ) → i < length s → version ≤ getD s i 0) → (q ≡ here p → Below s version (n + 1) p)
-      → pick b (orElse q (here n)) q ≡ here p → Below (v ∷ s) version n p
+      → (q ≡ nowhere → (i : ℕ) → i < length s → version ≤ getD s i 0)
+      → (q ≡ here p → Below s version (n + 1) p)
+      → orElse q (pick b (here n) nowhere) ≡ here p
+      → Below (v ∷ s) version n p
   unfolding pick
   below-first true nowhere p t none later e =
       let same : n ≡ p = cc in
@@ -189,8 +190,8 @@ module _ (v : ℕ) (s : List ℕ) (version n : ℕ) where
         less = ltb-true v version t;
         last = after-first (none refl);
       }
-  below-first true (here q) p t none later e = below-next (later e)
-  below-first false q p t none later e = below-next (later e)
+  below-first false nowhere p t none later e = absurd (no-place e)
+  below-first b (here q) p t none later e = below-next (later e)
 
 none-below : (s : List ℕ) (version n : ℕ) → placeBelow s version n ≡ nowhere → (i : ℕ) → i < length s → version ≤ getD s i 0
 unfolding placeBelow
