@@ -6,6 +6,7 @@ use lib.Dec.{eqb}
 use lib.ListN.{replicate}
 use Rattle.frame.specs.Choice.{pick}
 use Rattle.frame.specs.Frames.{byteOf, announcementOf, lmAckOf}
+use Rattle.frame.specs.Result.{Result, accepted, refused}
 use Rattle.frame.specs.declared.Frame.{Frame}
 use Rattle.sender.specs.Begin as sender-begin
 use Rattle.sender.specs.Hear as sender-hear
@@ -84,9 +85,9 @@ ofReceiver (receiver.made r) shows = shows r
 ofReceiver (receiver.unmade number) shows = refusal number
 
 -- what joining parts shows: the identifier, or the number of the refusal
-unfoldable pub shownJoined : parts.Answer ℕ → List ℕ
-shownJoined (parts.given number) = identifier number
-shownJoined (parts.refused number) = refusal number
+unfoldable pub shownJoined : Result ℕ → List ℕ
+shownJoined (accepted number) = identifier number
+shownJoined (refused number) = refusal number
 
 -- a message or a buffer of this length: zeros
 abbrev pub zeros : ℕ → List ℕ

@@ -9,7 +9,8 @@ use Rattle.identifier.specs.declared.Parts.{Parts}
 unfoldable pub numberOf : Parts → ℕ
 numberOf x = ((((x .p * 2 + x .edp) * 2 + x .dp) * 256 + x .pf) * 256 + x .ps) * 256 + x .sa
 
--- the bits of each part: SA has the lowest eight, PS the eight above them, PF those above, then DP, EDP, and P all the rest
+-- the bits of each part: SA has the lowest eight, PS the eight above them, PF those above, then DP, EDP, and P all the
+-- rest
 unfoldable pub partsOf : ℕ → Parts
 partsOf n =
     record {
