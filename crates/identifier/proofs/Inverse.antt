@@ -1,5 +1,5 @@
--- Joining and parting undo each other. Parts inside their widths are the digits of their number, and a number below
--- 2 to the 29 is made of its digits.
+-- Joining and parting undo each other. Parts inside their widths are the digits of their number,
+-- and a number below 2 to the 29 is made of its digits.
 -- Assumes nothing.
 use Prim.Native.Nat.{ℕ, _+_, _*_, _/_, _%_}
 use mathlib.Core.Path.{_≡_, refl, sym, ap, _∙_, subst}
@@ -35,7 +35,8 @@ told-parted-whole (partings.Into x) = refl
 told-parted-whole (partings.Refused n) = refl
 
 -- A choice that gives passed its test and gives its value.
-gave : {A : Type 0} (test : Bool) (a b : A) → pick test (accepted a) (refused 8) ≡ accepted b → (test ≡ true) × (a ≡ b)
+gave : {A : Type 0} (test : Bool) (a b : A) → pick test (accepted a) (refused 8) ≡ accepted b
+    → (test ≡ true) × (a ≡ b)
 unfolding pick
 gave true a b h = (refl, cc)
 gave false a b h = (cc, cc)

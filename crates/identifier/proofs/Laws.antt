@@ -55,7 +55,8 @@ top : (n : ℕ) (t : Bool) → ltb n 536870912 ≡ t → ltb (n / 67108864) 8 �
 top n true h = lt-ltb (n / 67108864) 8 (omega (arith, ltb-true n 536870912 h))
 top n false h = le-ltb (n / 67108864) 8 (omega (arith, ltb-false n 536870912 h))
 
--- The parts of a number fit just if the number has 29 bits and EDP and DP are 0: the other parts are cut to their widths.
+-- The parts of a number fit just if the number has 29 bits and EDP and DP are 0: the other parts
+-- are cut to their widths.
 pub fits-number : (n : ℕ) → fitsOf (partsOf n) ≡ partsFit n
 unfolding fitsOf partsOf partsFit
 fits-number n =
@@ -68,7 +69,8 @@ fits-number n =
     )
 
 -- EDP and DP lie side by side: both are 0 just if the number that they make is.
-side-by-side : (n : ℕ) (edp dp : Bool) → eqb (n / 33554432 % 2) 0 ≡ edp → eqb (n / 16777216 % 2) 0 ≡ dp
+side-by-side : (n : ℕ) (edp dp : Bool) → eqb (n / 33554432 % 2) 0 ≡ edp
+    → eqb (n / 16777216 % 2) 0 ≡ dp
     → eqb (n / 16777216 % 4) 0 ≡ (edp && dp)
 side-by-side n true true e d =
     let made : n / 16777216 % 4 ≡ n / 33554432 % 2 * 2 + n / 16777216 % 2 = omega arith in
@@ -84,7 +86,8 @@ fits-at-once n =
     ∙ sym (and-assoc (ltb n 536870912) (eqb (partsOf n .edp) 0) (eqb (partsOf n .dp) 0))
 
 -- Joining goes by the test of the parts, parting by that of the number.
-pub join-accepted : (x : Parts) (n : ℕ) (fits : Bool) → fits ≡ true → fits ≡ fitsOf x → n ≡ numberOf x
+pub join-accepted : (x : Parts) (n : ℕ) (fits : Bool) → fits ≡ true → fits ≡ fitsOf x
+    → n ≡ numberOf x
     → accepted n ≡ joinOf x
 unfolding joinOf pick
 join-accepted x n fits t e v = rw (v, ← e, t)
@@ -93,7 +96,8 @@ pub join-refused : (x : Parts) (fits : Bool) → fits ≡ false → fits ≡ fit
 unfolding joinOf
 join-refused x fits t e = pick-false _ (sym e ∙ t) refl
 
-pub part-accepted : (x : Parts) (n : ℕ) (fits : Bool) → fits ≡ true → fits ≡ partsFit n → x ≡ partsOf n
+pub part-accepted : (x : Parts) (n : ℕ) (fits : Bool) → fits ≡ true → fits ≡ partsFit n
+    → x ≡ partsOf n
     → accepted x ≡ partOf n
 unfolding partOf pick
 part-accepted x n fits t e v = rw (v, ← e, t)

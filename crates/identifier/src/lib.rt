@@ -14,12 +14,14 @@ pub const SECC: u32 = 0x56;
 
 pub const EVCC: u32 = 0xF4;
 
-// The identifiers of the two version messages: the charger's to the vehicle, and the vehicle's to the charger.
+// The identifiers of the two version messages: the charger's to the vehicle, and the vehicle's to
+// the charger.
 pub const CHARGER_VERSION: u32 = 0x0C38F456;
 
 pub const VEHICLE_VERSION: u32 = 0x0C3656F4;
 
-// The parts, the first in the highest bits. Each is held wider than its place, so that one over its width can be refused.
+// The parts, the first in the highest bits. Each is held wider than its place, so that one over its
+// width can be refused.
 pub struct Parts {
     pub p: u32,
     pub edp: u32,

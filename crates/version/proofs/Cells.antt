@@ -1,5 +1,6 @@
--- A case view of tables 8 and 9 of 001: what a cell of either table may say, by its row and column. A proof about every
--- call of a talker matches on it, on one side's S1 row and on three cells beside, and not on the 156 cells.
+-- A case view of tables 8 and 9 of 001: what a cell of either table may say, by its row and column.
+-- A proof about every call of a talker matches on it, on one side's S1 row and on three cells
+-- beside, and not on the 156 cells.
 -- Assumes nothing.
 use Rattle.version.specs.Table.{Trigger, connected, periodDue, successOther, successBelow2, success2, failureHeard, continueSame, continueLower, continueHigher, continueNone, greeted, stopped, limitDue, Entry, nothing, opens, repeats, fails, chargerS0, chargerS1, vehicleS0, vehicleS1, vehicleS3, cellOf}
 use Rattle.version.specs.declared.Side.{Side}
@@ -8,8 +9,8 @@ use Rattle.version.specs.declared.State.{State}
 use Rattle.version.specs.declared.State.the-variants.{S0, S1, S2, S3, S4, S5}
 
 pub data Cell : State → Trigger → Entry → Type 0 where
-  -- "-", or a row with no transition: nothing is done. In S1 only the charger's greeting is such a cell: table 8 has no
-  -- such column.
+  -- "-", or a row with no transition: nothing is done. In S1 only the charger's greeting is such a
+  -- cell: table 8 has no such column.
   rests : {state : State} {k : Trigger} → Cell state k nothing
   -- S1: table 8 says what table 9 says, the greeting apart
   negotiates : {k : Trigger} → Cell S1 k (vehicleS1 k)

@@ -1,9 +1,9 @@
--- What is told of an answer leaves nothing of it open; writing and reading a message undo each other. A version below
--- 2^24 is its three bytes, and a list of bytes computes.
+-- What is told of an answer leaves nothing of it open; writing and reading a message undo each
+-- other. A version below 2^24 is its three bytes, and a list of bytes computes.
 -- Assumes nothing.
 use Prim.Native.Nat.{ℕ, zero, suc, _<_, _≤_}
 use mathlib.Core.Path.{_≡_, refl, sym, ap, _∙_}
-use mathlib.Core.Bool.{Bool, true, false, _&&_, and-eq-true-iff}
+use mathlib.Core.Bool.{_&&_, and-eq-true-iff}
 use mathlib.Core.List.{List, [], _∷_}
 use native.Mathlib.Omega.{arith}
 use borrow.Author.Tests.{leb-true, eqb-true}
@@ -12,7 +12,7 @@ use lib.ListN.{length, getD, take}
 use Rattle.frame.specs.Choice.{pick}
 use Rattle.frame.specs.Result.{Result, accepted, refused}
 use Rattle.version.specs.List.{versionOf, majorOf, minorOf, temporaryOf}
-use Rattle.version.specs.Message.{toldReading, verdictOf, named, writeOf, readOf}
+use Rattle.version.specs.Message.{toldReading, verdictOf, named, writeOf, messageOf, readOf}
 use Rattle.version.specs.Told as says
 use Rattle.version.specs.Told.{Told, toldOutcome, told}
 use Rattle.version.specs.declared.Answer.{Answer}
@@ -23,6 +23,7 @@ use Rattle.version.specs.declared.Outcome as outcome-enum
 use Rattle.version.specs.declared.Outcome.the-variants as outcome-variants
 use Rattle.version.specs.declared.Verdict.{Verdict}
 use Rattle.version.specs.declared.Verdict.the-variants.{Continue, Success, Failure}
+use Rattle.version.proofs.Laws.{accepts-passed}
 
 -- ---- answers
 
@@ -98,13 +99,9 @@ same-named Success version control other = refl
 same-named Failure version control other = absurd (other refl)
 
 -- a message that is no failure comes back whole
-pub read-same : (m : Message) → m .version < 16777216 → (m .verdict ≡ Failure → ⊥) → readOf (writeOf m) ≡ accepted m
+pub read-same : (m : Message) → m .version < 16777216 → (m .verdict ≡ Failure → ⊥)
+    → readOf (writeOf m) ≡ accepted m
 read-same m h other = read-written m h ∙ same-named (m .verdict) (m .version) (m .control) other
-
-passed : (ok : Bool) (x m : Message) → pick ok (accepted x) (refused 10) ≡ accepted m → (ok ≡ true) × (x ≡ m)
-unfolding pick
-passed true x m h = (refl, cc)
-passed false x m h = (cc, cc)
 
 -- The first six bytes of a message that is read, and is no failure, are those that it writes.
 module _ (b0 b2 b3 b4 b5 : ℕ) (rest : List ℕ) (x : b2 < 256) (y : b3 < 256) (z : b4 < 256) (m : Message) where
@@ -118,16 +115,22 @@ module _ (b0 b2 b3 b4 b5 : ℕ) (rest : List ℕ) (x : b2 < 256) (y : b3 < 256) 
   by-result (suc (suc zero)) l other type = absurd (other refl)
   by-result (suc (suc (suc n))) l other type = absurd (omega arith)
 
-  restored : (b1 : ℕ) → readOf (b0 ∷ b1 ∷ b2 ∷ b3 ∷ b4 ∷ b5 ∷ rest) ≡ accepted m → (m .verdict ≡ Failure → ⊥)
+  restored : (b1 : ℕ) → readOf (b0 ∷ b1 ∷ b2 ∷ b3 ∷ b4 ∷ b5 ∷ rest) ≡ accepted m
+      → (m .verdict ≡ Failure → ⊥)
       → take 6 (writeOf m) ≡ b0 ∷ b1 ∷ b2 ∷ b3 ∷ b4 ∷ b5 ∷ []
   unfolding readOf
   restored b1 h other =
-      let both = passed (eqb b0 0 && leb b1 2) _ m h in
+      let bytes : List ℕ = b0 ∷ b1 ∷ b2 ∷ b3 ∷ b4 ∷ b5 ∷ rest in
+      let both = accepts-passed (eqb b0 0 && leb b1 2) (accepted (messageOf bytes)) 10 h in
       let tests = and-eq-true-iff (eqb b0 0) (leb b1 2) .0 (both .0) in
-      ap (λ (k : Message). take 6 (writeOf k)) (sym (both .1))
-      ∙ by-result b1 (leb-true b1 2 (tests .1)) (λ f. other (sym (ap (λ (k : Message). k .verdict) (both .1)) ∙ f)) (eqb-true b0 0 (tests .0))
+      let same : messageOf bytes ≡ m = cc (both .1) in
+      let whole : verdictOf b1 ≡ Failure → ⊥ =
+      λ f. other (sym (ap (λ (k : Message). k .verdict) same) ∙ f) in
+      ap (λ (k : Message). take 6 (writeOf k)) (sym same)
+      ∙ by-result b1 (leb-true b1 2 (tests .1)) whole (eqb-true b0 0 (tests .0))
 
-pub written-read : (b : List ℕ) → length b ≡ 8 → ((n : ℕ) → getD b n 0 < 256) → (m : Message) → readOf b ≡ accepted m
+pub written-read : (b : List ℕ) → length b ≡ 8 → ((n : ℕ) → getD b n 0 < 256) → (m : Message)
+    → readOf b ≡ accepted m
     → (m .verdict ≡ Failure → ⊥) → take 6 (writeOf m) ≡ take 6 b
 written-read [] eight bound m h other = absurd (omega arith)
 written-read (b0 ∷ []) eight bound m h other = absurd (omega arith)

@@ -1,6 +1,6 @@
--- A law for each path through the code: what the tests on it found and what the callees answered give the answer that
--- the definition has. Each function's laws are a ruleset, which its proof searches; before them stand the facts on lists
--- that they rest on.
+-- A law for each path through the code: what the tests on it found and what the callees answered
+-- give the answer that the definition has. Each function's laws are a ruleset, which its proof
+-- searches; before them stand the facts on lists that they rest on.
 -- Assumes nothing.
 use Prim.Native.Nat.{ℕ, zero, suc, _+_, _*_, _/_, _-_, _<_, _≤_, min}
 use mathlib.Core.Path.{_≡_, refl, sym, ap, _∙_}
@@ -9,15 +9,15 @@ use mathlib.Core.List.{List, [], _∷_, _++_}
 use native.Mathlib.Omega.{arith}
 use native.Mathlib.Numerals.{add-one}
 use borrow.Author.Tests.{le-leb, lt-leb, lt-ltb, le-ltb, eq-eqb, ne-eqb}
-use lib.Dec.{eqb, leb, ltb}
+use lib.Dec.{eqb, leb}
 use lib.ListN.{length, getD, take, drop, replicate, length-take, length-drop, drop-of-length-le, List·getD-eq-default}
 use lib.Seq.{drop-cons, take-suc, getD-take, length-take-le, ext-getD}
 use Rattle.frame.proofs.Choice.{pick-true, pick-false}
 use Rattle.frame.specs.Choice.{pick}
-use Rattle.frame.specs.Count.{incrementOf, wordOf}
-use Rattle.frame.specs.Result.{accepted, refused}
-use Rattle.version.specs.List.{versionOf, versionsIn, lent, rising, places, listOf, listedOf, at, Place, nowhere, here, orElse, toldFound, placeOf, placeBelow, find, findBelow}
-use Rattle.version.specs.Message.{verdictOf, writeOf, toldReading, readOf}
+use Rattle.frame.specs.Count.{wordOf}
+use Rattle.frame.specs.Result.{Result, accepted, refused}
+use Rattle.version.specs.List.{versionOf, versionsIn, lent, rising, places, listOf, listedOf, Place, nowhere, here, toldFound, placeOf, placeBelow, find, findBelow}
+use Rattle.version.specs.Message.{verdictOf, toldReading, readOf}
 use Rattle.version.specs.Table.{Trigger, periodDue, successOther, successBelow2, success2, continueSame, continueLower, continueHigher, continueNone, limitDue, Entry, toldEntry, chargerCell, vehicleCell, cellOf}
 use Rattle.version.specs.Talk.{keepsTiming, settling, doing, triggered, successTrigger, elseTrigger, continueAt, continueTrigger, heardTrigger, hearJudged, hearOf, closed, nextPeriod, nextAge, aged, tickTalking, tickSettled, tickState, tickOf, functionsState, functionsHeardOf}
 use Rattle.version.specs.Told.{Told, Outcome, agreed, silently, refusing, ownVersion, saying}
@@ -38,6 +38,14 @@ use Rattle.version.specs.declared.list.Found.the-variants.{Nowhere, Here
 use Rattle.version.specs.declared.table.Entry as entry-enum
 use Rattle.version.specs.declared.table.Entry.the-variants.{Settles}
 
+-- a choice that accepts passed its test
+pub accepts-passed : {A : Type 0} (test : Bool) (r : Result A) (n : ℕ) {x : A}
+    → pick test r (refused n) ≡ accepted x
+    → (test ≡ true) × (r ≡ accepted x)
+unfolding pick
+accepts-passed true r n h = (refl, h)
+accepts-passed false r n h = (cc, cc)
+
 -- ---- lent bytes
 
 -- Three bytes are a version.
@@ -49,7 +57,8 @@ versions-length (a ∷ b ∷ []) = refl
 versions-length (a ∷ b ∷ c ∷ s) = omega (arith, versions-length s)
 
 -- Three places on.
-three-on : (a b c : ℕ) (s : List ℕ) (k n : ℕ) → n ≡ suc (suc (suc k)) → getD (a ∷ b ∷ c ∷ s) n 0 ≡ getD s k 0
+three-on : (a b c : ℕ) (s : List ℕ) (k n : ℕ) → n ≡ suc (suc (suc k))
+    → getD (a ∷ b ∷ c ∷ s) n 0 ≡ getD s k 0
 three-on a b c s k n e = rw e
 
 -- A version is the number of its three bytes; past the last there is none.
@@ -81,7 +90,8 @@ lent-past s k h =
 
 pub ruleset lents = (lent-there, lent-past)
 
--- Rising from place i on: it goes on past a version below the next, stops at another, and holds at the last.
+-- Rising from place i on: it goes on past a version below the next, stops at another, and holds at
+-- the last.
 module _ (s : List ℕ) (i : ℕ) where
   two : i + 1 < length s → drop i s ≡ getD s i 0 ∷ getD s (i + 1) 0 ∷ drop (suc (i + 1)) s
   two h =
@@ -89,7 +99,8 @@ module _ (s : List ℕ) (i : ℕ) where
       let second : drop (i + 1) s ≡ getD s (i + 1) 0 ∷ drop (suc (i + 1)) s = drop-cons s (i + 1) 0 h in
       rw (first, ← add-one, second)
 
-  rising-on : i + 1 < length s → getD s i 0 < getD s (i + 1) 0 → rising (drop i s) ≡ rising (drop (i + 1) s)
+  rising-on : i + 1 < length s → getD s i 0 < getD s (i + 1) 0
+      → rising (drop i s) ≡ rising (drop (i + 1) s)
   unfolding rising
   rising-on h less =
       rw (two h, lt-ltb _ _ less) (ap rising (sym (drop-cons s (i + 1) 0 h)))
@@ -113,16 +124,19 @@ Rising s i = rising (versionsIn s) ≡ rising (drop i (versionsIn s))
 
 -- The code's comparison of a version, next, with the one before it, this.
 module _ (s : List ℕ) (i : ℕ) {next this : ℕ} where
-  pub rise-stops : next ≡ lent s (i + 1) → this ≡ lent s i → Rising s i → i + 1 < length s / 3 → next ≤ this
+  pub rise-stops : next ≡ lent s (i + 1) → this ≡ lent s i → Rising s i → i + 1 < length s / 3
+      → next ≤ this
       → false ≡ rising (versionsIn s)
   rise-stops n t inv h more =
       sym (inv ∙ rising-stops (versionsIn s) i (omega (arith, versions-length s)) (omega arith))
 
-  pub rise-on : next ≡ lent s (i + 1) → this ≡ lent s i → Rising s i → i + 1 < length s / 3 → this < next
+  pub rise-on : next ≡ lent s (i + 1) → this ≡ lent s i → Rising s i → i + 1 < length s / 3
+      → this < next
       → Rising s (i + 1)
   rise-on n t inv h less = inv ∙ rising-on (versionsIn s) i (omega (arith, versions-length s)) (omega arith)
 
-pub rise-ends : (s : List ℕ) (i : ℕ) → Rising s i → length s / 3 ≤ i + 1 → true ≡ rising (versionsIn s)
+pub rise-ends : (s : List ℕ) (i : ℕ) → Rising s i → length s / 3 ≤ i + 1
+    → true ≡ rising (versionsIn s)
 rise-ends s i inv h = sym (inv ∙ rising-ends (versionsIn s) i (omega (arith, versions-length s)))
 
 pub ruleset rises = (rise-stops, rise-on, rise-ends)
@@ -161,7 +175,8 @@ pub places-each : (s : List ℕ) {a b c d e f g h : ℕ}
 places-each s i j k l m n o p = rw (i, j, k, l, m, n, o, p) (sym (each 8 8 (omega arith) (versionsIn s)))
 
 -- Looking for a version from place i on: it is there, it goes on, or it ends.
-place-here : (s : List ℕ) (version i : ℕ) → i < length s → getD s i 0 ≡ version → here i ≡ placeOf (drop i s) version i
+place-here : (s : List ℕ) (version i : ℕ) → i < length s → getD s i 0 ≡ version
+    → here i ≡ placeOf (drop i s) version i
 unfolding placeOf pick
 place-here s version i h e = rw (drop-cons s i 0 h, eq-eqb _ _ e)
 
@@ -175,18 +190,22 @@ unfolding placeOf
 place-ends s version i h = rw (drop-of-length-le s h)
 
 -- Looking below a version, from the last place back.
-below-last : (s : List ℕ) (v version n : ℕ) → v < version → placeBelow (s ++ v ∷ []) version n ≡ here (n + length s)
+below-last : (s : List ℕ) (v version n : ℕ) → v < version
+    → placeBelow (s ++ v ∷ []) version n ≡ here (n + length s)
 unfolding placeBelow pick
 below-last [] v version n h = rw (lt-ltb _ _ h) (ap here (omega arith))
 below-last (w ∷ s) v version n h = rw (below-last s v version (n + 1) h) (ap here (omega arith))
 
-below-here : (s : List ℕ) (version i : ℕ) → i < length s → getD s i 0 < version → here i ≡ placeBelow (take (i + 1) s) version 0
+below-here : (s : List ℕ) (version i : ℕ) → i < length s → getD s i 0 < version
+    → here i ≡ placeBelow (take (i + 1) s) version 0
 below-here s version i h less =
     let ends : take (i + 1) s ≡ take i s ++ getD s i 0 ∷ [] = rw add-one (take-suc s i 0 h) in
     let place : 0 + length (take i s) ≡ i = omega (arith, length-take-le i s (omega arith)) in
-    sym (ap (λ (l : List ℕ). placeBelow l version 0) ends ∙ below-last (take i s) (getD s i 0) version 0 less ∙ ap here place)
+    let last = below-last (take i s) (getD s i 0) version 0 less in
+    sym (ap (λ (l : List ℕ). placeBelow l version 0) ends ∙ last ∙ ap here place)
 
-not-last : (s : List ℕ) (v version n : ℕ) → version ≤ v → placeBelow (s ++ v ∷ []) version n ≡ placeBelow s version n
+not-last : (s : List ℕ) (v version n : ℕ) → version ≤ v
+    → placeBelow (s ++ v ∷ []) version n ≡ placeBelow s version n
 unfolding placeBelow pick
 not-last [] v version n h = rw (le-ltb _ _ h)
 not-last (w ∷ s) v version n h = rw (not-last s v version (n + 1) h)
@@ -199,72 +218,88 @@ below-on s version i h more =
 
 -- ---- places in a list that is kept
 
--- The versions that stand are among the eight places.
-stand : (numbers : List ℕ) (n count : ℕ) → length numbers ≡ 8 → count ≡ min n 8 → take count numbers ≡ take n numbers
-stand numbers n count eight stands =
-    ext-getD 0 (take count numbers) (take n numbers) (omega (arith, length-take count numbers, length-take n numbers)) (λ i h.
-    let less : i < count = omega (arith, length-take count numbers) in
-    getD-take count numbers i 0 less ∙ sym (getD-take n numbers i 0 (omega arith)))
-
 -- past the eighth place there is no version
-pub at-past : (numbers : List ℕ) (place : ℕ) → length numbers ≡ 8 → 8 ≤ place → 0 ≡ getD numbers place 0
+pub at-past : (numbers : List ℕ) (place : ℕ) → length numbers ≡ 8 → 8 ≤ place
+    → 0 ≡ getD numbers place 0
 at-past numbers place eight h =
     let past : length numbers ≤ place = omega arith in sym (List·getD-eq-default numbers 0 past)
 
 -- upward: what is sought stands from place i on, if anywhere
 abbrev pub Seeking : List ℕ → ℕ → ℕ → ℕ → Type 0
-Seeking numbers version count i = placeOf (take count numbers) version 0 ≡ placeOf (drop i (take count numbers)) version i
-
-module _ (numbers : List ℕ) (n version : ℕ) {count : ℕ} (eight : length numbers ≡ 8) (stands : count ≡ min n 8) where
-  inside : {i : ℕ} → i < count → (i < length (take count numbers)) × (getD (take count numbers) i 0 ≡ getD numbers i 0)
-  inside {i} h = (omega (arith, length-take count numbers), getD-take count numbers i 0 h)
-
-  found-too : placeOf (take count numbers) version 0 ≡ placeOf (take n numbers) version 0
-  found-too = ap (λ (l : List ℕ). placeOf l version 0) (stand numbers n count eight stands)
-
-  pub seek-here : {i : ℕ} → i < count → Seeking numbers version count i → getD numbers i 0 ≡ version
-      → here i ≡ placeOf (take n numbers) version 0
-  seek-here {i} h inv e =
-      place-here (take count numbers) version i (inside h .0) (inside h .1 ∙ e) ∙ sym inv ∙ found-too
-
-  pub seek-on : {i : ℕ} → i < count → Seeking numbers version count i → (getD numbers i 0 ≡ version → ⊥)
-      → Seeking numbers version count (i + 1)
-  seek-on {i} h inv e =
-      inv ∙ place-on (take count numbers) version i (inside h .0) (λ same. e (sym (inside h .1) ∙ same))
-
-  pub seek-ends : {i : ℕ} → count ≤ i → Seeking numbers version count i → nowhere ≡ placeOf (take n numbers) version 0
-  seek-ends {i} h inv =
-      sym (inv ∙ place-ends (take count numbers) version i (omega (arith, length-take count numbers))) ∙ found-too
-
-pub ruleset seeks = (seek-here, seek-on, seek-ends)
+Seeking numbers version count i =
+    placeOf (take count numbers) version 0 ≡ placeOf (drop i (take count numbers)) version i
 
 -- downward: what is sought stands before place i, if anywhere
 abbrev pub Sinking : List ℕ → ℕ → ℕ → ℕ → Type 0
-Sinking numbers version count i = placeBelow (take count numbers) version 0 ≡ placeBelow (take i numbers) version 0
+Sinking numbers version count i =
+    placeBelow (take count numbers) version 0 ≡ placeBelow (take i numbers) version 0
 
 back : (numbers : List ℕ) (version i : ℕ) → 0 < i
     → placeBelow (take (i - 1 + 1) numbers) version 0 ≡ placeBelow (take i numbers) version 0
 back numbers version i h =
-    let same : i - 1 + 1 ≡ i = omega arith in ap (λ (k : ℕ). placeBelow (take k numbers) version 0) same
+    let same : i - 1 + 1 ≡ i = omega arith in
+    ap (λ (k : ℕ). placeBelow (take k numbers) version 0) same
 
-module _ (numbers : List ℕ) (n version : ℕ) {count : ℕ} (eight : length numbers ≡ 8) (stands : count ≡ min n 8) where
-  standing-too : placeBelow (take count numbers) version 0 ≡ placeBelow (take n numbers) version 0
-  standing-too = ap (λ (l : List ℕ). placeBelow l version 0) (stand numbers n count eight stands)
+module _ (numbers : List ℕ) (n version : ℕ) {count : ℕ}
+    (eight : length numbers ≡ 8) (stands : count ≡ min n 8) where
+  -- the versions that stand are among the eight places, so what is found there is found among them
+  stand : take count numbers ≡ take n numbers
+  stand =
+      let same : length (take count numbers) ≡ length (take n numbers) =
+      omega (arith, length-take count numbers, length-take n numbers) in
+      ext-getD 0 (take count numbers) (take n numbers) same (λ i h.
+      let less : i < count = omega (arith, length-take count numbers) in
+      getD-take count numbers i 0 less ∙ sym (getD-take n numbers i 0 (omega arith)))
 
-  pub sink-here : {i : ℕ} → 0 < i → i ≤ count → Sinking numbers version count i → getD numbers (i - 1) 0 < version
+  found-too : (search : List ℕ → ℕ → ℕ → Place)
+      → search (take count numbers) version 0 ≡ search (take n numbers) version 0
+  found-too search = ap (λ (l : List ℕ). search l version 0) stand
+
+  inside : {i : ℕ} → i < count
+      → (i < length (take count numbers)) × (getD (take count numbers) i 0 ≡ getD numbers i 0)
+  inside {i} h = (omega (arith, length-take count numbers), getD-take count numbers i 0 h)
+
+  pub seek-here : {i : ℕ} → i < count → Seeking numbers version count i → getD numbers i 0 ≡ version
+      → here i ≡ placeOf (take n numbers) version 0
+  seek-here {i} h inv e =
+      place-here (take count numbers) version i (inside h .0) (inside h .1 ∙ e)
+      ∙ sym inv ∙ found-too placeOf
+
+  pub seek-on : {i : ℕ} → i < count → Seeking numbers version count i
+      → (getD numbers i 0 ≡ version → ⊥)
+      → Seeking numbers version count (i + 1)
+  seek-on {i} h inv e =
+      inv
+      ∙ place-on (take count numbers) version i (inside h .0) (λ same. e (sym (inside h .1) ∙ same))
+
+  pub seek-ends : {i : ℕ} → count ≤ i → Seeking numbers version count i
+      → nowhere ≡ placeOf (take n numbers) version 0
+  seek-ends {i} h inv =
+      let past : length (take count numbers) ≤ i = omega (arith, length-take count numbers) in
+      sym (inv ∙ place-ends (take count numbers) version i past) ∙ found-too placeOf
+
+  pub sink-here : {i : ℕ} → 0 < i → i ≤ count → Sinking numbers version count i
+      → getD numbers (i - 1) 0 < version
       → here (i - 1) ≡ placeBelow (take n numbers) version 0
   sink-here {i} h within inv less =
-      below-here numbers version (i - 1) (omega arith) less ∙ back numbers version i h ∙ sym inv ∙ standing-too
+      below-here numbers version (i - 1) (omega arith) less
+      ∙ back numbers version i h ∙ sym inv ∙ found-too placeBelow
 
-  pub sink-on : {i : ℕ} → 0 < i → i ≤ count → Sinking numbers version count i → version ≤ getD numbers (i - 1) 0
+  pub sink-on : {i : ℕ} → 0 < i → i ≤ count → Sinking numbers version count i
+      → version ≤ getD numbers (i - 1) 0
       → Sinking numbers version count (i - 1)
-  sink-on {i} h within inv more = inv ∙ sym (back numbers version i h) ∙ below-on numbers version (i - 1) (omega arith) more
+  sink-on {i} h within inv more =
+      inv ∙ sym (back numbers version i h) ∙ below-on numbers version (i - 1) (omega arith) more
 
-  pub sink-ends : {i : ℕ} → i ≤ 0 → Sinking numbers version count i → nowhere ≡ placeBelow (take n numbers) version 0
+  pub sink-ends : {i : ℕ} → i ≤ 0 → Sinking numbers version count i
+      → nowhere ≡ placeBelow (take n numbers) version 0
   unfolding placeBelow
   sink-ends {i} h inv =
       let none : i ≡ 0 = omega arith in
-      sym (ap (λ (k : ℕ). placeBelow (take k numbers) version 0) none) ∙ sym inv ∙ standing-too
+      sym (ap (λ (k : ℕ). placeBelow (take k numbers) version 0) none)
+      ∙ sym inv ∙ found-too placeBelow
+
+pub ruleset seeks = (seek-here, seek-on, seek-ends)
 
 pub ruleset sinks = (sink-here, sink-on, sink-ends)
 
@@ -280,12 +315,14 @@ module _ (s : List ℕ) {r : Listed} where
   list-many e h = rw (versions-length s, le-leb 1 (length s / 3) (omega arith), lt-leb (length s / 3) 8 h) e
 
   module _ (low : 1 ≤ length s / 3) (high : length s / 3 ≤ 8) where
-    pub list-torn : r ≡ listedOf (refused 11) → (length s ≡ 3 * (length s / 3) → ⊥) → r ≡ listedOf (listOf s)
+    pub list-torn : r ≡ listedOf (refused 11) → (length s ≡ 3 * (length s / 3) → ⊥)
+        → r ≡ listedOf (listOf s)
     unfolding listOf pick
     list-torn e h =
         rw (versions-length s, le-leb 1 (length s / 3) low, le-leb (length s / 3) 8 high, ne-eqb _ _ h) e
 
-    pub list-mixed : {up : Bool} → r ≡ listedOf (refused 11) → up ≡ rising (versionsIn s) → up ≡ false
+    pub list-mixed : {up : Bool} → r ≡ listedOf (refused 11) → up ≡ rising (versionsIn s)
+        → up ≡ false
         → length s ≡ 3 * (length s / 3)
         → r ≡ listedOf (listOf s)
     unfolding listOf pick
@@ -377,11 +414,13 @@ pub ruleset sayings = (said, said-agreed)
 
 -- ---- the table
 
-pub by-charger : (state : State) (k : Trigger) {a : Entry} {side : Side} → a ≡ chargerCell state k → side ≡ Charger
+pub by-charger : (state : State) (k : Trigger) {a : Entry} {side : Side}
+    → a ≡ chargerCell state k → side ≡ Charger
     → a ≡ cellOf side state k
 by-charger state k e side = e ∙ ap (λ (x : Side). cellOf x state k) (sym side)
 
-pub by-vehicle : (state : State) (k : Trigger) {a : Entry} {side : Side} → a ≡ vehicleCell state k → side ≡ Vehicle
+pub by-vehicle : (state : State) (k : Trigger) {a : Entry} {side : Side}
+    → a ≡ vehicleCell state k → side ≡ Vehicle
     → a ≡ cellOf side state k
 by-vehicle state k e side = e ∙ ap (λ (x : Side). cellOf x state k) (sym side)
 
@@ -389,10 +428,12 @@ pub ruleset cells = (by-charger, by-vehicle)
 
 module _ (t : Talker) (version : ℕ) {a : Told} {e : entry-enum.Entry} where
   -- an entry that is known
-  pub by-entry : {f : entry-enum.Entry} → e ≡ f → a ≡ doing t version (toldEntry f) → a ≡ doing t version (toldEntry e)
+  pub by-entry : {f : entry-enum.Entry} → e ≡ f → a ≡ doing t version (toldEntry f)
+      → a ≡ doing t version (toldEntry e)
   by-entry known d = d ∙ ap (λ (x : entry-enum.Entry). doing t version (toldEntry x)) (sym known)
 
-  pub by-settles : {timing : Bool} → e ≡ Settles → a ≡ settling t S3 timing → timing ≡ keepsTiming (t .side)
+  pub by-settles : {timing : Bool} → e ≡ Settles → a ≡ settling t S3 timing
+      → timing ≡ keepsTiming (t .side)
       → a ≡ doing t version (toldEntry e)
   unfolding doing
   by-settles known d keeps = by-entry known (d ∙ ap (λ (x : Bool). settling t S3 x) keeps)
@@ -400,7 +441,8 @@ module _ (t : Talker) (version : ℕ) {a : Told} {e : entry-enum.Entry} where
 pub ruleset entries = (by-entry, by-settles)
 
 -- a trigger whose cell was looked up
-pub by-cell : (t : Talker) (version : ℕ) (k : Trigger) {a : Told} {e : Entry} → a ≡ doing t version e
+pub by-cell : (t : Talker) (version : ℕ) (k : Trigger) {a : Told} {e : Entry}
+    → a ≡ doing t version e
     → e ≡ cellOf (t .side) (t .state) k
     → a ≡ triggered t version k
 by-cell t version k d e = d ∙ ap (λ (x : Entry). doing t version x) e
@@ -408,17 +450,20 @@ by-cell t version k d e = d ∙ ap (λ (x : Entry). doing t version x) e
 -- ---- what a message is a trigger for
 
 module _ (t : Talker) (version : ℕ) {own : ℕ} where
-  pub success-below2 : own ≡ ownVersion t → version ≡ own → version < 131072 → successBelow2 ≡ successTrigger t version
+  pub success-below2 : own ≡ ownVersion t → version ≡ own → version < 131072
+      → successBelow2 ≡ successTrigger t version
   unfolding successTrigger
   success-below2 at-ns same below =
       pick-true _ (eq-eqb version (ownVersion t) (same ∙ at-ns)) (pick-true _ (lt-ltb version 131072 below) refl)
 
-  pub success-from2 : own ≡ ownVersion t → version ≡ own → 131072 ≤ version → success2 ≡ successTrigger t version
+  pub success-from2 : own ≡ ownVersion t → version ≡ own → 131072 ≤ version
+      → success2 ≡ successTrigger t version
   unfolding successTrigger
   success-from2 at-ns same above =
       pick-true _ (eq-eqb version (ownVersion t) (same ∙ at-ns)) (pick-false _ (le-ltb version 131072 above) refl)
 
-  pub success-other : own ≡ ownVersion t → (version ≡ own → ⊥) → successOther ≡ successTrigger t version
+  pub success-other : own ≡ ownVersion t → (version ≡ own → ⊥)
+      → successOther ≡ successTrigger t version
   unfolding successTrigger
   success-other at-ns other = pick-false _ (ne-eqb version (ownVersion t) (λ e. other (e ∙ sym at-ns))) refl
 
@@ -427,19 +472,22 @@ module _ (t : Talker) (version : ℕ) {own : ℕ} where
   else-lower at-ns less = pick-true _ (lt-ltb (ownVersion t) version (omega arith)) refl
 
   module _ {f : Found} where
-    pub else-none : own ≡ ownVersion t → version ≤ own → toldFound f ≡ findBelow (t .versions) version → f ≡ Nowhere
+    pub else-none : own ≡ ownVersion t → version ≤ own
+        → toldFound f ≡ findBelow (t .versions) version → f ≡ Nowhere
         → continueNone ≡ elseTrigger t version
     unfolding elseTrigger pick
     else-none at-ns more found e = rw (le-ltb (ownVersion t) version (omega arith), ← found, e)
 
-    pub else-higher : own ≡ ownVersion t → version ≤ own → toldFound f ≡ findBelow (t .versions) version → {n : ℕ}
+    pub else-higher : own ≡ ownVersion t → version ≤ own
+        → toldFound f ≡ findBelow (t .versions) version → {n : ℕ}
         → f ≡ Here n
         → continueHigher ≡ elseTrigger t version
     unfolding elseTrigger pick
     else-higher at-ns more found e = rw (le-ltb (ownVersion t) version (omega arith), ← found, e)
 
 module _ (t : Talker) (version : ℕ) {f : Found} where
-  pub continue-else : {k : Trigger} → k ≡ elseTrigger t version → toldFound f ≡ find (t .versions) version → f ≡ Nowhere
+  pub continue-else : {k : Trigger} → k ≡ elseTrigger t version
+      → toldFound f ≡ find (t .versions) version → f ≡ Nowhere
       → k ≡ continueTrigger t version
   unfolding continueTrigger
   continue-else k found e = k ∙ ap (continueAt t version) (ap toldFound (sym e) ∙ found)
@@ -450,7 +498,8 @@ module _ (t : Talker) (version : ℕ) {f : Found} where
   continue-same found e = ap (continueAt t version) (ap toldFound (sym e) ∙ found)
 
 -- a result that is known
-pub by-verdict : (t : Talker) (version : ℕ) {k : Trigger} {v w : Verdict} → v ≡ w → k ≡ heardTrigger t version w
+pub by-verdict : (t : Talker) (version : ℕ) {k : Trigger} {v w : Verdict} → v ≡ w
+    → k ≡ heardTrigger t version w
     → k ≡ heardTrigger t version v
 by-verdict t version e k = k ∙ ap (heardTrigger t version) (sym e)
 
@@ -475,7 +524,8 @@ module _ (t : Talker) (b : List ℕ) {r : MessageReading} {a : Told} where
   hear-message {m = m} read e heard d =
       d ∙ ap (λ (x : Trigger). triggered t (m .version) x) heard ∙ ap (hearJudged t) (ap toldReading (sym e) ∙ read)
 
-  pub hear-refused : {number : ℕ} → toldReading r ≡ readOf b → r ≡ readings.Refused number → a ≡ refusing t number
+  pub hear-refused : {number : ℕ} → toldReading r ≡ readOf b → r ≡ readings.Refused number
+      → a ≡ refusing t number
       → a ≡ hearOf t b
   unfolding hearOf hearJudged
   hear-refused read e d = d ∙ ap (hearJudged t) (ap toldReading (sym e) ∙ read)
@@ -485,12 +535,14 @@ pub ruleset hears = (hear-message, hear-refused)
 -- ---- a tick
 
 module _ (t : Talker) {a : Told} where
-  pub talking-limit : {age : ℕ} → a ≡ triggered t 0 limitDue → age ≡ nextAge t → 15000 ≤ age → a ≡ tickTalking t
+  pub talking-limit : {age : ℕ} → a ≡ triggered t 0 limitDue → age ≡ nextAge t → 15000 ≤ age
+      → a ≡ tickTalking t
   unfolding tickTalking
   talking-limit d g late = pick-true _ (le-leb 15000 (nextAge t) (omega arith)) d
 
   module _ {age period : ℕ} {n : Talker} where
-    pub talking-period : a ≡ triggered n 0 periodDue → n ≡ aged t (t .period) age → age ≡ nextAge t → age < 15000
+    pub talking-period : a ≡ triggered n 0 periodDue → n ≡ aged t (t .period) age
+        → age ≡ nextAge t → age < 15000
         → period ≡ nextPeriod t
         → 50 ≤ period
         → a ≡ tickTalking t
@@ -499,7 +551,8 @@ module _ (t : Talker) {a : Told} where
         pick-false _ (lt-leb 15000 (nextAge t) (omega arith))
         (pick-true _ (le-leb 50 (nextPeriod t) (omega arith)) (rw (← g, ← e) d))
 
-    pub talking-waits : a ≡ silently n → n ≡ aged t period age → age ≡ nextAge t → age < 15000 → period ≡ nextPeriod t
+    pub talking-waits : a ≡ silently n → n ≡ aged t period age → age ≡ nextAge t → age < 15000
+        → period ≡ nextPeriod t
         → period < 50
         → a ≡ tickTalking t
     unfolding tickTalking
@@ -511,13 +564,15 @@ module _ (t : Talker) {a : Told} where
   unfolding tickSettled
   settled-closed d off = pick-false _ off d
 
-  pub settled-period : {period : ℕ} → a ≡ triggered t 0 periodDue → t .timing ≡ true → period ≡ nextPeriod t
+  pub settled-period : {period : ℕ} → a ≡ triggered t 0 periodDue → t .timing ≡ true
+      → period ≡ nextPeriod t
       → 50 ≤ period
       → a ≡ tickSettled t
   unfolding tickSettled
   settled-period d on q due = pick-true _ on (pick-true _ (le-leb 50 (nextPeriod t) (omega arith)) d)
 
-  pub settled-waits : {period : ℕ} {n : Talker} → a ≡ silently n → n ≡ aged t period (t .age) → t .timing ≡ true
+  pub settled-waits : {period : ℕ} {n : Talker} → a ≡ silently n → n ≡ aged t period (t .age)
+      → t .timing ≡ true
       → period ≡ nextPeriod t
       → period < 50
       → a ≡ tickSettled t
@@ -534,7 +589,8 @@ module _ (t : Talker) {a : Told} where
   unfolding functionsHeardOf
   functions-in e d = d ∙ ap (functionsState t) (sym e)
 
-  pub functions-close : {n : Talker} → t .state ≡ S3 → n ≡ closed t → a ≡ silently n → a ≡ functionsHeardOf t
+  pub functions-close : {n : Talker} → t .state ≡ S3 → n ≡ closed t → a ≡ silently n
+      → a ≡ functionsHeardOf t
   unfolding functionsState
   functions-close e n d = functions-in e (cc)
 

@@ -1,5 +1,5 @@
--- Versions and the list of them. 001, 7.2.1, table 3: a version has a major, a minor and a temporary number; "the
--- comparison of versions is that of the numbers" (版本的比较即数字的大小比较).
+-- Versions and the list of them. 001, 7.2.1, table 3: a version has a major, a minor and a
+-- temporary number; "the comparison of versions is that of the numbers" (版本的比较即数字的大小比较).
 use Prim.Native.Nat.{ℕ, _+_, _-_, _*_, _/_, _%_}
 use mathlib.Core.Bool.{Bool, true, _&&_}
 use mathlib.Core.List.{List, [], _∷_, _++_}
@@ -51,19 +51,22 @@ places versions = take 8 (versions ++ replicate 8 0)
 abbrev pub placed : List ℕ → Versions
 placed versions = record { count = length versions; numbers = places versions }
 
--- refusals, version list: "11 not 1 to 8 strictly rising versions"; bytes that are no whole number of versions are no
--- list
+-- refusals, version list: "11 not 1 to 8 strictly rising versions"; bytes that are no whole number
+-- of versions are no list
 abbrev pub countFits : List ℕ → ℕ → Bool
 countFits bytes count = leb 1 count && leb count 8 && eqb (length bytes) (3 * count)
 
 abbrev pub ifRising : List ℕ → Result Versions
 ifRising versions = pick (rising versions) (accepted (placed versions)) (refused 11)
 
-unfoldable pub listOf : List ℕ → Result Versions
-listOf bytes = pick (countFits bytes (length (versionsIn bytes))) (ifRising (versionsIn bytes)) (refused 11)
+abbrev pub listFrom : List ℕ → List ℕ → Result Versions
+listFrom bytes versions = pick (countFits bytes (length versions)) (ifRising versions) (refused 11)
 
--- what listing answers, whole: an enum holds no array, so the list stands beside the outcome; where it is refused the
--- list is the one of no versions
+unfoldable pub listOf : List ℕ → Result Versions
+listOf bytes = listFrom bytes (versionsIn bytes)
+
+-- what listing answers, whole: an enum holds no array, so the list stands beside the outcome; where
+-- it is refused the list is the one of no versions
 abbrev pub listedOf : Result Versions → Listed
 listedOf (accepted v) = record { versions = v; outcome = Accepted }
 listedOf (refused number) = record { versions = placed []; outcome = Refused number }
@@ -100,7 +103,8 @@ abbrev pub orElse : Place → Place → Place
 orElse nowhere p = p
 orElse (here n) p = here n
 
--- the last place, counted from n, that holds a version below this one; in a rising list, the highest of them
+-- the last place, counted from n, that holds a version below this one; in a rising list, the
+-- highest of them
 unfoldable pub placeBelow : List ℕ → ℕ → ℕ → Place
 placeBelow [] version n = nowhere
 placeBelow (v ∷ more) version n =

@@ -1,7 +1,7 @@
--- The version message. 001, tables 6 and 7: CAN type, result, version (three bytes), control-pilot version, transport
--- version, reserved; eight bytes in all, the same for both sides.
+-- The version message. 001, tables 6 and 7: CAN type, result, version (three bytes), control-pilot
+-- version, transport version, reserved; eight bytes in all, the same for both sides.
 use Prim.Native.Nat.{ℕ}
-use mathlib.Core.Bool.{_&&_}
+use mathlib.Core.Bool.{Bool, _&&_}
 use mathlib.Core.List.{List, [], _∷_}
 use lib.Dec.{eqb, leb}
 use lib.ListN.{getD}
@@ -29,11 +29,12 @@ named Continue version = version
 named Success version = version
 named Failure version = versionOf 0xFF 0xFF 0xFF
 
--- "Control-pilot, transport-version and reserved bytes .. are written as the caller's byte, 0x01 and 0xFF"; CAN type
--- 0x00 is CAN 2.0B
+-- "Control-pilot, transport-version and reserved bytes .. are written as the caller's byte, 0x01
+-- and 0xFF"; CAN type 0x00 is CAN 2.0B
 abbrev pub bytesOf : Verdict → ℕ → ℕ → List ℕ
 bytesOf verdict version control =
-    0x00 ∷ verdictByte verdict ∷ majorOf version ∷ minorOf version ∷ temporaryOf version ∷ control ∷ 0x01 ∷ 0xFF ∷ []
+    0x00 ∷ verdictByte verdict ∷ majorOf version ∷ minorOf version ∷ temporaryOf version
+    ∷ control ∷ 0x01 ∷ 0xFF ∷ []
 
 unfoldable pub writeOf : Message → List ℕ
 writeOf m = bytesOf (m .verdict) (named (m .verdict) (m .version)) (m .control)
@@ -53,5 +54,8 @@ messageOf bytes =
     }
 
 -- refusals, message: "10 CAN type not 0 or result over 2"; nothing else is judged
+abbrev pub isMessage : List ℕ → Bool
+isMessage bytes = eqb (getD bytes 0 0) 0 && leb (getD bytes 1 0) 2
+
 unfoldable pub readOf : List ℕ → Result Message
-readOf bytes = pick (eqb (getD bytes 0 0) 0 && leb (getD bytes 1 0) 2) (accepted (messageOf bytes)) (refused 10)
+readOf bytes = pick (isMessage bytes) (accepted (messageOf bytes)) (refused 10)

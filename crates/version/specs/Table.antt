@@ -42,7 +42,8 @@ pub data Trigger : Type 0 where
 pub data Entry : Type 0 where
   -- "-": nothing is done
   nothing : Entry
-  -- 发送“继续协商”, 打开 T1、Tout0, 进入 S1: send continue with the version at Ns, start T1 and Tout0, enter S1
+  -- 发送“继续协商”, 打开 T1、Tout0, 进入 S1: send continue with the version at Ns, start T1 and Tout0, enter
+  -- S1
   opens : Entry
   -- 发送版本协商, 重置 T1, 保持 S1: send the version at Ns, reset T1, stay
   repeats : Entry
@@ -93,8 +94,8 @@ toldEntry entry-variants.Stays = stays
 toldEntry entry-variants.Lowers = lowers
 toldEntry entry-variants.Leaves = leaves
 
--- table 8, a definition for each row. Its S0 row prints one dash too many; S2 to S5 have one merged cell each, with no
--- transition.
+-- table 8, a definition for each row. Its S0 row prints one dash too many; S2 to S5 have one merged
+-- cell each, with no transition.
 abbrev pub chargerS0 : Trigger → Entry
 chargerS0 connected = opens
 chargerS0 periodDue = nothing

@@ -20,7 +20,8 @@ use Rattle.version.specs.declared.Verdict.{Verdict}
 use Rattle.version.specs.declared.Verdict.the-variants.{Continue, Success, Failure}
 use Rattle.version.specs.declared.Versions.{Versions}
 
--- a talker of a side with a list and a control-pilot byte: S0, Ns at the highest version, the result continue
+-- a talker of a side with a list and a control-pilot byte: S0, Ns at the highest version, the
+-- result continue
 unfoldable pub makeOf : Side → Versions → ℕ → Talker
 makeOf side versions control =
     record {
@@ -49,8 +50,8 @@ keepsTiming Vehicle = true
 abbrev pub pointed : Talker → Verdict → ℕ → Talker
 pointed t verdict place = moved t S1 verdict place (t .period) (t .age) false
 
--- What each entry does. "The message of S2, S3 or S4 goes out in the call that enters it." A new state starts T1 and
--- Tout0 anew; S2 to S5 have closed them but for the vehicle's T1 in S3.
+-- What each entry does. "The message of S2, S3 or S4 goes out in the call that enters it." A new
+-- state starts T1 and Tout0 anew; S2 to S5 have closed them but for the vehicle's T1 in S3.
 abbrev pub opening : Talker → Told
 opening t = saying (moved t S1 Continue (t .place) 0 0 false) quiet
 
@@ -96,7 +97,8 @@ doing t version leaves = leaving t
 abbrev pub triggered : Talker → ℕ → Trigger → Told
 triggered t version trigger = doing t version (cellOf (t .side) (t .state) trigger)
 
--- the physical connection is complete; a fault, or the other side opens its switch; the old protocol's greeting (CHM)
+-- the physical connection is complete; a fault, or the other side opens its switch; the old
+-- protocol's greeting (CHM)
 unfoldable pub connectOf : Talker → Told
 connectOf t = triggered t 0 connected
 
@@ -135,8 +137,8 @@ abbrev pub higherTrigger : Place → Trigger
 higherTrigger nowhere = continueNone
 higherTrigger (here n) = continueHigher
 
--- "a heard continue is the same when its version is in the own list, else lower and higher compare the version at Ns
--- with it"
+-- "a heard continue is the same when its version is in the own list, else lower and higher compare
+-- the version at Ns with it"
 unfoldable pub elseTrigger : Talker → ℕ → Trigger
 elseTrigger t version =
     pick (ltb (ownVersion t) version) continueLower (higherTrigger (findBelow (t .versions) version))

@@ -11,7 +11,8 @@ use Rattle.version.specs.declared.State.{State}
 use Rattle.version.specs.declared.Talker.{Talker}
 use Rattle.version.specs.declared.Verdict.{Verdict}
 
--- what a call reports: nothing; a refusal's number; entering S2 or S3, with the version; entering S4; entering S5
+-- what a call reports: nothing; a refusal's number; entering S2 or S3, with the version; entering
+-- S4; entering S5
 pub data Outcome : Type 0 where
   quiet : Outcome
   refused : ℕ → Outcome
@@ -27,8 +28,8 @@ toldOutcome (outcome-variants.Agreed version) = agreed version
 toldOutcome outcome-variants.Failed = failed
 toldOutcome outcome-variants.Left = left
 
--- a call's whole answer: the next state, whether a message goes out, its bytes (eight zeros where none does), what is
--- reported
+-- a call's whole answer: the next state, whether a message goes out, its bytes (eight zeros where
+-- none does), what is reported
 pub record Told : Type 0 where
   pub next : Talker
   pub emits : Bool
@@ -36,7 +37,13 @@ pub record Told : Type 0 where
   pub outcome : Outcome
 
 abbrev pub told : Answer → Told
-told a = record { next = a .next; emits = a .emits; bytes = a .bytes; outcome = toldOutcome (a .outcome) }
+told a =
+    record {
+      next = a .next;
+      emits = a .emits;
+      bytes = a .bytes;
+      outcome = toldOutcome (a .outcome);
+    }
 
 abbrev pub noBytes : List ℕ
 noBytes = 0 ∷ 0 ∷ 0 ∷ 0 ∷ 0 ∷ 0 ∷ 0 ∷ 0 ∷ []
@@ -59,14 +66,15 @@ ownVersion t = at (t .versions) (t .place)
 
 -- the talker's own message: its result and its version at Ns
 abbrev pub ownMessage : Talker → List ℕ
-ownMessage t = writeOf (record { verdict = t .verdict; version = ownVersion t; control = t .control })
+ownMessage t =
+    writeOf (record { verdict = t .verdict; version = ownVersion t; control = t .control })
 
 -- the next state and its own message, with what is reported
 abbrev pub saying : Talker → Outcome → Told
 saying t o = record { next = t; emits = true; bytes = ownMessage t; outcome = o }
 
--- the talker in a state, with a result, at a place of its list, T1 and Tout0 at these ticks; timing says whether T1
--- runs on in S3
+-- the talker in a state, with a result, at a place of its list, T1 and Tout0 at these ticks; timing
+-- says whether T1 runs on in S3
 abbrev pub moved : Talker → State → Verdict → ℕ → ℕ → ℕ → Bool → Talker
 moved t state verdict place period age timing =
     record {

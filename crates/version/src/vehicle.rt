@@ -1,5 +1,5 @@
-// Table 9 of 001, the vehicle's: a row for each state, a cell for each trigger. S2, S4 and S5 have no
-// transition.
+// Table 9 of 001, the vehicle's: a row for each state, a cell for each trigger. S2, S4 and S5 have
+// no transition.
 ghost use mathlib.Core.Path.{_≡_};
 ghost use Rattle.version.specs.Table.{
   toldTrigger,

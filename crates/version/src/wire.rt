@@ -44,8 +44,8 @@ fn verdict_byte(verdict: Verdict) -> u8
     }
 }
 
-// The result of a byte that is 0, 1 or 2. With an arm for each of them, the compiled code takes the byte
-// itself.
+// The result of a byte that is 0, 1 or 2. With an arm for each of them, the compiled code takes the
+// byte itself.
 fn verdict_of(byte: u8) -> Verdict
     ensures { λ r. ⌜ r ≡ verdictOf byte ⌝ }
 {
@@ -81,8 +81,8 @@ pub fn write(m: Message) -> [u8; 8]
     [0x00, result, high, middle, low, m.control, 0x01, 0xFF]
 }
 
-// The message of eight bytes, or refusal 10: CAN type not 0, or result over 2. Both are judged as one word,
-// which is the result where the type is 0.
+// The message of eight bytes, or refusal 10: CAN type not 0, or result over 2. Both are judged as
+// one word, which is the result where the type is 0.
 pub fn read(bytes: [u8; 8]) -> MessageReading
     ensures { λ r. ⌜ toldReading r ≡ readOf bytes ⌝ }
 {

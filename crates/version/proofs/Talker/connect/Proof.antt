@@ -1,4 +1,5 @@
--- `version::Talker::connect` meets its contract. It is that trigger, looked up in the talker's table.
+-- `version::Talker::connect` meets its contract. It is that trigger, looked up in the talker's
+-- table.
 -- Assumes nothing.
 use borrow.Author.Needs.{needs}
 use Rattle.version.specs.Talk.{connectOf}

@@ -1,4 +1,5 @@
--- `version::Talker::functions_heard` meets its contract. Each state has its own clause; S3 closes the timers.
+-- `version::Talker::functions_heard` meets its contract. Each state has its own clause; S3 closes
+-- the timers.
 -- Assumes nothing.
 use borrow.Author.Needs.{needs}
 use Rattle.version.specs.Talk.{functionsState}

@@ -1,4 +1,5 @@
--- `version::Talker::hear` meets its contract. What `read` refuses is refused; else the message's trigger is pulled.
+-- `version::Talker::hear` meets its contract. What `read` refuses is refused; else the message's
+-- trigger is looked up in the talker's table.
 -- Assumes nothing.
 use borrow.Author.Needs.{needs}
 use Rattle.version.proofs.Laws.{hears}

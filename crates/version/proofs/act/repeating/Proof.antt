@@ -1,4 +1,5 @@
--- `version::act::repeating` meets its contract. The message is that of the state that `moved` makes.
+-- `version::act::repeating` meets its contract. The message is that of the state that `moved`
+-- makes.
 -- Assumes nothing.
 use borrow.Author.Needs.{needs}
 use Rattle.version.proofs.Laws.{sayings}

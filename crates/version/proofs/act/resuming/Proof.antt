@@ -1,4 +1,5 @@
--- `version::act::resuming` meets its contract. The answer is that of the state that `moved` makes.
+-- `version::act::resuming` meets its contract. The answer is that of the talker that `pointed`
+-- makes.
 -- Assumes nothing.
 use borrow.Author.Needs.{needs}
 use Rattle.version.proofs.act.resuming.Statement.{statement}

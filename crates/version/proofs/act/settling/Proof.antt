@@ -1,4 +1,5 @@
--- `version::act::settling` meets its contract. The message is that of the state that `moved` makes, and the version that at Ns.
+-- `version::act::settling` meets its contract. The message is that of the state that `moved` makes,
+-- and the version that at Ns.
 -- Assumes nothing.
 use borrow.Author.Needs.{needs}
 use Rattle.version.proofs.Laws.{sayings}

@@ -1,5 +1,6 @@
--- `version::list::find` meets its contract. The invariant: the version stands from place i on, if anywhere. It holds past another
--- version, and the place or the end settles it. The measure is what is left of the list.
+-- `version::list::find` meets its contract. The invariant: the version stands from place i on, if
+-- anywhere. It holds past another version, and the place or the end settles it. The measure is what
+-- is left of the list.
 -- Assumes nothing.
 use Prim.Native.Nat.{_-_}
 use mathlib.Core.Path.{refl}

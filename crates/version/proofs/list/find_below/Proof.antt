@@ -1,5 +1,6 @@
--- `version::list::find_below` meets its contract. The invariant: the highest version below stands before place i, if anywhere. It
--- holds past a version that is not below, and a version below or the first place settles it. The measure is i.
+-- `version::list::find_below` meets its contract. The invariant: the highest version below stands
+-- before place i, if anywhere. It holds past a version that is not below, and a version below or
+-- the first place settles it. The measure is i.
 -- Assumes nothing.
 use Prim.Native.Nat.{_≤_}
 use mathlib.Core.Path.{refl}

@@ -1,4 +1,5 @@
--- `version::list::lent` meets its contract. A version's three bytes start at three times its place; past the last there is none.
+-- `version::list::lent` meets its contract. A version's three bytes start at three times its place;
+-- past the last there is none.
 -- Assumes nothing.
 use borrow.Author.Needs.{needs}
 use Rattle.version.proofs.Laws.{lents}

@@ -1,4 +1,5 @@
--- `version::list::list` meets its contract. The tests, and what `all_rising` and `numbers_of` promise, are those of the definition.
+-- `version::list::list` meets its contract. The tests, and what `rising` and `places` promise, are
+-- those of the definition.
 -- Assumes nothing.
 use borrow.Author.Needs.{needs}
 use Rattle.version.proofs.Laws.{lists}

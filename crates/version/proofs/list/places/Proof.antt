@@ -1,4 +1,5 @@
--- `version::list::places` meets its contract. The places hold the version at each, as the code reads them.
+-- `version::list::places` meets its contract. The places hold the version at each, as the code
+-- reads them.
 -- Assumes nothing.
 use borrow.Author.Needs.{needs}
 use Rattle.version.proofs.Laws.{places-each}

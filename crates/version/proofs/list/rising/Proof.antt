@@ -1,5 +1,6 @@
--- `version::list::rising` meets its contract. The invariant: the list rises just if it does from place i on. It holds past a
--- version below the next, another settles it, and so does the end. The measure is what is left of the list.
+-- `version::list::rising` meets its contract. The invariant: the list rises just if it does from
+-- place i on. It holds past a version below the next, another settles it, and so does the end. The
+-- measure is what is left of the list.
 -- Assumes nothing.
 use Prim.Native.Nat.{_≤_, _-_}
 use mathlib.Core.Path.{refl}

@@ -1,4 +1,5 @@
--- `version::talk::continue_trigger` meets its contract. `find` tells whether the version is in the list.
+-- `version::talk::continue_trigger` meets its contract. `find` tells whether the version is in the
+-- list.
 -- Assumes nothing.
 use borrow.Author.Needs.{needs}
 use Rattle.version.proofs.Laws.{triggers}

@@ -1,4 +1,5 @@
--- `version::talk::else_trigger` meets its contract. The test is that of the definition, and `find_below` settles the rest.
+-- `version::talk::else_trigger` meets its contract. The test is that of the definition, and
+-- `find_below` settles the rest.
 -- Assumes nothing.
 use borrow.Author.Needs.{needs}
 use Rattle.version.proofs.Laws.{triggers}

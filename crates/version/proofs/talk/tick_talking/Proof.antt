@@ -1,4 +1,5 @@
--- `version::talk::tick_talking` meets its contract. The tests are those of the definition, the limit first.
+-- `version::talk::tick_talking` meets its contract. The tests are those of the definition, the
+-- limit first.
 -- Assumes nothing.
 use borrow.Author.Needs.{needs}
 use Rattle.version.proofs.Laws.{ticks}

@@ -1,5 +1,5 @@
--- `version::wire::read` meets its contract. One word of CAN type and result is judged as the definition judges both; where
--- the type is 0 it is the result.
+-- `version::wire::read` meets its contract. One word of CAN type and result is judged as the
+-- definition judges both; where the type is 0 it is the result.
 -- Assumes nothing.
 use borrow.Author.Needs.{needs}
 use Rattle.version.proofs.Laws.{reads}

@@ -1,5 +1,5 @@
--- `version::wire::verdict_of` meets its contract. In each arm the byte is a number at which the definition computes, or none of
--- those before.
+-- `version::wire::verdict_of` meets its contract. In each arm the byte is a number at which the
+-- definition computes, or none of those before.
 -- Assumes nothing.
 use Rattle.version.proofs.Laws.{verdicts}
 use Rattle.version.proofs.wire.verdict_of.Statement.{statement}
