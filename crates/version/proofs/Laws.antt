@@ -16,12 +16,11 @@ use Rattle.frame.proofs.Choice.{pick-true, pick-false}
 use Rattle.frame.specs.Choice.{pick}
 use Rattle.frame.specs.Count.{wordOf}
 use Rattle.frame.specs.Result.{Result, accepted, refused}
-use Rattle.version.specs.List.{versionOf, versionsIn, lent, rising, places, listOf, listedOf, Place, nowhere, here, toldFound, placeOf, placeBelow, find, findBelow}
+use Rattle.version.specs.List.{versionOf, versionsIn, lent, rising, places, placed, ifRising, listOf, listedOf, Place, nowhere, here, toldFound, placeOf, placeBelow, find, findBelow}
 use Rattle.version.specs.Message.{verdictOf, toldReading, readOf}
 use Rattle.version.specs.Table.{Trigger, periodDue, successOther, successBelow2, success2, continueSame, continueLower, continueHigher, continueNone, limitDue, Entry, toldEntry, chargerCell, vehicleCell, cellOf}
 use Rattle.version.specs.Talk.{keepsTiming, settling, doing, triggered, successTrigger, elseTrigger, continueAt, continueTrigger, heardTrigger, hearJudged, hearOf, closed, nextPeriod, nextAge, aged, tickTalking, tickSettled, tickState, tickOf, functionsState, functionsHeardOf}
 use Rattle.version.specs.Told.{Told, Outcome, agreed, silently, refusing, ownVersion, saying}
-use Rattle.version.specs.declared.ListOutcome.the-variants.{Accepted}
 use Rattle.version.specs.declared.Listed.{Listed}
 use Rattle.version.specs.declared.Message.{Message}
 use Rattle.version.specs.declared.MessageReading.{MessageReading}
@@ -305,56 +304,60 @@ pub ruleset sinks = (sink-here, sink-on, sink-ends)
 
 -- ---- listing
 
-module _ (s : List ℕ) {r : Listed} where
-  pub list-few : r ≡ listedOf (refused 11) → length s / 3 < 1 → r ≡ listedOf (listOf s)
+module _ (s : List ℕ) where
+  -- as many versions as a list has, and no bytes left over
+  counted : 1 ≤ length s / 3 → length s / 3 ≤ 8 → length s ≡ 3 * (length s / 3)
+      → ifRising (versionsIn s) ≡ listOf s
   unfolding listOf pick
-  list-few e h = rw (versions-length s, lt-leb _ _ h) e
+  counted low high whole =
+      rw (
+        versions-length s,
+        le-leb 1 (length s / 3) low,
+        le-leb (length s / 3) 8 high,
+        eq-eqb _ _ whole,
+      )
 
-  pub list-many : r ≡ listedOf (refused 11) → 8 < length s / 3 → r ≡ listedOf (listOf s)
-  unfolding listOf pick
-  list-many e h = rw (versions-length s, le-leb 1 (length s / 3) (omega arith), lt-leb (length s / 3) 8 h) e
+  module _ {r : Listed} (e : r ≡ listedOf (refused 11)) where
+    pub list-few : length s / 3 < 1 → r ≡ listedOf (listOf s)
+    unfolding listOf pick
+    list-few few = rw (versions-length s, lt-leb _ _ few) e
 
-  module _ (low : 1 ≤ length s / 3) (high : length s / 3 ≤ 8) where
-    pub list-torn : r ≡ listedOf (refused 11) → (length s ≡ 3 * (length s / 3) → ⊥)
+    pub list-many : 8 < length s / 3 → r ≡ listedOf (listOf s)
+    unfolding listOf pick
+    list-many many =
+        rw (versions-length s, le-leb 1 (length s / 3) (omega arith), lt-leb (length s / 3) 8 many) e
+
+    pub list-torn : 1 ≤ length s / 3 → length s / 3 ≤ 8 → (length s ≡ 3 * (length s / 3) → ⊥)
         → r ≡ listedOf (listOf s)
     unfolding listOf pick
-    list-torn e h =
-        rw (versions-length s, le-leb 1 (length s / 3) low, le-leb (length s / 3) 8 high, ne-eqb _ _ h) e
-
-    pub list-mixed : {up : Bool} → r ≡ listedOf (refused 11) → up ≡ rising (versionsIn s)
-        → up ≡ false
-        → length s ≡ 3 * (length s / 3)
-        → r ≡ listedOf (listOf s)
-    unfolding listOf pick
-    list-mixed e u f whole =
+    list-torn low high torn =
         rw (
           versions-length s,
           le-leb 1 (length s / 3) low,
           le-leb (length s / 3) 8 high,
-          eq-eqb _ _ whole,
-          ← u,
-          f,
+          ne-eqb _ _ torn,
         )
         e
 
-pub list-whole : (s : List ℕ) {numbers : List ℕ} {up : Bool} → numbers ≡ places (versionsIn s)
-    → up ≡ rising (versionsIn s)
-    → up ≡ true
-    → 1 ≤ length s / 3
-    → length s / 3 ≤ 8
-    → length s ≡ 3 * (length s / 3)
-    → record { versions = record { count = length s / 3; numbers = numbers }; outcome = Accepted } ≡ listedOf (listOf s)
-unfolding listOf pick
-list-whole s e u t low high whole =
-    rw (
-      versions-length s,
-      le-leb 1 (length s / 3) low,
-      le-leb (length s / 3) 8 high,
-      eq-eqb _ _ whole,
-      ← u,
-      t,
-      e,
-    )
+    pub list-mixed : {up : Bool} → 1 ≤ length s / 3 → length s / 3 ≤ 8
+        → length s ≡ 3 * (length s / 3)
+        → up ≡ rising (versionsIn s)
+        → up ≡ false
+        → r ≡ listedOf (listOf s)
+    list-mixed low high whole u f =
+        e ∙ ap listedOf (pick-false _ (sym u ∙ f) refl ∙ counted low high whole)
+
+  pub list-whole : {numbers : List ℕ} {up : Bool} → numbers ≡ places (versionsIn s)
+      → 1 ≤ length s / 3
+      → length s / 3 ≤ 8
+      → length s ≡ 3 * (length s / 3)
+      → up ≡ rising (versionsIn s)
+      → up ≡ true
+      → listedOf (accepted (record { count = length s / 3; numbers = numbers })) ≡ listedOf (listOf s)
+  list-whole {numbers = numbers} e low high whole u t =
+      let kept : record { count = length s / 3; numbers = numbers } ≡ placed (versionsIn s) =
+      rw (versions-length s, e) in
+      ap listedOf (pick-true _ (sym u ∙ t) (ap accepted kept) ∙ counted low high whole)
 
 pub ruleset lists = (list-few, list-many, list-torn, list-mixed, list-whole)
 
