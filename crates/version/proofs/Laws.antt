@@ -48,7 +48,7 @@ accepts-passed false r n h = (cc, cc)
 -- ---- lent bytes
 
 -- Three bytes are a version.
-versions-length : (s : List ℕ) → length (versionsIn s) ≡ length s / 3
+pub versions-length : (s : List ℕ) → length (versionsIn s) ≡ length s / 3
 unfolding versionsIn
 versions-length [] = refl
 versions-length (a ∷ []) = refl
@@ -61,7 +61,7 @@ three-on : (a b c : ℕ) (s : List ℕ) (k n : ℕ) → n ≡ suc (suc (suc k))
 three-on a b c s k n e = rw e
 
 -- A version is the number of its three bytes; past the last there is none.
-versions-at : (s : List ℕ) (k : ℕ) → k < length s / 3
+pub versions-at : (s : List ℕ) (k : ℕ) → k < length s / 3
     → versionOf (getD s (3 * k) 0) (getD s (3 * k + 1) 0) (getD s (3 * k + 2) 0) ≡ lent s k
 unfolding versionsIn
 versions-at [] k h = absurd (omega arith)
