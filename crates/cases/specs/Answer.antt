@@ -4,9 +4,9 @@ use mathlib.Core.Bool.{Bool}
 use mathlib.Core.List.{List, [], _∷_, _++_}
 use lib.Dec.{eqb}
 use lib.ListN.{replicate}
+use Rattle.frame.specs.Result.{Result, accepted, refused}
 use Rattle.frame.specs.Choice.{pick}
 use Rattle.frame.specs.Frames.{byteOf, announcementOf, lmAckOf}
-use Rattle.frame.specs.Result.{Result, accepted, refused}
 use Rattle.frame.specs.declared.Frame.{Frame}
 use Rattle.sender.specs.Begin as sender-begin
 use Rattle.sender.specs.Hear as sender-hear
