@@ -4,7 +4,8 @@ use Prim.Native.Nat.{ℕ}
 use mathlib.Core.Logic.{inl, inr}
 use mathlib.Core.Path.{_≡_, refl, ap, _∙_}
 use Rattle.frame.specs.Choice.{pick}
-use Rattle.identifier.specs.Answer.{Answer, given, refused, toldJoined, toldParted, joinOf, partOf}
+use Rattle.frame.specs.Result.{Result, accepted, refused}
+use Rattle.identifier.specs.Answer.{toldJoined, toldParted, joinOf, partOf}
 use Rattle.identifier.specs.declared.Parts.{Parts}
 use Rattle.identifier.specs.declared.Joined.{Joined}
 use Rattle.identifier.specs.declared.Parted.{Parted}
@@ -18,31 +19,31 @@ use Rattle.bench_face.specs.declared.identify.FlatParted.{FlatParted}
 -- ---- paths
 
 module _ {j : Joined} where
-  pub joined-given : {n : ℕ} → j ≡ joins.Identifier n
+  pub joined-accepted : {n : ℕ} → j ≡ joins.Identifier n
       → record { outcome = 0; refusal = 0; identifier = n } ≡ joinedOut (toldJoined j)
-  joined-given e = rw e
+  joined-accepted e = rw e
 
   pub joined-refused : {n : ℕ} → j ≡ joins.Refused n
       → record { outcome = 1; refusal = n; identifier = 0 } ≡ joinedOut (toldJoined j)
   joined-refused e = rw e
 
-pub join-through : {r : FlatJoined} {a : Answer ℕ} {x y : Parts} → r ≡ joinedOut a → a ≡ joinOf x → x ≡ y
+pub join-through : {r : FlatJoined} {a : Result ℕ} {x y : Parts} → r ≡ joinedOut a → a ≡ joinOf x → x ≡ y
     → r ≡ joinedOut (joinOf y)
 join-through w e x = w ∙ ap joinedOut (e ∙ ap joinOf x)
 
 module _ {p : Parted} where
-  pub parted-given : {x : Parts} {f : FlatParts} → f ≡ partsOut x → p ≡ partings.Into x
+  pub parted-accepted : {x : Parts} {f : FlatParts} → f ≡ partsOut x → p ≡ partings.Into x
       → record { outcome = 0; refusal = 0; parts = f } ≡ partedOut (toldParted p)
-  parted-given w e = rw (e, w)
+  parted-accepted w e = rw (e, w)
 
   pub parted-refused : {n : ℕ} → p ≡ partings.Refused n
       → record { outcome = 1; refusal = n; parts = noParts } ≡ partedOut (toldParted p)
   parted-refused e = rw e
 
-pub part-through : (n : ℕ) {r : FlatParted} {a : Answer Parts} → r ≡ partedOut a → a ≡ partOf n → r ≡ partedOut (partOf n)
+pub part-through : (n : ℕ) {r : FlatParted} {a : Result Parts} → r ≡ partedOut a → a ≡ partOf n → r ≡ partedOut (partOf n)
 part-through n w e = w ∙ ap partedOut e
 
-pub ruleset identify-paths = (joined-given, joined-refused, join-through, parted-given, parted-refused, part-through)
+pub ruleset identify-paths = (joined-accepted, joined-refused, join-through, parted-accepted, parted-refused, part-through)
 
 -- ---- back and forth
 
@@ -54,13 +55,13 @@ pub parts-written : (f : FlatParts) → partsOut (partsIn f) ≡ f
 parts-written f = refl
 
 -- answers: every value comes back; a flat answer that writing makes comes back; and writing makes no others
-pub joined-read : (a : Answer ℕ) → joinedIn (joinedOut a) ≡ a
+pub joined-read : (a : Result ℕ) → joinedIn (joinedOut a) ≡ a
 unfolding joinedIn pick
-joined-read (given n) = refl
+joined-read (accepted n) = refl
 joined-read (refused n) = refl
 
-pub joined-made : (a : Answer ℕ) → JoinedMade (joinedOut a)
-joined-made (given n) = inl (refl, refl)
+pub joined-made : (a : Result ℕ) → JoinedMade (joinedOut a)
+joined-made (accepted n) = inl (refl, refl)
 joined-made (refused n) = inr (refl, refl)
 
 pub joined-written : (f : FlatJoined) → JoinedMade f → joinedOut (joinedIn f) ≡ f
@@ -72,13 +73,13 @@ joined-written f made = go (f .outcome) (f .refusal) (f .identifier) made
     go o r n (inl h) = rw (h .0, h .1)
     go o r n (inr h) = rw (h .0, h .1)
 
-pub parted-read : (a : Answer Parts) → partedIn (partedOut a) ≡ a
+pub parted-read : (a : Result Parts) → partedIn (partedOut a) ≡ a
 unfolding partedIn pick
-parted-read (given x) = refl
+parted-read (accepted x) = refl
 parted-read (refused n) = refl
 
-pub parted-made : (a : Answer Parts) → PartedMade (partedOut a)
-parted-made (given x) = inl (refl, refl)
+pub parted-made : (a : Result Parts) → PartedMade (partedOut a)
+parted-made (accepted x) = inl (refl, refl)
 parted-made (refused n) = inr (refl, refl)
 
 pub parted-written : (f : FlatParted) → PartedMade f → partedOut (partedIn f) ≡ f

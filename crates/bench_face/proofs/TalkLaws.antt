@@ -7,17 +7,19 @@ use mathlib.Core.Path.{_≡_, refl, ap, _∙_}
 use native.Mathlib.Omega.{arith}
 use borrow.Author.Tests.{ne-eqb}
 use Rattle.frame.specs.Choice.{pick}
-use Rattle.version.specs.List as list
-use Rattle.version.specs.List.{toldListOutcome, toldListed, listOf}
-use Rattle.version.specs.Message.{verdictByte, MessageJudgement, message, toldReading, messageBytes, readMessage}
-use Rattle.version.specs.Message as wire
+use Rattle.frame.specs.Result as result
+use Rattle.frame.specs.Result.{Result, accepted}
+use Rattle.version.specs.List.{listOf, listedOf}
+use Rattle.version.specs.Message.{verdictByte, toldReading, writeOf, readOf}
 use Rattle.version.specs.Talk.{makeOf, connectOf, tickOf, hearOf, stopOf, greetOf, functionsHeardOf}
 use Rattle.version.specs.Told.{Told, Outcome, quiet, refused, agreed, failed, left, toldOutcome, told}
-use Rattle.version.specs.declared.Answer as answer
-use Rattle.version.specs.declared.Listed as listed-answer
+use Rattle.version.specs.declared.Answer.{Answer}
+use Rattle.version.specs.declared.ListOutcome.{ListOutcome}
+use Rattle.version.specs.declared.ListOutcome.the-variants.{Accepted, Refused}
+use Rattle.version.specs.declared.Listed.{Listed}
 use Rattle.version.specs.declared.Message.{Message}
-use Rattle.version.specs.declared.MessageReading as reading-enum
-use Rattle.version.specs.declared.MessageReading.the-variants as reading-variants
+use Rattle.version.specs.declared.MessageReading.{MessageReading}
+use Rattle.version.specs.declared.MessageReading.the-variants as readings
 use Rattle.version.specs.declared.Side.{Side}
 use Rattle.version.specs.declared.Side.the-variants.{Charger, Vehicle}
 use Rattle.version.specs.declared.State.{State}
@@ -97,13 +99,15 @@ pub ruleset number-paths = (
 
 -- ---- paths: the list and the message
 
-pub listing-out : (l : listed-answer.Listed) {o r : ℕ} {v : FlatVersions} → v ≡ versionsOut (l .versions)
-    → o ≡ listOutcome (toldListOutcome (l .outcome)) → r ≡ listRefusal (toldListOutcome (l .outcome))
-    → record { outcome = o; refusal = r; versions = v } ≡ listingOut (toldListed l)
+pub listing-out : (l : Listed) {o r : ℕ} {v : FlatVersions} → v ≡ versionsOut (l .versions)
+    → o ≡ listOutcome (l .outcome)
+    → r ≡ listRefusal (l .outcome)
+    → record { outcome = o; refusal = r; versions = v } ≡ listingOut l
 unfolding listingOut
 listing-out l v o r = rw (v, o, r)
 
-pub list-through : (s : List ℕ) {l : list.Listing} {r : FlatListing} → r ≡ listingOut l → l ≡ listOf s → r ≡ listingOut (listOf s)
+pub list-through : (s : List ℕ) {l : Listed} {r : FlatListing} → r ≡ listingOut l → l ≡ listedOf (listOf s)
+    → r ≡ listingOut (listedOf (listOf s))
 list-through s w e = w ∙ ap listingOut e
 
 pub message-in : (f : FlatMessage) {v : Verdict} → v ≡ verdictIn (f .verdict)
@@ -116,21 +120,21 @@ pub message-out : (m : Message) {v : ℕ} → v ≡ verdictByte (m .verdict)
 unfolding messageOut
 message-out m v = rw v
 
-pub write-through : {b : List ℕ} {m n : Message} → b ≡ messageBytes m → m ≡ n
-    → record { bytes = b } ≡ bytesOut (messageBytes n)
-write-through e m = ap bytesOut (e ∙ ap messageBytes m)
+pub write-through : {b : List ℕ} {m n : Message} → b ≡ writeOf m → m ≡ n
+    → record { bytes = b } ≡ bytesOut (writeOf n)
+write-through e m = ap bytesOut (e ∙ ap writeOf m)
 
-module _ {r : reading-enum.MessageReading} where
-  pub read-message : {m : Message} {f : FlatMessage} → f ≡ messageOut m → r ≡ reading-variants.Message m
+module _ {r : MessageReading} where
+  pub read-message : {m : Message} {f : FlatMessage} → f ≡ messageOut m → r ≡ readings.Message m
       → record { outcome = 0; refusal = 0; message = f } ≡ readingOut (toldReading r)
   read-message w e = rw (e, w)
 
-  pub read-refused : {n : ℕ} → r ≡ reading-variants.Refused n
+  pub read-refused : {n : ℕ} → r ≡ readings.Refused n
       → record { outcome = 1; refusal = n; message = noMessage } ≡ readingOut (toldReading r)
   read-refused e = rw e
 
-pub read-through : (s : List ℕ) {f : FlatMessageReading} {j : MessageJudgement} → f ≡ readingOut j → j ≡ readMessage s
-    → f ≡ readingOut (readMessage s)
+pub read-through : (s : List ℕ) {f : FlatMessageReading} {j : Result Message} → f ≡ readingOut j → j ≡ readOf s
+    → f ≡ readingOut (readOf s)
 read-through s w e = w ∙ ap readingOut e
 
 pub ruleset message-paths = (
@@ -181,7 +185,7 @@ pub talker-out : (t : Talker) {side state verdict : ℕ} {versions : FlatVersion
 unfolding talkerOut
 talker-out t a b c d = rw (a, b, c, d)
 
-pub answer-out : (a : answer.Answer) {next : FlatTalker} {o r v : ℕ} → next ≡ talkerOut (a .next)
+pub answer-out : (a : Answer) {next : FlatTalker} {o r v : ℕ} → next ≡ talkerOut (a .next)
     → o ≡ outcomeNumber (toldOutcome (a .outcome)) → r ≡ outcomeRefusal (toldOutcome (a .outcome))
     → v ≡ outcomeVersion (toldOutcome (a .outcome))
     → record { next = next; emits = a .emits; bytes = a .bytes; outcome = o; refusal = r; version = v } ≡ answerOut (told a)
@@ -298,21 +302,21 @@ versions-read v = refl
 pub versions-written : (f : FlatVersions) → versionsOut (versionsIn f) ≡ f
 versions-written f = refl
 
-pub listing-read : (l : list.Listing) → listingIn (listingOut l) ≡ l
+pub listing-read : (l : Listed) → listingIn (listingOut l) ≡ l
 unfolding listingIn listingOut listOutcomeIn pick
-listing-read l = ap (λ (o : list.ListOutcome). record { versions = l .versions; outcome = o }) (go (l .outcome))
+listing-read l = ap (λ (o : ListOutcome). record { versions = l .versions; outcome = o }) (go (l .outcome))
   where
-    go : (o : list.ListOutcome) → listOutcomeIn (listOutcome o) (listRefusal o) ≡ o
-    go list.accepted = refl
-    go (list.refused n) = refl
+    go : (o : ListOutcome) → listOutcomeIn (listOutcome o) (listRefusal o) ≡ o
+    go Accepted = refl
+    go (Refused n) = refl
 
-pub listing-made : (l : list.Listing) → ListingMade (listingOut l)
+pub listing-made : (l : Listed) → ListingMade (listingOut l)
 unfolding listingOut
 listing-made l = go (l .outcome)
   where
-    go : (o : list.ListOutcome) → ListingMade (record { outcome = listOutcome o; refusal = listRefusal o; versions = versionsOut (l .versions) })
-    go list.accepted = inl (refl, refl)
-    go (list.refused n) = inr refl
+    go : (o : ListOutcome) → ListingMade (record { outcome = listOutcome o; refusal = listRefusal o; versions = versionsOut (l .versions) })
+    go Accepted = inl (refl, refl)
+    go (Refused n) = inr refl
 
 pub listing-written : (f : FlatListing) → ListingMade f → listingOut (listingIn f) ≡ f
 unfolding listingIn listingOut listOutcomeIn pick
@@ -341,14 +345,14 @@ bytes-read s = refl
 pub bytes-written : (f : FlatBytes) → bytesOut (bytesIn f) ≡ f
 bytes-written f = refl
 
-pub reading-read : (j : MessageJudgement) → readingIn (readingOut j) ≡ j
+pub reading-read : (j : Result Message) → readingIn (readingOut j) ≡ j
 unfolding readingIn pick
-reading-read (message m) = ap message (message-read m)
-reading-read (wire.refused n) = refl
+reading-read (accepted m) = ap accepted (message-read m)
+reading-read (result.refused n) = refl
 
-pub reading-made : (j : MessageJudgement) → ReadingMade (readingOut j)
-reading-made (message m) = inl (refl, refl, message-made m)
-reading-made (wire.refused n) = inr (refl, refl)
+pub reading-made : (j : Result Message) → ReadingMade (readingOut j)
+reading-made (accepted m) = inl (refl, refl, message-made m)
+reading-made (result.refused n) = inr (refl, refl)
 
 pub reading-written : (f : FlatMessageReading) → ReadingMade f → readingOut (readingIn f) ≡ f
 unfolding readingIn pick

@@ -6,10 +6,13 @@ use mathlib.Core.Logic.{_⊎_}
 use mathlib.Core.Path.{_≡_}
 use lib.Dec.{eqb}
 use Rattle.frame.specs.Choice.{pick}
-use Rattle.version.specs.List as list
-use Rattle.version.specs.Message.{verdictByte, MessageJudgement, message}
-use Rattle.version.specs.Message as wire
+use Rattle.frame.specs.Result as result
+use Rattle.frame.specs.Result.{Result, accepted}
+use Rattle.version.specs.Message.{verdictByte}
 use Rattle.version.specs.Told.{Told, Outcome, quiet, refused, agreed, failed, left}
+use Rattle.version.specs.declared.ListOutcome.{ListOutcome}
+use Rattle.version.specs.declared.ListOutcome.the-variants.{Accepted, Refused}
+use Rattle.version.specs.declared.Listed.{Listed}
 use Rattle.version.specs.declared.Message.{Message}
 use Rattle.version.specs.declared.Side.{Side}
 use Rattle.version.specs.declared.Side.the-variants.{Charger, Vehicle}
@@ -62,23 +65,23 @@ abbrev pub versionsOut : Versions → FlatVersions
 versionsOut v = record { count = v .count; numbers = v .numbers }
 
 -- outcome 0 the list, 1 refused, with its number, else 0
-abbrev pub listOutcome : list.ListOutcome → ℕ
-listOutcome list.accepted = 0
-listOutcome (list.refused n) = 1
+abbrev pub listOutcome : ListOutcome → ℕ
+listOutcome Accepted = 0
+listOutcome (Refused n) = 1
 
-abbrev pub listRefusal : list.ListOutcome → ℕ
-listRefusal list.accepted = 0
-listRefusal (list.refused n) = n
+abbrev pub listRefusal : ListOutcome → ℕ
+listRefusal Accepted = 0
+listRefusal (Refused n) = n
 
-unfoldable pub listOutcomeIn : ℕ → ℕ → list.ListOutcome
-listOutcomeIn n number = pick (eqb n 1) (list.refused number) list.accepted
+unfoldable pub listOutcomeIn : ℕ → ℕ → ListOutcome
+listOutcomeIn n number = pick (eqb n 1) (Refused number) Accepted
 
-unfoldable pub listingOut : list.Listing → FlatListing
+unfoldable pub listingOut : Listed → FlatListing
 listingOut l =
     record { outcome = listOutcome (l .outcome); refusal = listRefusal (l .outcome); versions = versionsOut (l .versions) }
 
 -- an outcome that is not 1 is read as 0
-unfoldable pub listingIn : FlatListing → list.Listing
+unfoldable pub listingIn : FlatListing → Listed
 listingIn f = record { versions = versionsIn (f .versions); outcome = listOutcomeIn (f .outcome) (f .refusal) }
 
 -- the flat answers that writing makes
@@ -107,13 +110,14 @@ bytesOut s = record { bytes = s }
 abbrev pub noMessage : FlatMessage
 noMessage = record { verdict = 0; version = 0; control = 0 }
 
-abbrev pub readingOut : MessageJudgement → FlatMessageReading
-readingOut (message m) = record { outcome = 0; refusal = 0; message = messageOut m }
-readingOut (wire.refused n) = record { outcome = 1; refusal = n; message = noMessage }
+abbrev pub readingOut : Result Message → FlatMessageReading
+readingOut (accepted m) = record { outcome = 0; refusal = 0; message = messageOut m }
+readingOut (result.refused n) = record { outcome = 1; refusal = n; message = noMessage }
 
 -- an outcome that is not 1 is read as 0
-unfoldable pub readingIn : FlatMessageReading → MessageJudgement
-readingIn f = pick (eqb (f .outcome) 1) (wire.refused (f .refusal)) (message (messageIn (f .message)))
+unfoldable pub readingIn : FlatMessageReading → Result Message
+readingIn f =
+    pick (eqb (f .outcome) 1) (result.refused (f .refusal)) (accepted (messageIn (f .message)))
 
 abbrev pub ReadingMade : FlatMessageReading → Type 0
 ReadingMade f =

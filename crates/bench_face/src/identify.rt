@@ -2,7 +2,7 @@
 ghost use mathlib.Core.Path.{_≡_};
 ghost use Rattle.bench_face.specs.Identify.{partsIn, partsOut, joinedOut, partedOut};
 ghost use Rattle.identifier.specs.Answer.{toldJoined, toldParted, joinOf, partOf};
-ghost use Rattle.identifier.specs.Named.{secc, evcc, chargerVersion, vehicleVersion};
+ghost use Rattle.identifier.specs.Named.{chargerAddress, vehicleAddress, chargerVersion, vehicleVersion};
 use identifier::Joined;
 use identifier::Parted;
 use identifier::Parts;
@@ -126,7 +126,7 @@ pub extern "C" fn kospelna_identifier_part(identifier: u32) -> FlatParted
 // The charger's address.
 #[no_mangle]
 pub extern "C" fn kospelna_charger_address() -> u32
-    ensures { λ r. ⌜ r ≡ secc ⌝ }
+    ensures { λ r. ⌜ r ≡ chargerAddress ⌝ }
 {
     identifier::charger_address()
 }
@@ -134,7 +134,7 @@ pub extern "C" fn kospelna_charger_address() -> u32
 // The vehicle's address.
 #[no_mangle]
 pub extern "C" fn kospelna_vehicle_address() -> u32
-    ensures { λ r. ⌜ r ≡ evcc ⌝ }
+    ensures { λ r. ⌜ r ≡ vehicleAddress ⌝ }
 {
     identifier::vehicle_address()
 }

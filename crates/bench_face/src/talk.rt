@@ -23,8 +23,8 @@ ghost use Rattle.bench_face.specs.Talk.{
   outcomeVersion,
   answerOut,
 };
-ghost use Rattle.version.specs.List.{toldListOutcome, toldListed, listOf};
-ghost use Rattle.version.specs.Message.{verdictByte, toldReading, messageBytes, readMessage};
+ghost use Rattle.version.specs.List.{listOf, listedOf};
+ghost use Rattle.version.specs.Message.{verdictByte, toldReading, writeOf, readOf};
 ghost use Rattle.version.specs.Talk.{
   makeOf,
   connectOf,
@@ -194,7 +194,7 @@ fn write_versions(versions: Versions) -> FlatVersions
 }
 
 fn list_outcome(outcome: ListOutcome) -> u8
-    ensures { λ r. ⌜ r ≡ listOutcome (toldListOutcome outcome) ⌝ }
+    ensures { λ r. ⌜ r ≡ listOutcome outcome ⌝ }
 {
     match outcome {
         ListOutcome::Accepted => 0,
@@ -203,7 +203,7 @@ fn list_outcome(outcome: ListOutcome) -> u8
 }
 
 fn list_refusal(outcome: ListOutcome) -> u8
-    ensures { λ r. ⌜ r ≡ listRefusal (toldListOutcome outcome) ⌝ }
+    ensures { λ r. ⌜ r ≡ listRefusal outcome ⌝ }
 {
     match outcome {
         ListOutcome::Accepted => 0,
@@ -212,7 +212,7 @@ fn list_refusal(outcome: ListOutcome) -> u8
 }
 
 fn write_listing(listed: Listed) -> FlatListing
-    ensures { λ r. ⌜ r ≡ listingOut (toldListed listed) ⌝ }
+    ensures { λ r. ⌜ r ≡ listingOut listed ⌝ }
 {
     let kept = listed.versions;
     let came = listed.outcome;
@@ -380,7 +380,7 @@ fn write_answer(a: Answer) -> FlatAnswer
 // A list of 1 to 8 strictly rising versions, three bytes for each, or refusal 11.
 #[no_mangle]
 pub extern "C" fn kospelna_version_list(bytes: &[u8]) -> FlatListing
-    ensures { λ r. ⌜ r ≡ listingOut (listOf (now (bytes .entry))) ⌝ }
+    ensures { λ r. ⌜ r ≡ listingOut (listedOf (listOf (now (bytes .entry)))) ⌝ }
 {
     write_listing(version::list::list(bytes))
 }
@@ -388,7 +388,7 @@ pub extern "C" fn kospelna_version_list(bytes: &[u8]) -> FlatListing
 // The bytes of a message.
 #[no_mangle]
 pub extern "C" fn kospelna_version_message_write(message: FlatMessage) -> FlatBytes
-    ensures { λ r. ⌜ r ≡ bytesOut (messageBytes (messageIn message)) ⌝ }
+    ensures { λ r. ⌜ r ≡ bytesOut (writeOf (messageIn message)) ⌝ }
 {
     let m = read_message(message);
     let bytes = version::wire::write(m);
@@ -398,7 +398,7 @@ pub extern "C" fn kospelna_version_message_write(message: FlatMessage) -> FlatBy
 // The message of eight bytes, or refusal 10.
 #[no_mangle]
 pub extern "C" fn kospelna_version_message_read(bytes: FlatBytes) -> FlatMessageReading
-    ensures { λ r. ⌜ r ≡ readingOut (readMessage (bytesIn bytes)) ⌝ }
+    ensures { λ r. ⌜ r ≡ readingOut (readOf (bytesIn bytes)) ⌝ }
 {
     let b = bytes.bytes;
     write_reading(version::wire::read(b))

@@ -85,9 +85,9 @@ ofReceiver (accepted r) shows = shows r
 ofReceiver (refused number) shows = refusal number
 
 -- what joining parts shows: the identifier, or the number of the refusal
-unfoldable pub shownJoined : parts.Answer ℕ → List ℕ
-shownJoined (parts.given number) = identifier number
-shownJoined (parts.refused number) = refusal number
+unfoldable pub shownJoined : Result ℕ → List ℕ
+shownJoined (accepted number) = identifier number
+shownJoined (refused number) = refusal number
 
 -- a message or a buffer of this length: zeros
 abbrev pub zeros : ℕ → List ℕ

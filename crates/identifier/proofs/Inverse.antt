@@ -1,32 +1,33 @@
--- Joining and parting undo each other. Parts inside their widths are the digits of their number, and a number below
--- 2 to the 29 is made of its digits.
+-- Joining and parting undo each other. Parts inside their widths are the digits of their number,
+-- and a number below 2 to the 29 is made of its digits.
 -- Assumes nothing.
 use Prim.Native.Nat.{ℕ, _+_, _*_, _/_, _%_}
 use mathlib.Core.Path.{_≡_, refl, sym, ap, _∙_, subst}
 use mathlib.Core.Bool.{Bool, true, false}
 use native.Mathlib.Omega.{arith}
 use Rattle.frame.specs.Choice.{pick}
+use Rattle.frame.specs.Result.{Result, accepted, refused}
 use Rattle.identifier.specs.Identifier.{numberOf, partsOf, fitsOf, Within}
-use Rattle.identifier.specs.Answer.{Answer, given, refused, toldJoined, toldParted, joinOf, partOf}
+use Rattle.identifier.specs.Answer.{toldJoined, toldParted, joinOf, partOf}
 use Rattle.identifier.specs.Named.{chargerVersionParts, vehicleVersionParts, chargerVersion, vehicleVersion}
 use Rattle.identifier.specs.declared.Parts.{Parts}
 use Rattle.identifier.specs.declared.Joined.{Joined}
 use Rattle.identifier.specs.declared.Parted.{Parted}
 use Rattle.identifier.specs.declared.Joined.the-variants as joins
 use Rattle.identifier.specs.declared.Parted.the-variants as partings
-use Rattle.identifier.proofs.Laws.{within, fits-number, join-given, part-given}
+use Rattle.identifier.proofs.Laws.{within, fits-number, join-accepted, part-accepted}
 
 -- What is told of an answer leaves nothing of it open.
-abbrev pub untoldJoined : Answer ℕ → Joined
-untoldJoined (given n) = joins.Identifier n
+abbrev pub untoldJoined : Result ℕ → Joined
+untoldJoined (accepted n) = joins.Identifier n
 untoldJoined (refused n) = joins.Refused n
 
 pub told-joined-whole : (r : Joined) → untoldJoined (toldJoined r) ≡ r
 told-joined-whole (joins.Identifier n) = refl
 told-joined-whole (joins.Refused n) = refl
 
-abbrev pub untoldParted : Answer Parts → Parted
-untoldParted (given x) = partings.Into x
+abbrev pub untoldParted : Result Parts → Parted
+untoldParted (accepted x) = partings.Into x
 untoldParted (refused n) = partings.Refused n
 
 pub told-parted-whole : (r : Parted) → untoldParted (toldParted r) ≡ r
@@ -34,7 +35,8 @@ told-parted-whole (partings.Into x) = refl
 told-parted-whole (partings.Refused n) = refl
 
 -- A choice that gives passed its test and gives its value.
-gave : {A : Type 0} (test : Bool) (a b : A) → pick test (given a) (refused 8) ≡ given b → (test ≡ true) × (a ≡ b)
+gave : {A : Type 0} (test : Bool) (a b : A) → pick test (accepted a) (refused 8) ≡ accepted b
+    → (test ≡ true) × (a ≡ b)
 unfolding pick
 gave true a b h = (refl, cc)
 gave false a b h = (cc, cc)
@@ -64,27 +66,27 @@ number-parts n =
     rw (edp, dp, pf, ps, sa)
 
 -- Parting a joined identifier gives the parts back.
-pub parted-joined : (x : Parts) (n : ℕ) → joinOf x ≡ given n → partOf n ≡ given x
+pub parted-joined : (x : Parts) (n : ℕ) → joinOf x ≡ accepted n → partOf n ≡ accepted x
 unfolding joinOf
 parted-joined x n h =
     let both = gave (fitsOf x) (numberOf x) n h in
     let e : x ≡ partsOf n = parts-number x (within x (both .0)) ∙ ap partsOf (both .1) in
-    sym (part-given x n (fitsOf x) (both .0) (ap fitsOf e) e)
+    sym (part-accepted x n (fitsOf x) (both .0) (ap fitsOf e ∙ fits-number n) e)
 
 -- Joining the parts of an accepted identifier gives it back.
-pub joined-parted : (n : ℕ) (x : Parts) → partOf n ≡ given x → joinOf x ≡ given n
+pub joined-parted : (n : ℕ) (x : Parts) → partOf n ≡ accepted x → joinOf x ≡ accepted n
 unfolding partOf
 joined-parted n x h =
     let both = gave _ (partsOf n) x h in
     let fits : fitsOf (partsOf n) ≡ true = fits-number n ∙ both .0 in
     let e : n ≡ numberOf (partsOf n) = number-parts n in
-    subst (λ (y : Parts). joinOf y ≡ given n) (both .1) (sym (join-given (partsOf n) n _ fits refl e))
+    subst (λ (y : Parts). joinOf y ≡ accepted n) (both .1) (sym (join-accepted (partsOf n) n _ fits refl e))
 
 -- The identifiers of 001 tables 4 and 5 are what joining their parts gives.
-pub charger-version-joined : joinOf chargerVersionParts ≡ given chargerVersion
+pub charger-version-joined : joinOf chargerVersionParts ≡ accepted chargerVersion
 unfolding joinOf fitsOf numberOf pick
 charger-version-joined = refl
 
-pub vehicle-version-joined : joinOf vehicleVersionParts ≡ given vehicleVersion
+pub vehicle-version-joined : joinOf vehicleVersionParts ≡ accepted vehicleVersion
 unfolding joinOf fitsOf numberOf pick
 vehicle-version-joined = refl

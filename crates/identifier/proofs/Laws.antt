@@ -1,4 +1,4 @@
--- Laws on the tests of the definitions.
+-- Laws on the tests of the definitions, and a law for each path through joining and parting.
 -- Assumes nothing.
 use Prim.Native.Nat.{ℕ, _+_, _*_, _/_, _%_}
 use mathlib.Core.Path.{_≡_, refl, sym, ap, _∙_}
@@ -6,9 +6,11 @@ use mathlib.Core.Bool.{Bool, true, false, _&&_, and-eq-true-iff, and-true, and-a
 use native.Mathlib.Omega.{arith}
 use borrow.Author.Tests.{ltb-true, ltb-false, eqb-true, eqb-false, lt-ltb, le-ltb, eq-eqb, ne-eqb}
 use lib.Dec.{eqb, ltb}
+use Rattle.frame.proofs.Choice.{pick-false}
 use Rattle.frame.specs.Choice.{pick}
+use Rattle.frame.specs.Result.{accepted, refused}
 use Rattle.identifier.specs.Identifier.{numberOf, partsOf, fitsOf, Within}
-use Rattle.identifier.specs.Answer.{given, refused, joinOf, partOf}
+use Rattle.identifier.specs.Answer.{joinOf, partsFit, partOf}
 use Rattle.identifier.specs.declared.Parts.{Parts}
 
 -- Six tests that pass together pass each.
@@ -53,9 +55,10 @@ top : (n : ℕ) (t : Bool) → ltb n 536870912 ≡ t → ltb (n / 67108864) 8 �
 top n true h = lt-ltb (n / 67108864) 8 (omega (arith, ltb-true n 536870912 h))
 top n false h = le-ltb (n / 67108864) 8 (omega (arith, ltb-false n 536870912 h))
 
--- The parts of a number fit just if the number has 29 bits and EDP and DP are 0: the other parts are cut to their widths.
-pub fits-number : (n : ℕ) → fitsOf (partsOf n) ≡ (ltb n 536870912 && eqb (partsOf n .edp) 0 && eqb (partsOf n .dp) 0)
-unfolding fitsOf partsOf
+-- The parts of a number fit just if the number has 29 bits and EDP and DP are 0: the other parts
+-- are cut to their widths.
+pub fits-number : (n : ℕ) → fitsOf (partsOf n) ≡ partsFit n
+unfolding fitsOf partsOf partsFit
 fits-number n =
     simp (
       top n _ refl,
@@ -66,7 +69,8 @@ fits-number n =
     )
 
 -- EDP and DP lie side by side: both are 0 just if the number that they make is.
-side-by-side : (n : ℕ) (edp dp : Bool) → eqb (n / 33554432 % 2) 0 ≡ edp → eqb (n / 16777216 % 2) 0 ≡ dp
+side-by-side : (n : ℕ) (edp dp : Bool) → eqb (n / 33554432 % 2) 0 ≡ edp
+    → eqb (n / 16777216 % 2) 0 ≡ dp
     → eqb (n / 16777216 % 4) 0 ≡ (edp && dp)
 side-by-side n true true e d =
     let made : n / 16777216 % 4 ≡ n / 33554432 % 2 * 2 + n / 16777216 % 2 = omega arith in
@@ -74,30 +78,32 @@ side-by-side n true true e d =
 side-by-side n true false e d = ne-eqb (n / 16777216 % 4) 0 (λ z. eqb-false (n / 16777216 % 2) 0 d (omega (arith, z)))
 side-by-side n false dp e d = ne-eqb (n / 16777216 % 4) 0 (λ z. eqb-false (n / 33554432 % 2) 0 e (omega (arith, z)))
 
--- So the number's own test is that of its parts.
-pub fits-at-once : (n : ℕ) → (ltb n 536870912 && eqb (n / 16777216 % 4) 0) ≡ fitsOf (partsOf n)
-unfolding partsOf
+-- So the code's test of the number is the definition's.
+pub fits-at-once : (n : ℕ) → (ltb n 536870912 && eqb (n / 16777216 % 4) 0) ≡ partsFit n
+unfolding partsOf partsFit
 fits-at-once n =
     ap (λ (b : Bool). ltb n 536870912 && b) (side-by-side n _ _ refl refl)
     ∙ sym (and-assoc (ltb n 536870912) (eqb (partsOf n .edp) 0) (eqb (partsOf n .dp) 0))
-    ∙ sym (fits-number n)
 
--- Joining goes by the test of the parts.
-pub join-given : (x : Parts) (n : ℕ) (fits : Bool) → fits ≡ true → fits ≡ fitsOf x → n ≡ numberOf x → given n ≡ joinOf x
+-- Joining goes by the test of the parts, parting by that of the number.
+pub join-accepted : (x : Parts) (n : ℕ) (fits : Bool) → fits ≡ true → fits ≡ fitsOf x
+    → n ≡ numberOf x
+    → accepted n ≡ joinOf x
 unfolding joinOf pick
-join-given x n fits t e v = rw (v, ← e, t)
+join-accepted x n fits t e v = rw (v, ← e, t)
 
 pub join-refused : (x : Parts) (fits : Bool) → fits ≡ false → fits ≡ fitsOf x → refused 8 ≡ joinOf x
-unfolding joinOf pick
-join-refused x fits t e = rw (← e, t)
+unfolding joinOf
+join-refused x fits t e = pick-false _ (sym e ∙ t) refl
 
--- And so does parting, of the parts of the number.
-pub part-given : (x : Parts) (n : ℕ) (fits : Bool) → fits ≡ true → fits ≡ fitsOf (partsOf n) → x ≡ partsOf n → given x ≡ partOf n
+pub part-accepted : (x : Parts) (n : ℕ) (fits : Bool) → fits ≡ true → fits ≡ partsFit n
+    → x ≡ partsOf n
+    → accepted x ≡ partOf n
 unfolding partOf pick
-part-given x n fits t e v = rw (v, ← fits-number n, ← e, t)
+part-accepted x n fits t e v = rw (v, ← e, t)
 
-pub part-refused : (n : ℕ) (fits : Bool) → fits ≡ false → fits ≡ fitsOf (partsOf n) → refused 8 ≡ partOf n
-unfolding partOf pick
-part-refused n fits t e = rw (← fits-number n, ← e, t)
+pub part-refused : (n : ℕ) (fits : Bool) → fits ≡ false → fits ≡ partsFit n → refused 8 ≡ partOf n
+unfolding partOf
+part-refused n fits t e = pick-false _ (sym e ∙ t) refl
 
-pub ruleset joining = (within, join-given, join-refused, part-given, part-refused)
+pub ruleset joining = (join-accepted, join-refused, part-accepted, part-refused)

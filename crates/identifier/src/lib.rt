@@ -1,20 +1,27 @@
 // The 29-bit identifier of a frame on the bus: from its parts, and back to them.
 ghost use mathlib.Core.Path.{_≡_};
 ghost use Rattle.identifier.specs.Identifier.{Within, fitsOf, numberOf, partsOf};
-ghost use Rattle.identifier.specs.Answer.{toldJoined, toldParted, joinOf, partOf};
-ghost use Rattle.identifier.specs.Named.{secc, evcc, chargerVersion, vehicleVersion};
+ghost use Rattle.identifier.specs.Answer.{toldJoined, toldParted, joinOf, partsFit, partOf};
+ghost use Rattle.identifier.specs.Named.{
+  chargerAddress,
+  vehicleAddress,
+  chargerVersion,
+  vehicleVersion,
+};
 
 // The addresses of the two ends: the charger's and the vehicle's.
 pub const SECC: u32 = 0x56;
 
 pub const EVCC: u32 = 0xF4;
 
-// The identifiers of the two version messages: the charger's to the vehicle, and the vehicle's to the charger.
+// The identifiers of the two version messages: the charger's to the vehicle, and the vehicle's to
+// the charger.
 pub const CHARGER_VERSION: u32 = 0x0C38F456;
 
 pub const VEHICLE_VERSION: u32 = 0x0C3656F4;
 
-// The parts, the first in the highest bits. Each is held wider than its place, so that one over its width can be refused.
+// The parts, the first in the highest bits. Each is held wider than its place, so that one over its
+// width can be refused.
 pub struct Parts {
     pub p: u32,
     pub edp: u32,
@@ -85,7 +92,7 @@ fn parts_of(identifier: u32) -> Parts
 
 // The parts of an identifier fit: it has 29 bits, and those of EDP and DP are 0.
 fn parts_fit(identifier: u32) -> bool
-    ensures { λ r. ⌜ r ≡ fitsOf (partsOf identifier) ⌝ }
+    ensures { λ r. ⌜ r ≡ partsFit identifier ⌝ }
 {
     (identifier < 536870912) & (identifier / 16777216 % 4 == 0)
 }
@@ -103,13 +110,13 @@ pub fn part(identifier: u32) -> Parted
 
 // The named numbers, for whoever goes by promises.
 pub fn charger_address() -> u32
-    ensures { λ r. ⌜ r ≡ secc ⌝ }
+    ensures { λ r. ⌜ r ≡ chargerAddress ⌝ }
 {
     SECC
 }
 
 pub fn vehicle_address() -> u32
-    ensures { λ r. ⌜ r ≡ evcc ⌝ }
+    ensures { λ r. ⌜ r ≡ vehicleAddress ⌝ }
 {
     EVCC
 }

@@ -1,5 +1,6 @@
--- What a list that is accepted holds, and what the places found in it are. Rising goes from each version to the next, so from
--- each to every later one; a place is found at the first version that is the one sought, or at the last that is below it.
+-- What a list that is accepted holds, and what the places found in it are. Rising goes from each
+-- version to the next, so from each to every later one; a place is found at the first version that
+-- is the one sought, or at the last that is below it.
 -- Assumes nothing.
 use Prim.Native.Nat.{ℕ, zero, suc, _+_, _*_, _-_, _<_, _≤_}
 use mathlib.Core.Path.{_≡_, refl, sym, ap, _∙_, subst}
@@ -13,8 +14,10 @@ use lib.Dec.{eqb, leb, ltb}
 use lib.ListN.{length, getD, replicate}
 use lib.Seq.{take-take, take-append-seam}
 use Rattle.frame.specs.Choice.{pick}
-use Rattle.version.specs.List.{versionsIn, rising, placed, Listing, accepted, refused, listed, refusing, listOf, standing, Place, nowhere, here, orElse, placeOf, placeBelow}
+use Rattle.frame.specs.Result.{accepted}
+use Rattle.version.specs.List.{versionsIn, rising, placed, countFits, ifRising, listOf, standing, Place, nowhere, here, orElse, placeOf, placeBelow}
 use Rattle.version.specs.declared.Versions.{Versions}
+use Rattle.version.proofs.Laws.{accepts-passed}
 
 -- ---- an accepted list
 
@@ -32,7 +35,8 @@ unfolding rising
 tail-rises v [] h = refl
 tail-rises v (w ∷ s) h = and-eq-true-iff (ltb v w) (rising (w ∷ s)) .0 h .1
 
-pub rising-below : (s : List ℕ) → rising s ≡ true → (i j : ℕ) → i < j → j < length s → getD s i 0 < getD s j 0
+pub rising-below : (s : List ℕ) → rising s ≡ true → (i j : ℕ) → i < j → j < length s
+    → getD s i 0 < getD s j 0
 rising-below [] h i j l k = absurd (omega arith)
 rising-below (v ∷ s) h i zero l k = absurd (omega arith)
 rising-below (v ∷ s) h zero (suc j) l k = head-below v s h j (omega arith)
@@ -44,20 +48,8 @@ pub record Standing (v : Versions) : Type 0 where
   pub few : v .count ≤ 8
   pub whole : length (standing v) ≡ v .count
   pub rises : rising (standing v) ≡ true
-  pub below : (i j : ℕ) → i < j → j < length (standing v) → getD (standing v) i 0 < getD (standing v) j 0
-
-not-both : {w : Versions} → refusing 11 ≡ listed w → ⊥
-not-both h =
-    let same : refused 11 ≡ accepted = ap (λ (l : Listing). l .outcome) h in
-    let z : _≡_ {A = ℕ} 0 1 = cc in
-    omega arith
-
-chosen : (fits rises : Bool) (v w : Versions) → pick fits (pick rises (listed v) (refusing 11)) (refusing 11) ≡ listed w
-    → (fits ≡ true) × (rises ≡ true) × (v ≡ w)
-unfolding pick
-chosen true true v w h = (refl, refl, ap (λ (l : Listing). l .versions) h)
-chosen true false v w h = absurd (not-both h)
-chosen false rises v w h = absurd (not-both h)
+  pub below : (i j : ℕ) → i < j → j < length (standing v)
+      → getD (standing v) i 0 < getD (standing v) j 0
 
 standing-placed : (s : List ℕ) → length s ≤ 8 → standing (placed s) ≡ s
 standing-placed s h = take-take (length s) 8 (s ++ replicate 8 0) h ∙ take-append-seam s (replicate 8 0)
@@ -73,15 +65,18 @@ fits true true c h = (refl, refl)
 fits true false c h = (refl, h)
 fits false b c h = (h, cc)
 
-pub listed-stands : (bytes : List ℕ) (v : Versions) → listOf bytes ≡ listed v → Standing v × (standing v ≡ versionsIn bytes)
+pub listed-stands : (bytes : List ℕ) (v : Versions) → listOf bytes ≡ accepted v
+    → Standing v × (standing v ≡ versionsIn bytes)
 unfolding listOf
 listed-stands bytes v h =
     let s : List ℕ = versionsIn bytes in
-    let all = chosen (leb 1 (length s) && leb (length s) 8 && eqb (length bytes) (3 * length s)) (rising s) (placed s) v h in
-    let range = fits (leb 1 (length s)) (leb (length s) 8) (eqb (length bytes) (3 * length s)) (all .0) in
+    let counted = accepts-passed (countFits bytes (length s)) (ifRising s) 11 h in
+    let rises = accepts-passed (rising s) (accepted (placed s)) 11 (counted .1) in
+    let range = fits (leb 1 (length s)) (leb (length s) 8) (eqb (length bytes) (3 * length s)) (counted .0) in
     let high : length s ≤ 8 = leb-true _ _ (range .1) in
-    subst (λ (x : Versions). Standing x × (standing x ≡ s)) (all .2)
-    (placed-stands s (leb-true _ _ (range .0)) high (all .1), standing-placed s high)
+    let same : placed s ≡ v = cc (rises .1) in
+    subst (λ (x : Versions). Standing x × (standing x ≡ s)) same
+    (placed-stands s (leb-true _ _ (range .0)) high (rises .0), standing-placed s high)
 
 -- ---- the place of a version
 
@@ -97,7 +92,8 @@ no-place : {p : ℕ} → nowhere ≡ here p → ⊥
 no-place h = let z : _≡_ {A = ℕ} 0 1 = cc in omega arith
 
 module _ (v : ℕ) (s : List ℕ) (version n : ℕ) where
-  found-first : (b : Bool) (p : ℕ) → eqb v version ≡ b → (placeOf s version (n + 1) ≡ here p → Found s version (n + 1) p)
+  found-first : (b : Bool) (p : ℕ) → eqb v version ≡ b
+      → (placeOf s version (n + 1) ≡ here p → Found s version (n + 1) p)
       → pick b (here n) (placeOf s version (n + 1)) ≡ here p → Found (v ∷ s) version n p
   unfolding pick
   found-first true p t later e =
@@ -109,7 +105,8 @@ module _ (v : ℕ) (s : List ℕ) (version n : ℕ) where
 
   missing-first : (b : Bool) → eqb v version ≡ b
       → (placeOf s version (n + 1) ≡ nowhere → (i : ℕ) → i < length s → getD s i 0 ≡ version → ⊥)
-      → pick b (here n) (placeOf s version (n + 1)) ≡ nowhere → (i : ℕ) → i < suc (length s) → getD (v ∷ s) i 0 ≡ version → ⊥
+      → pick b (here n) (placeOf s version (n + 1)) ≡ nowhere → (i : ℕ) → i < suc (length s)
+      → getD (v ∷ s) i 0 ≡ version → ⊥
   unfolding pick
   missing-first true t later e i l same = no-place (sym e)
   missing-first false t later e zero l same = eqb-false v version t same
@@ -120,13 +117,15 @@ unfolding placeOf
 found [] version n p h = absurd (no-place h)
 found (v ∷ s) version n p h = found-first v s version n (eqb v version) p refl (found s version (n + 1) p) h
 
-missing : (s : List ℕ) (version n : ℕ) → placeOf s version n ≡ nowhere → (i : ℕ) → i < length s → getD s i 0 ≡ version → ⊥
+missing : (s : List ℕ) (version n : ℕ) → placeOf s version n ≡ nowhere → (i : ℕ) → i < length s
+    → getD s i 0 ≡ version → ⊥
 unfolding placeOf
 missing [] version n h i l e = omega arith
 missing (v ∷ s) version n h i l e = missing-first v s version n (eqb v version) refl (missing s version (n + 1)) h i l e
 
 -- "in the own list": a place that is found holds the version, and where none is found no place does
-pub place-of-holds : (s : List ℕ) (version p : ℕ) → placeOf s version 0 ≡ here p → (p < length s) × (getD s p 0 ≡ version)
+pub place-of-holds : (s : List ℕ) (version p : ℕ) → placeOf s version 0 ≡ here p
+    → (p < length s) × (getD s p 0 ≡ version)
 place-of-holds s version p h =
     let r = found s version 0 p h in
     let same : r .k ≡ p = omega (arith, r .place) in
@@ -147,13 +146,15 @@ pub record Below (s : List ℕ) (version n p : ℕ) : Type 0 where
   pub last : (i : ℕ) → k < i → i < length s → version ≤ getD s i 0
 
 module _ (v : ℕ) (s : List ℕ) (version n : ℕ) where
-  none-first : (b : Bool) (q : Place) → ltb v version ≡ b → (q ≡ nowhere → (i : ℕ) → i < length s → version ≤ getD s i 0)
-      → pick b (orElse q (here n)) q ≡ nowhere → (i : ℕ) → i < suc (length s) → version ≤ getD (v ∷ s) i 0
+  none-first : (b : Bool) (q : Place) → ltb v version ≡ b
+      → (q ≡ nowhere → (i : ℕ) → i < length s → version ≤ getD s i 0)
+      → orElse q (pick b (here n) nowhere) ≡ nowhere
+      → (i : ℕ) → i < suc (length s) → version ≤ getD (v ∷ s) i 0
   unfolding pick
   none-first true nowhere t later e i l = absurd (no-place (sym e))
-  none-first true (here p) t later e i l = absurd (no-place (sym e))
-  none-first false q t later e zero l = ltb-false v version t
-  none-first false q t later e (suc i) l = later e i (omega arith)
+  none-first b (here p) t later e i l = absurd (no-place (sym e))
+  none-first false nowhere t later e zero l = ltb-false v version t
+  none-first false nowhere t later e (suc i) l = later refl i (omega arith)
 
   -- what holds after a place of the rest holds after the next place of the whole
   after : (k : ℕ) → ((i : ℕ) → k < i → i < length s → version ≤ getD s i 0)
@@ -177,8 +178,10 @@ module _ (v : ℕ) (s : List ℕ) (version n : ℕ) where
       }
 
   below-first : (b : Bool) (q : Place) (p : ℕ) → ltb v version ≡ b
-      → (q ≡ nowhere → (i : ℕ) → i < length s → version ≤ getD s i 0) → (q ≡ here p → Below s version (n + 1) p)
-      → pick b (orElse q (here n)) q ≡ here p → Below (v ∷ s) version n p
+      → (q ≡ nowhere → (i : ℕ) → i < length s → version ≤ getD s i 0)
+      → (q ≡ here p → Below s version (n + 1) p)
+      → orElse q (pick b (here n) nowhere) ≡ here p
+      → Below (v ∷ s) version n p
   unfolding pick
   below-first true nowhere p t none later e =
       let same : n ≡ p = cc in
@@ -189,10 +192,11 @@ module _ (v : ℕ) (s : List ℕ) (version n : ℕ) where
         less = ltb-true v version t;
         last = after-first (none refl);
       }
-  below-first true (here q) p t none later e = below-next (later e)
-  below-first false q p t none later e = below-next (later e)
+  below-first false nowhere p t none later e = absurd (no-place e)
+  below-first b (here q) p t none later e = below-next (later e)
 
-none-below : (s : List ℕ) (version n : ℕ) → placeBelow s version n ≡ nowhere → (i : ℕ) → i < length s → version ≤ getD s i 0
+none-below : (s : List ℕ) (version n : ℕ) → placeBelow s version n ≡ nowhere → (i : ℕ)
+    → i < length s → version ≤ getD s i 0
 unfolding placeBelow
 none-below [] version n h i l = absurd (omega arith)
 none-below (v ∷ s) version n h i l =
@@ -204,7 +208,8 @@ below [] version n p h = absurd (no-place h)
 below (v ∷ s) version n p h =
     below-first v s version n (ltb v version) (placeBelow s version (n + 1)) p refl (none-below s version (n + 1)) (below s version (n + 1) p) h
 
--- In a rising list the place found holds the highest version below: it is below, and every version below is at most it.
+-- In a rising list the place found holds the highest version below: it is below, and every version
+-- below is at most it.
 pub record Highest (s : List ℕ) (version p : ℕ) : Type 0 where
   pub inside : p < length s
   pub less : getD s p 0 < version

@@ -1,17 +1,17 @@
--- Versions and the list of them. 001, 7.2.1, table 3: a version has a major, a minor and a temporary number; "the comparison
--- of versions is that of the numbers" (版本的比较即数字的大小比较).
+-- Versions and the list of them. 001, 7.2.1, table 3: a version has a major, a minor and a
+-- temporary number; "the comparison of versions is that of the numbers" (版本的比较即数字的大小比较).
 use Prim.Native.Nat.{ℕ, _+_, _-_, _*_, _/_, _%_}
 use mathlib.Core.Bool.{Bool, true, _&&_}
 use mathlib.Core.List.{List, [], _∷_, _++_}
 use lib.Dec.{eqb, leb, ltb}
 use lib.ListN.{length, getD, take, replicate}
 use Rattle.frame.specs.Choice.{pick}
+use Rattle.frame.specs.Result.{Result, accepted, refused}
+use Rattle.version.specs.declared.ListOutcome.the-variants.{Accepted, Refused}
+use Rattle.version.specs.declared.Listed.{Listed}
 use Rattle.version.specs.declared.Versions.{Versions}
-use Rattle.version.specs.declared.list.Found as found-enum
-use Rattle.version.specs.declared.list.Found.the-variants as found-variants
-use Rattle.version.specs.declared.ListOutcome as outcome-enum
-use Rattle.version.specs.declared.ListOutcome.the-variants as outcome-variants
-use Rattle.version.specs.declared.Listed as answer
+use Rattle.version.specs.declared.list.Found.{Found}
+use Rattle.version.specs.declared.list.Found.the-variants.{Nowhere, Here}
 
 -- a version as a number, major first
 abbrev pub versionOf : ℕ → ℕ → ℕ → ℕ
@@ -34,6 +34,10 @@ versionsIn (a ∷ []) = []
 versionsIn (a ∷ b ∷ []) = []
 versionsIn (a ∷ b ∷ c ∷ more) = versionOf a b c ∷ versionsIn more
 
+-- the version at a place of lent bytes; 0 past the last
+abbrev pub lent : List ℕ → ℕ → ℕ
+lent bytes place = getD (versionsIn bytes) place 0
+
 -- each above the one before it
 unfoldable pub rising : List ℕ → Bool
 rising [] = true
@@ -47,36 +51,25 @@ places versions = take 8 (versions ++ replicate 8 0)
 abbrev pub placed : List ℕ → Versions
 placed versions = record { count = length versions; numbers = places versions }
 
--- whether versions are a list, or a refusal's number
-pub data ListOutcome : Type 0 where
-  accepted : ListOutcome
-  refused : ℕ → ListOutcome
+-- refusals, version list: "11 not 1 to 8 strictly rising versions"; bytes that are no whole number
+-- of versions are no list
+abbrev pub countFits : List ℕ → ℕ → Bool
+countFits bytes count = leb 1 count && leb count 8 && eqb (length bytes) (3 * count)
 
--- document 01's value for each case of listing's outcome
-abbrev pub toldListOutcome : outcome-enum.ListOutcome → ListOutcome
-toldListOutcome outcome-variants.Accepted = accepted
-toldListOutcome (outcome-variants.Refused number) = refused number
+abbrev pub ifRising : List ℕ → Result Versions
+ifRising versions = pick (rising versions) (accepted (placed versions)) (refused 11)
 
--- what listing says: the list, none of it where it is refused
-pub record Listing : Type 0 where
-  pub versions : Versions
-  pub outcome : ListOutcome
+abbrev pub listFrom : List ℕ → List ℕ → Result Versions
+listFrom bytes versions = pick (countFits bytes (length versions)) (ifRising versions) (refused 11)
 
-abbrev pub toldListed : answer.Listed → Listing
-toldListed a = record { versions = a .versions; outcome = toldListOutcome (a .outcome) }
+unfoldable pub listOf : List ℕ → Result Versions
+listOf bytes = listFrom bytes (versionsIn bytes)
 
-abbrev pub listed : Versions → Listing
-listed v = record { versions = v; outcome = accepted }
-
-abbrev pub refusing : ℕ → Listing
-refusing number = record { versions = placed []; outcome = refused number }
-
--- refusals, version list: "11 not 1 to 8 strictly rising versions"; bytes that are no whole number of versions are no list
-unfoldable pub listOf : List ℕ → Listing
-listOf bytes =
-    pick (leb 1 (length (versionsIn bytes)) && leb (length (versionsIn bytes)) 8 && eqb (length bytes) (3 * length (versionsIn bytes)))
-    (pick (rising (versionsIn bytes)) (listed (placed (versionsIn bytes))) (refusing 11))
-    (refusing 11)
+-- what listing answers, whole: an enum holds no array, so the list stands beside the outcome; where
+-- it is refused the list is the one of no versions
+abbrev pub listedOf : Result Versions → Listed
+listedOf (accepted v) = record { versions = v; outcome = Accepted }
+listedOf (refused number) = record { versions = placed []; outcome = Refused number }
 
 -- the version at a place of the list
 abbrev pub at : Versions → ℕ → ℕ
@@ -91,10 +84,10 @@ pub data Place : Type 0 where
   nowhere : Place
   here : ℕ → Place
 
--- a place in the words of the code
-abbrev pub toldFound : found-enum.Found → Place
-toldFound found-variants.Nowhere = nowhere
-toldFound (found-variants.Here n) = here n
+-- document 01's value for each case of a search's answer
+abbrev pub toldFound : Found → Place
+toldFound Nowhere = nowhere
+toldFound (Here n) = here n
 
 -- the versions that stand in the list
 abbrev pub standing : Versions → List ℕ
@@ -110,8 +103,16 @@ abbrev pub orElse : Place → Place → Place
 orElse nowhere p = p
 orElse (here n) p = here n
 
--- the last place, counted from n, that holds a version below this one; in a rising list, the highest of them
+-- the last place, counted from n, that holds a version below this one; in a rising list, the
+-- highest of them
 unfoldable pub placeBelow : List ℕ → ℕ → ℕ → Place
 placeBelow [] version n = nowhere
 placeBelow (v ∷ more) version n =
-    pick (ltb v version) (orElse (placeBelow more version (n + 1)) (here n)) (placeBelow more version (n + 1))
+    orElse (placeBelow more version (n + 1)) (pick (ltb v version) (here n) nowhere)
+
+-- in a kept list: the place of this version, and that of the highest version below it
+abbrev pub find : Versions → ℕ → Place
+find v version = placeOf (standing v) version 0
+
+abbrev pub findBelow : Versions → ℕ → Place
+findBelow v version = placeBelow (standing v) version 0

@@ -1,5 +1,5 @@
--- 001, tables 8 (charger, 充电机状态转换表) and 9 (vehicle, 车辆状态转换表), cell by cell. A column is a trigger (触发条件), a
--- row a state (状态), and an entry what the cell says is done.
+-- 001, tables 8 (charger, 充电机状态转换表) and 9 (vehicle, 车辆状态转换表), cell by cell. A column is a trigger
+-- (触发条件), a row a state (状态), and an entry what the cell says is done.
 use Rattle.version.specs.declared.Side.{Side}
 use Rattle.version.specs.declared.Side.the-variants.{Charger, Vehicle}
 use Rattle.version.specs.declared.State.{State}
@@ -42,7 +42,8 @@ pub data Trigger : Type 0 where
 pub data Entry : Type 0 where
   -- "-": nothing is done
   nothing : Entry
-  -- 发送“继续协商”, 打开 T1、Tout0, 进入 S1: send continue with the version at Ns, start T1 and Tout0, enter S1
+  -- 发送“继续协商”, 打开 T1、Tout0, 进入 S1: send continue with the version at Ns, start T1 and Tout0, enter
+  -- S1
   opens : Entry
   -- 发送版本协商, 重置 T1, 保持 S1: send the version at Ns, reset T1, stay
   repeats : Entry
@@ -63,114 +64,131 @@ pub data Entry : Type 0 where
   -- 进入 S5: enter S5
   leaves : Entry
 
--- a column in the words of the code
-abbrev pub columnOf : trigger-enum.Trigger → Trigger
-columnOf trigger-variants.Connected = connected
-columnOf trigger-variants.PeriodDue = periodDue
-columnOf trigger-variants.SuccessOther = successOther
-columnOf trigger-variants.SuccessBelow2 = successBelow2
-columnOf trigger-variants.Success2 = success2
-columnOf trigger-variants.FailureHeard = failureHeard
-columnOf trigger-variants.ContinueSame = continueSame
-columnOf trigger-variants.ContinueLower = continueLower
-columnOf trigger-variants.ContinueHigher = continueHigher
-columnOf trigger-variants.ContinueNone = continueNone
-columnOf trigger-variants.Greeted = greeted
-columnOf trigger-variants.Stopped = stopped
-columnOf trigger-variants.LimitDue = limitDue
+-- document 01's value for each case of a trigger
+abbrev pub toldTrigger : trigger-enum.Trigger → Trigger
+toldTrigger trigger-variants.Connected = connected
+toldTrigger trigger-variants.PeriodDue = periodDue
+toldTrigger trigger-variants.SuccessOther = successOther
+toldTrigger trigger-variants.SuccessBelow2 = successBelow2
+toldTrigger trigger-variants.Success2 = success2
+toldTrigger trigger-variants.FailureHeard = failureHeard
+toldTrigger trigger-variants.ContinueSame = continueSame
+toldTrigger trigger-variants.ContinueLower = continueLower
+toldTrigger trigger-variants.ContinueHigher = continueHigher
+toldTrigger trigger-variants.ContinueNone = continueNone
+toldTrigger trigger-variants.Greeted = greeted
+toldTrigger trigger-variants.Stopped = stopped
+toldTrigger trigger-variants.LimitDue = limitDue
 
--- an entry in the words of the code
-abbrev pub entryOf : entry-enum.Entry → Entry
-entryOf entry-variants.Nothing = nothing
-entryOf entry-variants.Opens = opens
-entryOf entry-variants.Repeats = repeats
-entryOf entry-variants.Resumes = resumes
-entryOf entry-variants.SettlesBelow2 = settlesBelow2
-entryOf entry-variants.Settles = settles
-entryOf entry-variants.Fails = fails
-entryOf entry-variants.Accepts = accepts
-entryOf entry-variants.Stays = stays
-entryOf entry-variants.Lowers = lowers
-entryOf entry-variants.Leaves = leaves
+-- and of an entry
+abbrev pub toldEntry : entry-enum.Entry → Entry
+toldEntry entry-variants.Nothing = nothing
+toldEntry entry-variants.Opens = opens
+toldEntry entry-variants.Repeats = repeats
+toldEntry entry-variants.Resumes = resumes
+toldEntry entry-variants.SettlesBelow2 = settlesBelow2
+toldEntry entry-variants.Settles = settles
+toldEntry entry-variants.Fails = fails
+toldEntry entry-variants.Accepts = accepts
+toldEntry entry-variants.Stays = stays
+toldEntry entry-variants.Lowers = lowers
+toldEntry entry-variants.Leaves = leaves
 
--- table 8. Its S0 row prints one dash too many; S2 to S5 have one merged cell each, with no transition.
+-- table 8, a definition for each row. Its S0 row prints one dash too many; S2 to S5 have one merged
+-- cell each, with no transition.
+abbrev pub chargerS0 : Trigger → Entry
+chargerS0 connected = opens
+chargerS0 periodDue = nothing
+chargerS0 successOther = nothing
+chargerS0 successBelow2 = nothing
+chargerS0 success2 = nothing
+chargerS0 failureHeard = nothing
+chargerS0 continueSame = nothing
+chargerS0 continueLower = nothing
+chargerS0 continueHigher = nothing
+chargerS0 continueNone = nothing
+chargerS0 greeted = nothing
+chargerS0 stopped = nothing
+chargerS0 limitDue = nothing
+
+abbrev pub chargerS1 : Trigger → Entry
+chargerS1 connected = nothing
+chargerS1 periodDue = repeats
+chargerS1 successOther = resumes
+chargerS1 successBelow2 = settlesBelow2
+chargerS1 success2 = settles
+chargerS1 failureHeard = fails
+chargerS1 continueSame = accepts
+chargerS1 continueLower = stays
+chargerS1 continueHigher = lowers
+chargerS1 continueNone = fails
+chargerS1 greeted = nothing
+chargerS1 stopped = leaves
+chargerS1 limitDue = fails
+
 abbrev pub chargerCell : State → Trigger → Entry
-chargerCell S0 connected = opens
-chargerCell S0 periodDue = nothing
-chargerCell S0 successOther = nothing
-chargerCell S0 successBelow2 = nothing
-chargerCell S0 success2 = nothing
-chargerCell S0 failureHeard = nothing
-chargerCell S0 continueSame = nothing
-chargerCell S0 continueLower = nothing
-chargerCell S0 continueHigher = nothing
-chargerCell S0 continueNone = nothing
-chargerCell S0 greeted = nothing
-chargerCell S0 stopped = nothing
-chargerCell S0 limitDue = nothing
-chargerCell S1 connected = nothing
-chargerCell S1 periodDue = repeats
-chargerCell S1 successOther = resumes
-chargerCell S1 successBelow2 = settlesBelow2
-chargerCell S1 success2 = settles
-chargerCell S1 failureHeard = fails
-chargerCell S1 continueSame = accepts
-chargerCell S1 continueLower = stays
-chargerCell S1 continueHigher = lowers
-chargerCell S1 continueNone = fails
-chargerCell S1 greeted = nothing
-chargerCell S1 stopped = leaves
-chargerCell S1 limitDue = fails
+chargerCell S0 t = chargerS0 t
+chargerCell S1 t = chargerS1 t
 chargerCell S2 t = nothing
 chargerCell S3 t = nothing
 chargerCell S4 t = nothing
 chargerCell S5 t = nothing
 
 -- table 9. S0 and S1 have the greeting's cells; S3 goes on sending success (持续发送“协商成功”).
+abbrev pub vehicleS0 : Trigger → Entry
+vehicleS0 connected = opens
+vehicleS0 periodDue = nothing
+vehicleS0 successOther = nothing
+vehicleS0 successBelow2 = nothing
+vehicleS0 success2 = nothing
+vehicleS0 failureHeard = nothing
+vehicleS0 continueSame = nothing
+vehicleS0 continueLower = nothing
+vehicleS0 continueHigher = nothing
+vehicleS0 continueNone = nothing
+vehicleS0 greeted = fails
+vehicleS0 stopped = nothing
+vehicleS0 limitDue = nothing
+
+abbrev pub vehicleS1 : Trigger → Entry
+vehicleS1 connected = nothing
+vehicleS1 periodDue = repeats
+vehicleS1 successOther = resumes
+vehicleS1 successBelow2 = settlesBelow2
+vehicleS1 success2 = settles
+vehicleS1 failureHeard = fails
+vehicleS1 continueSame = accepts
+vehicleS1 continueLower = stays
+vehicleS1 continueHigher = lowers
+vehicleS1 continueNone = fails
+vehicleS1 greeted = fails
+vehicleS1 stopped = leaves
+vehicleS1 limitDue = fails
+
+abbrev pub vehicleS3 : Trigger → Entry
+vehicleS3 connected = nothing
+vehicleS3 periodDue = repeats
+vehicleS3 successOther = nothing
+vehicleS3 successBelow2 = nothing
+vehicleS3 success2 = nothing
+vehicleS3 failureHeard = nothing
+vehicleS3 continueSame = nothing
+vehicleS3 continueLower = nothing
+vehicleS3 continueHigher = nothing
+vehicleS3 continueNone = nothing
+vehicleS3 greeted = nothing
+vehicleS3 stopped = nothing
+vehicleS3 limitDue = nothing
+
 abbrev pub vehicleCell : State → Trigger → Entry
-vehicleCell S0 connected = opens
-vehicleCell S0 periodDue = nothing
-vehicleCell S0 successOther = nothing
-vehicleCell S0 successBelow2 = nothing
-vehicleCell S0 success2 = nothing
-vehicleCell S0 failureHeard = nothing
-vehicleCell S0 continueSame = nothing
-vehicleCell S0 continueLower = nothing
-vehicleCell S0 continueHigher = nothing
-vehicleCell S0 continueNone = nothing
-vehicleCell S0 greeted = fails
-vehicleCell S0 stopped = nothing
-vehicleCell S0 limitDue = nothing
-vehicleCell S1 connected = nothing
-vehicleCell S1 periodDue = repeats
-vehicleCell S1 successOther = resumes
-vehicleCell S1 successBelow2 = settlesBelow2
-vehicleCell S1 success2 = settles
-vehicleCell S1 failureHeard = fails
-vehicleCell S1 continueSame = accepts
-vehicleCell S1 continueLower = stays
-vehicleCell S1 continueHigher = lowers
-vehicleCell S1 continueNone = fails
-vehicleCell S1 greeted = fails
-vehicleCell S1 stopped = leaves
-vehicleCell S1 limitDue = fails
+vehicleCell S0 t = vehicleS0 t
+vehicleCell S1 t = vehicleS1 t
 vehicleCell S2 t = nothing
-vehicleCell S3 connected = nothing
-vehicleCell S3 periodDue = repeats
-vehicleCell S3 successOther = nothing
-vehicleCell S3 successBelow2 = nothing
-vehicleCell S3 success2 = nothing
-vehicleCell S3 failureHeard = nothing
-vehicleCell S3 continueSame = nothing
-vehicleCell S3 continueLower = nothing
-vehicleCell S3 continueHigher = nothing
-vehicleCell S3 continueNone = nothing
-vehicleCell S3 greeted = nothing
-vehicleCell S3 stopped = nothing
-vehicleCell S3 limitDue = nothing
+vehicleCell S3 t = vehicleS3 t
 vehicleCell S4 t = nothing
 vehicleCell S5 t = nothing
 
+-- the cell of a side's table
 abbrev pub cellOf : Side → State → Trigger → Entry
 cellOf Charger state t = chargerCell state t
 cellOf Vehicle state t = vehicleCell state t

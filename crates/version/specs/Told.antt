@@ -3,15 +3,16 @@ use Prim.Native.Nat.{ℕ}
 use mathlib.Core.Bool.{Bool, true, false}
 use mathlib.Core.List.{List, [], _∷_}
 use Rattle.version.specs.List.{at}
-use Rattle.version.specs.Message.{messageBytes}
-use Rattle.version.specs.declared.Answer as answer
+use Rattle.version.specs.Message.{writeOf}
+use Rattle.version.specs.declared.Answer.{Answer}
 use Rattle.version.specs.declared.Outcome as outcome-enum
 use Rattle.version.specs.declared.Outcome.the-variants as outcome-variants
 use Rattle.version.specs.declared.State.{State}
 use Rattle.version.specs.declared.Talker.{Talker}
 use Rattle.version.specs.declared.Verdict.{Verdict}
 
--- what a call reports: nothing; a refusal's number; entering S2 or S3, with the version; entering S4; entering S5
+-- what a call reports: nothing; a refusal's number; entering S2 or S3, with the version; entering
+-- S4; entering S5
 pub data Outcome : Type 0 where
   quiet : Outcome
   refused : ℕ → Outcome
@@ -19,6 +20,7 @@ pub data Outcome : Type 0 where
   failed : Outcome
   left : Outcome
 
+-- document 01's values for each case of the outcome
 abbrev pub toldOutcome : outcome-enum.Outcome → Outcome
 toldOutcome outcome-variants.Quiet = quiet
 toldOutcome (outcome-variants.Refused number) = refused number
@@ -26,15 +28,22 @@ toldOutcome (outcome-variants.Agreed version) = agreed version
 toldOutcome outcome-variants.Failed = failed
 toldOutcome outcome-variants.Left = left
 
--- a call's whole answer: the next state, whether a message goes out, its bytes (eight zeros where none does), the report
+-- a call's whole answer: the next state, whether a message goes out, its bytes (eight zeros where
+-- none does), what is reported
 pub record Told : Type 0 where
   pub next : Talker
   pub emits : Bool
   pub bytes : List ℕ
   pub outcome : Outcome
 
-abbrev pub told : answer.Answer → Told
-told a = record { next = a .next; emits = a .emits; bytes = a .bytes; outcome = toldOutcome (a .outcome) }
+abbrev pub told : Answer → Told
+told a =
+    record {
+      next = a .next;
+      emits = a .emits;
+      bytes = a .bytes;
+      outcome = toldOutcome (a .outcome);
+    }
 
 abbrev pub noBytes : List ℕ
 noBytes = 0 ∷ 0 ∷ 0 ∷ 0 ∷ 0 ∷ 0 ∷ 0 ∷ 0 ∷ []
@@ -57,14 +66,15 @@ ownVersion t = at (t .versions) (t .place)
 
 -- the talker's own message: its result and its version at Ns
 abbrev pub ownMessage : Talker → List ℕ
-ownMessage t = messageBytes (record { verdict = t .verdict; version = ownVersion t; control = t .control })
+ownMessage t =
+    writeOf (record { verdict = t .verdict; version = ownVersion t; control = t .control })
 
 -- the next state and its own message, with what is reported
 abbrev pub saying : Talker → Outcome → Told
 saying t o = record { next = t; emits = true; bytes = ownMessage t; outcome = o }
 
--- the talker in a state, with a result, at a place of its list, T1 and Tout0 at these ticks; timing says whether T1 runs on
--- in S3
+-- the talker in a state, with a result, at a place of its list, T1 and Tout0 at these ticks; timing
+-- says whether T1 runs on in S3
 abbrev pub moved : Talker → State → Verdict → ℕ → ℕ → ℕ → Bool → Talker
 moved t state verdict place period age timing =
     record {

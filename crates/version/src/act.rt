@@ -1,19 +1,22 @@
 // What each entry of the tables does to a talker.
 ghost use mathlib.Core.Path.{_≡_};
 ghost use Rattle.version.specs.List.{toldFound};
-ghost use Rattle.version.specs.Table.{columnOf, entryOf};
+ghost use Rattle.version.specs.Table.{toldTrigger, toldEntry};
 ghost use Rattle.version.specs.Told.{
   toldOutcome,
   told,
+  moved,
+  unsaid,
   silently,
   refusing,
+  ownVersion,
   ownMessage,
   saying,
 };
-ghost use Rattle.version.specs.Told as spec;
 ghost use Rattle.version.specs.Talk.{
   placeOr,
   keepsTiming,
+  pointed,
   opening,
   repeating,
   resuming,
@@ -33,9 +36,9 @@ use crate::State;
 use crate::Talker;
 use crate::Verdict;
 use crate::list::Found;
+use crate::list::at;
 use crate::list::find;
 use crate::list::find_below;
-use crate::list::version_at;
 use crate::table::Entry;
 use crate::table::Trigger;
 use crate::table::cell;
@@ -51,7 +54,7 @@ pub(crate) fn moved(
     age: u16,
     timing: bool,
 ) -> Talker
-    ensures { λ r. ⌜ r ≡ spec.moved t state verdict place period age timing ⌝ }
+    ensures { λ r. ⌜ r ≡ moved t state verdict place period age timing ⌝ }
 {
     let side = t.side;
     let versions = t.versions;
@@ -68,9 +71,16 @@ pub(crate) fn moved(
     }
 }
 
+// The talker in S1, with a result and at a place, its timers as they are.
+fn pointed(t: Talker, verdict: Verdict, place: u32) -> Talker
+    ensures { λ r. ⌜ r ≡ pointed t verdict place ⌝ }
+{
+    moved(t, State::S1, verdict, place, t.period, t.age, false)
+}
+
 // No message goes out, with what is reported.
-fn without_message(t: Talker, outcome: Outcome) -> Answer
-    ensures { λ r. ⌜ told r ≡ spec.unsaid t (toldOutcome outcome) ⌝ }
+fn unsaid(t: Talker, outcome: Outcome) -> Answer
+    ensures { λ r. ⌜ told r ≡ unsaid t (toldOutcome outcome) ⌝ }
 {
     let bytes = [0, 0, 0, 0, 0, 0, 0, 0];
     Answer {
@@ -82,24 +92,24 @@ fn without_message(t: Talker, outcome: Outcome) -> Answer
 }
 
 // The next state, and nothing else.
-pub(crate) fn silent(t: Talker) -> Answer
+pub(crate) fn silently(t: Talker) -> Answer
     ensures { λ r. ⌜ told r ≡ silently t ⌝ }
 {
-    without_message(t, Outcome::Quiet)
+    unsaid(t, Outcome::Quiet)
 }
 
-pub(crate) fn refuse(t: Talker, number: u8) -> Answer
+pub(crate) fn refusing(t: Talker, number: u8) -> Answer
     ensures { λ r. ⌜ told r ≡ refusing t number ⌝ }
 {
-    without_message(t, Outcome::Refused(number))
+    unsaid(t, Outcome::Refused(number))
 }
 
 // The version at Ns.
 pub(crate) fn own_version(t: Talker) -> u32
-    ensures { λ r. ⌜ r ≡ spec.ownVersion t ⌝ }
+    ensures { λ r. ⌜ r ≡ ownVersion t ⌝ }
 {
     let versions = t.versions;
-    version_at(versions, t.place)
+    at(versions, t.place)
 }
 
 // The talker's own message: its result and its version at Ns.
@@ -116,7 +126,7 @@ fn own_message(t: Talker) -> [u8; 8]
 }
 
 // The own message goes out, with what is reported.
-fn say(t: Talker, outcome: Outcome) -> Answer
+fn saying(t: Talker, outcome: Outcome) -> Answer
     ensures { λ r. ⌜ told r ≡ saying t (toldOutcome outcome) ⌝ }
 {
     let bytes = own_message(t);
@@ -128,45 +138,36 @@ fn say(t: Talker, outcome: Outcome) -> Answer
     }
 }
 
-fn open(t: Talker) -> Answer
+fn opening(t: Talker) -> Answer
     ensures { λ r. ⌜ told r ≡ opening t ⌝ }
 {
     let next = moved(t, State::S1, Verdict::Continue, t.place, 0, 0, false);
-    say(next, Outcome::Quiet)
+    saying(next, Outcome::Quiet)
 }
 
-fn repeat(t: Talker) -> Answer
+fn repeating(t: Talker) -> Answer
     ensures { λ r. ⌜ told r ≡ repeating t ⌝ }
 {
     let state = t.state;
     let verdict = t.verdict;
     let next = moved(t, state, verdict, t.place, 0, t.age, t.timing);
-    say(next, Outcome::Quiet)
+    saying(next, Outcome::Quiet)
 }
 
 // The result becomes continue.
-fn resume(t: Talker) -> Answer
+fn resuming(t: Talker) -> Answer
     ensures { λ r. ⌜ told r ≡ resuming t ⌝ }
 {
-    let next = moved(
-        t,
-        State::S1,
-        Verdict::Continue,
-        t.place,
-        t.period,
-        t.age,
-        false,
-    );
-    silent(next)
+    silently(pointed(t, Verdict::Continue, t.place))
 }
 
 // Into S2 or S3, with the version at Ns.
-fn settle(t: Talker, state: State, timing: bool) -> Answer
+fn settling(t: Talker, state: State, timing: bool) -> Answer
     ensures { λ r. ⌜ told r ≡ settling t state timing ⌝ }
 {
     let version = own_version(t);
     let next = moved(t, state, Verdict::Success, t.place, 0, 0, timing);
-    say(next, Outcome::Agreed(version))
+    saying(next, Outcome::Agreed(version))
 }
 
 // The vehicle's S3 keeps T1 running.
@@ -179,11 +180,11 @@ fn keeps_timing(side: Side) -> bool
     }
 }
 
-fn fail(t: Talker) -> Answer
+fn failing(t: Talker) -> Answer
     ensures { λ r. ⌜ told r ≡ failing t ⌝ }
 {
     let next = moved(t, State::S4, Verdict::Failure, t.place, 0, 0, false);
-    say(next, Outcome::Failed)
+    saying(next, Outcome::Failed)
 }
 
 // A place that was found, else the other.
@@ -197,72 +198,62 @@ fn place_or(found: Found, place: u32) -> u32
 }
 
 // The result becomes success, and Ns points at the version heard.
-fn accept(t: Talker, version: u32) -> Answer
+fn accepting(t: Talker, version: u32) -> Answer
     ensures { λ r. ⌜ told r ≡ accepting t version ⌝ }
 {
     let versions = t.versions;
     let found = find(versions, version);
     let place = place_or(found, t.place);
-    let next = moved(
-        t,
-        State::S1,
-        Verdict::Success,
-        place,
-        t.period,
-        t.age,
-        false,
-    );
-    silent(next)
+    silently(pointed(t, Verdict::Success, place))
 }
 
 // Ns points at the highest version below the one heard.
-fn lower(t: Talker, version: u32) -> Answer
+fn lowering(t: Talker, version: u32) -> Answer
     ensures { λ r. ⌜ told r ≡ lowering t version ⌝ }
 {
     let versions = t.versions;
     let verdict = t.verdict;
     let found = find_below(versions, version);
     let place = place_or(found, t.place);
-    let next = moved(t, State::S1, verdict, place, t.period, t.age, false);
-    silent(next)
+    silently(pointed(t, verdict, place))
 }
 
-fn leave(t: Talker) -> Answer
+fn leaving(t: Talker) -> Answer
     ensures { λ r. ⌜ told r ≡ leaving t ⌝ }
 {
     let verdict = t.verdict;
     let next = moved(t, State::S5, verdict, t.place, 0, 0, false);
-    without_message(next, Outcome::Left)
+    unsaid(next, Outcome::Left)
 }
 
 // An entry, with the version heard.
-fn act(t: Talker, version: u32, entry: Entry) -> Answer
-    ensures { λ r. ⌜ told r ≡ doing t version (entryOf entry) ⌝ }
+fn doing(t: Talker, version: u32, entry: Entry) -> Answer
+    ensures { λ r. ⌜ told r ≡ doing t version (toldEntry entry) ⌝ }
 {
     match entry {
-        Entry::Nothing => silent(t),
-        Entry::Opens => open(t),
-        Entry::Repeats => repeat(t),
-        Entry::Resumes => resume(t),
-        Entry::SettlesBelow2 => settle(t, State::S2, false),
+        Entry::Nothing => silently(t),
+        Entry::Opens => opening(t),
+        Entry::Repeats => repeating(t),
+        Entry::Resumes => resuming(t),
+        Entry::SettlesBelow2 => settling(t, State::S2, false),
         Entry::Settles => {
             let side = t.side;
-            settle(t, State::S3, keeps_timing(side))
+            settling(t, State::S3, keeps_timing(side))
         }
-        Entry::Fails => fail(t),
-        Entry::Accepts => accept(t, version),
-        Entry::Stays => silent(t),
-        Entry::Lowers => lower(t, version),
-        Entry::Leaves => leave(t),
+        Entry::Fails => failing(t),
+        Entry::Accepts => accepting(t, version),
+        Entry::Stays => silently(t),
+        Entry::Lowers => lowering(t, version),
+        Entry::Leaves => leaving(t),
     }
 }
 
 // A trigger, looked up in the talker's table.
-pub(crate) fn pull(t: Talker, version: u32, trigger: Trigger) -> Answer
-    ensures { λ r. ⌜ told r ≡ triggered t version (columnOf trigger) ⌝ }
+pub(crate) fn triggered(t: Talker, version: u32, trigger: Trigger) -> Answer
+    ensures { λ r. ⌜ told r ≡ triggered t version (toldTrigger trigger) ⌝ }
 {
     let side = t.side;
     let state = t.state;
     let entry = cell(side, state, trigger);
-    act(t, version, entry)
+    doing(t, version, entry)
 }

@@ -1,13 +1,13 @@
-// Table 8 of 001, the charger's: a row for each state, a cell for each trigger. S2 to S5 have no transition.
+// Table 8 of 001, the charger's: a row for each state, a cell for each trigger. S2 to S5 have no
+// transition.
 ghost use mathlib.Core.Path.{_≡_};
-ghost use Rattle.version.specs.declared.State.the-variants.{S0, S1};
-ghost use Rattle.version.specs.Table.{columnOf, entryOf, chargerCell};
+ghost use Rattle.version.specs.Table.{toldTrigger, toldEntry, chargerS0, chargerS1, chargerCell};
 use crate::State;
 use crate::table::Entry;
 use crate::table::Trigger;
 
 fn charger_s0(trigger: Trigger) -> Entry
-    ensures { λ r. ⌜ entryOf r ≡ chargerCell S0 (columnOf trigger) ⌝ }
+    ensures { λ r. ⌜ toldEntry r ≡ chargerS0 (toldTrigger trigger) ⌝ }
 {
     match trigger {
         Trigger::Connected => Entry::Opens,
@@ -27,7 +27,7 @@ fn charger_s0(trigger: Trigger) -> Entry
 }
 
 fn charger_s1(trigger: Trigger) -> Entry
-    ensures { λ r. ⌜ entryOf r ≡ chargerCell S1 (columnOf trigger) ⌝ }
+    ensures { λ r. ⌜ toldEntry r ≡ chargerS1 (toldTrigger trigger) ⌝ }
 {
     match trigger {
         Trigger::Connected => Entry::Nothing,
@@ -47,7 +47,7 @@ fn charger_s1(trigger: Trigger) -> Entry
 }
 
 pub(crate) fn charger_cell(state: State, trigger: Trigger) -> Entry
-    ensures { λ r. ⌜ entryOf r ≡ chargerCell state (columnOf trigger) ⌝ }
+    ensures { λ r. ⌜ toldEntry r ≡ chargerCell state (toldTrigger trigger) ⌝ }
 {
     match state {
         State::S0 => charger_s0(trigger),

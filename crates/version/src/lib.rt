@@ -1,4 +1,5 @@
-// Version talk: the list of versions that an end supports, the version message, and the talker of either side.
+// Version talk: the list of versions that an end supports, the version message, and the talker of
+// either side.
 mod act;
 mod charger;
 pub mod list;
@@ -7,9 +8,9 @@ pub mod talk;
 mod vehicle;
 pub mod wire;
 
-// The versions that an end supports, as numbers (major, minor and temporary version as the digits of base 256), rising.
-// The first count of them stand; the places after them hold 0. The count is as wide as a number, so that a list has no gap
-// and is copied as it lies.
+// The versions that an end supports, as numbers (major, minor and temporary version as the digits
+// of base 256), rising. The first count of them stand; the places after them hold 0. The count is
+// as wide as a number, so that a list has no gap and is copied as it lies.
 pub struct Versions {
     pub count: u32,
     pub numbers: [u32; 8],
@@ -21,7 +22,8 @@ pub enum ListOutcome {
     Refused(u8),
 }
 
-// What listing versions answers. Where they are refused, versions are none: count 0 and eight zeros.
+// What listing versions answers. Where they are refused, versions are none: count 0 and eight
+// zeros.
 pub struct Listed {
     pub versions: Versions,
     pub outcome: ListOutcome,
@@ -34,7 +36,8 @@ pub enum Verdict {
     Failure,
 }
 
-// What a version message says: the result, the version, and the control-pilot byte, which nobody judges.
+// What a version message says: the result, the version, and the control-pilot byte, which nobody
+// judges.
 pub struct Message {
     pub verdict: Verdict,
     pub version: u32,
@@ -63,8 +66,9 @@ pub enum State {
     S5,
 }
 
-// A talker: its side, what it supports and its control-pilot byte; its state, the place Ns in the list, the result that
-// its messages carry, and the ticks of T1 (period) and Tout0 (age). In S3 the vehicle's T1 runs while timing is true.
+// A talker: its side, what it supports and its control-pilot byte; its state, the place Ns in the
+// list, the result that its messages carry, and the ticks of T1 (period) and Tout0 (age). In S3 the
+// vehicle's T1 runs while timing is true.
 pub struct Talker {
     pub side: Side,
     pub versions: Versions,
@@ -77,7 +81,8 @@ pub struct Talker {
     pub timing: bool,
 }
 
-// What a call reports: nothing, a refusal by its number, the version agreed on, that the talk failed, or that it was left.
+// What a call reports: nothing, a refusal by its number, the version agreed on, that the talk
+// failed, or that it was left.
 pub enum Outcome {
     Quiet,
     Refused(u8),

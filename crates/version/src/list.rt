@@ -1,21 +1,20 @@
 // The list of versions: what stands in lent bytes, and places in it.
 ghost use mathlib.Core.Path.{_≡_};
 ghost use Prim.Native.Nat.{min};
-ghost use lib.ListN.{getD};
+ghost use Rattle.frame.specs.Result.{refused};
 ghost use Rattle.version.specs.List.{
   versionOf,
   versionsIn,
+  lent,
   rising,
   places,
-  toldListed,
-  refusing,
   listOf,
+  listedOf,
   at,
   highest,
   toldFound,
-  standing,
-  placeOf,
-  placeBelow,
+  find,
+  findBelow,
 };
 use crate::ListOutcome;
 use crate::Listed;
@@ -28,7 +27,7 @@ pub(crate) enum Found {
 }
 
 // A version as a number, major first.
-pub(crate) fn number(major: u8, minor: u8, temporary: u8) -> u32
+pub(crate) fn version_of(major: u8, minor: u8, temporary: u8) -> u32
     ensures { λ r. ⌜ r ≡ versionOf major minor temporary ⌝ }
 {
     65536 * (major as u32) + 256 * (minor as u32) + temporary as u32
@@ -36,18 +35,18 @@ pub(crate) fn number(major: u8, minor: u8, temporary: u8) -> u32
 
 // The version at a place of lent bytes, three bytes for each; 0 past the last.
 fn lent(bytes: &[u8], place: usize) -> u32
-    ensures { λ r. ⌜ r ≡ getD (versionsIn (now (bytes .entry))) place 0 ⌝ }
+    ensures { λ r. ⌜ r ≡ lent (now (bytes .entry)) place ⌝ }
 {
     if place < bytes.len() / 3 {
         let first = 3 * place;
-        number(bytes[first], bytes[first + 1], bytes[first + 2])
+        version_of(bytes[first], bytes[first + 1], bytes[first + 2])
     } else {
         0
     }
 }
 
 // Each version is above the one before it.
-fn all_rising(bytes: &[u8]) -> bool
+fn rising(bytes: &[u8]) -> bool
     ensures { λ r. ⌜ r ≡ rising (versionsIn (now (bytes .entry))) ⌝ }
 {
     let count = bytes.len() / 3;
@@ -62,7 +61,7 @@ fn all_rising(bytes: &[u8]) -> bool
 }
 
 // The versions of lent bytes at their eight places.
-fn numbers_of(bytes: &[u8]) -> [u32; 8]
+fn places(bytes: &[u8]) -> [u32; 8]
     ensures { λ r. ⌜ r ≡ places (versionsIn (now (bytes .entry))) ⌝ }
 {
     let n0 = lent(bytes, 0);
@@ -78,7 +77,7 @@ fn numbers_of(bytes: &[u8]) -> [u32; 8]
 
 // Refusal 11.
 fn refused() -> Listed
-    ensures { λ r. ⌜ toldListed r ≡ refusing 11 ⌝ }
+    ensures { λ r. ⌜ r ≡ listedOf (refused 11) ⌝ }
 {
     let numbers = [0; 8];
     let versions = Versions { count: 0, numbers };
@@ -90,7 +89,7 @@ fn refused() -> Listed
 
 // A list of 1 to 8 strictly rising versions, three bytes for each, or refusal 11.
 pub fn list(bytes: &[u8]) -> Listed
-    ensures { λ r. ⌜ toldListed r ≡ listOf (now (bytes .entry)) ⌝ }
+    ensures { λ r. ⌜ r ≡ listedOf (listOf (now (bytes .entry))) ⌝ }
 {
     let length = bytes.len();
     let count = length / 3;
@@ -103,8 +102,8 @@ pub fn list(bytes: &[u8]) -> Listed
     if length != 3 * count {
         return refused();
     }
-    if all_rising(bytes) {
-        let numbers = numbers_of(bytes);
+    if rising(bytes) {
+        let numbers = places(bytes);
         let versions = Versions {
             count: count as u32,
             numbers,
@@ -119,7 +118,7 @@ pub fn list(bytes: &[u8]) -> Listed
 }
 
 // The version at a place; 0 past the eighth.
-pub(crate) fn version_at(versions: Versions, place: u32) -> u32
+pub(crate) fn at(versions: Versions, place: u32) -> u32
     ensures { λ r. ⌜ r ≡ at versions place ⌝ }
 {
     let numbers = versions.numbers;
@@ -131,7 +130,7 @@ pub(crate) fn version_at(versions: Versions, place: u32) -> u32
 }
 
 // The place of the highest version.
-pub(crate) fn last_place(versions: Versions) -> u32
+pub(crate) fn highest(versions: Versions) -> u32
     ensures { λ r. ⌜ r ≡ highest versions ⌝ }
 {
     let count = versions.count;
@@ -148,7 +147,7 @@ fn standing_count(versions: Versions) -> usize
 
 // The place of this version.
 pub(crate) fn find(versions: Versions, version: u32) -> Found
-    ensures { λ r. ⌜ toldFound r ≡ placeOf (standing versions) version 0 ⌝ }
+    ensures { λ r. ⌜ toldFound r ≡ find versions version ⌝ }
 {
     let numbers = versions.numbers;
     let count = standing_count(versions);
@@ -164,7 +163,7 @@ pub(crate) fn find(versions: Versions, version: u32) -> Found
 
 // The place of the highest version below this one.
 pub(crate) fn find_below(versions: Versions, version: u32) -> Found
-    ensures { λ r. ⌜ toldFound r ≡ placeBelow (standing versions) version 0 ⌝ }
+    ensures { λ r. ⌜ toldFound r ≡ findBelow versions version ⌝ }
 {
     let numbers = versions.numbers;
     let mut i = standing_count(versions);

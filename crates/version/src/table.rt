@@ -1,6 +1,6 @@
 // The columns and the entries of tables 8 (charger) and 9 (vehicle) of 001.
 ghost use mathlib.Core.Path.{_≡_};
-ghost use Rattle.version.specs.Table.{columnOf, entryOf, cellOf};
+ghost use Rattle.version.specs.Table.{toldTrigger, toldEntry, cellOf};
 use crate::Side;
 use crate::State;
 use crate::charger::charger_cell;
@@ -40,7 +40,7 @@ pub(crate) enum Entry {
 
 // The cell of a side's table.
 pub(crate) fn cell(side: Side, state: State, trigger: Trigger) -> Entry
-    ensures { λ r. ⌜ entryOf r ≡ cellOf side state (columnOf trigger) ⌝ }
+    ensures { λ r. ⌜ toldEntry r ≡ cellOf side state (toldTrigger trigger) ⌝ }
 {
     match side {
         Side::Charger => charger_cell(state, trigger),

@@ -1,7 +1,6 @@
 // The calls of a talker.
 ghost use mathlib.Core.Path.{_≡_};
-ghost use Rattle.version.specs.List.{standing, placeOf};
-ghost use Rattle.version.specs.Table.{columnOf};
+ghost use Rattle.version.specs.Table.{toldTrigger};
 ghost use Rattle.version.specs.Told.{told};
 ghost use Rattle.version.specs.Talk.{
   makeOf,
@@ -14,11 +13,11 @@ ghost use Rattle.version.specs.Talk.{
   continueTrigger,
   heardTrigger,
   hearOf,
+  aged,
   tickTalking,
   tickSettled,
   tickOf,
 };
-ghost use Rattle.version.specs.Talk as spec;
 use crate::Answer;
 use crate::MessageReading;
 use crate::Side;
@@ -28,13 +27,13 @@ use crate::Verdict;
 use crate::Versions;
 use crate::act::moved;
 use crate::act::own_version;
-use crate::act::pull;
-use crate::act::refuse;
-use crate::act::silent;
+use crate::act::refusing;
+use crate::act::silently;
+use crate::act::triggered;
 use crate::list::Found;
 use crate::list::find;
 use crate::list::find_below;
-use crate::list::last_place;
+use crate::list::highest;
 use crate::table::Trigger;
 use crate::wire::read;
 use frame::count::increment;
@@ -49,7 +48,7 @@ const VERSION_2: u32 = 0x020000;
 
 // T1 and Tout0 at these ticks.
 fn aged(t: Talker, period: u16, age: u16) -> Talker
-    ensures { λ r. ⌜ r ≡ spec.aged t period age ⌝ }
+    ensures { λ r. ⌜ r ≡ aged t period age ⌝ }
 {
     let state = t.state;
     let verdict = t.verdict;
@@ -62,14 +61,14 @@ fn tick_talking(t: Talker) -> Answer
 {
     let age = increment(t.age);
     if LIMIT <= age {
-        return pull(t, 0, Trigger::LimitDue);
+        return triggered(t, 0, Trigger::LimitDue);
     }
     let period = increment(t.period);
     if PERIOD <= period {
         let waited = aged(t, t.period, age);
-        pull(waited, 0, Trigger::PeriodDue)
+        triggered(waited, 0, Trigger::PeriodDue)
     } else {
-        silent(aged(t, period, age))
+        silently(aged(t, period, age))
     }
 }
 
@@ -80,18 +79,18 @@ fn tick_settled(t: Talker) -> Answer
     if t.timing {
         let period = increment(t.period);
         if PERIOD <= period {
-            pull(t, 0, Trigger::PeriodDue)
+            triggered(t, 0, Trigger::PeriodDue)
         } else {
-            silent(aged(t, period, t.age))
+            silently(aged(t, period, t.age))
         }
     } else {
-        silent(t)
+        silently(t)
     }
 }
 
 // Success heard: the own version at Ns, below 2.0.0 or not; or another.
 fn success_trigger(t: Talker, version: u32) -> Trigger
-    ensures { λ r. ⌜ columnOf r ≡ successTrigger t version ⌝ }
+    ensures { λ r. ⌜ toldTrigger r ≡ successTrigger t version ⌝ }
 {
     let own = own_version(t);
     if version == own {
@@ -107,7 +106,7 @@ fn success_trigger(t: Talker, version: u32) -> Trigger
 
 // Continue heard, with a version that is not in the list.
 fn else_trigger(t: Talker, version: u32) -> Trigger
-    ensures { λ r. ⌜ columnOf r ≡ elseTrigger t version ⌝ }
+    ensures { λ r. ⌜ toldTrigger r ≡ elseTrigger t version ⌝ }
 {
     let own = own_version(t);
     if own < version {
@@ -122,7 +121,7 @@ fn else_trigger(t: Talker, version: u32) -> Trigger
 
 // Continue heard.
 fn continue_trigger(t: Talker, version: u32) -> Trigger
-    ensures { λ r. ⌜ columnOf r ≡ continueTrigger t version (placeOf (standing (t .versions)) version 0) ⌝ }
+    ensures { λ r. ⌜ toldTrigger r ≡ continueTrigger t version ⌝ }
 {
     let versions = t.versions;
     match find(versions, version) {
@@ -132,7 +131,7 @@ fn continue_trigger(t: Talker, version: u32) -> Trigger
 }
 
 fn heard_trigger(t: Talker, version: u32, verdict: Verdict) -> Trigger
-    ensures { λ r. ⌜ columnOf r ≡ heardTrigger t version verdict ⌝ }
+    ensures { λ r. ⌜ toldTrigger r ≡ heardTrigger t version verdict ⌝ }
 {
     match verdict {
         Verdict::Continue => continue_trigger(t, version),
@@ -146,7 +145,7 @@ impl Talker {
     pub fn make(side: Side, versions: Versions, control: u8) -> Talker
         ensures { λ r. ⌜ r ≡ makeOf side versions control ⌝ }
     {
-        let place = last_place(versions);
+        let place = highest(versions);
         Talker {
             side,
             versions,
@@ -164,21 +163,21 @@ impl Talker {
     pub fn connect(self) -> Answer
         ensures { λ r. ⌜ told r ≡ connectOf self ⌝ }
     {
-        pull(self, 0, Trigger::Connected)
+        triggered(self, 0, Trigger::Connected)
     }
 
     // A fault, or the other side opens its switch.
     pub fn stop(self) -> Answer
         ensures { λ r. ⌜ told r ≡ stopOf self ⌝ }
     {
-        pull(self, 0, Trigger::Stopped)
+        triggered(self, 0, Trigger::Stopped)
     }
 
     // The old protocol's greeting (CHM) is heard.
     pub fn greet(self) -> Answer
         ensures { λ r. ⌜ told r ≡ greetOf self ⌝ }
     {
-        pull(self, 0, Trigger::Greeted)
+        triggered(self, 0, Trigger::Greeted)
     }
 
     // The charger's supported functions are heard: S3 closes its timers.
@@ -187,16 +186,16 @@ impl Talker {
     {
         let state = self.state;
         match state {
-            State::S0 => silent(self),
-            State::S1 => silent(self),
-            State::S2 => silent(self),
+            State::S0 => silently(self),
+            State::S1 => silently(self),
+            State::S2 => silently(self),
             State::S3 => {
                 let verdict = self.verdict;
                 let next = moved(self, state, verdict, self.place, 0, 0, false);
-                silent(next)
+                silently(next)
             }
-            State::S4 => silent(self),
-            State::S5 => silent(self),
+            State::S4 => silently(self),
+            State::S5 => silently(self),
         }
     }
 
@@ -206,12 +205,12 @@ impl Talker {
     {
         let state = self.state;
         match state {
-            State::S0 => silent(self),
+            State::S0 => silently(self),
             State::S1 => tick_talking(self),
-            State::S2 => silent(self),
+            State::S2 => silently(self),
             State::S3 => tick_settled(self),
-            State::S4 => silent(self),
-            State::S5 => silent(self),
+            State::S4 => silently(self),
+            State::S5 => silently(self),
         }
     }
 
@@ -223,9 +222,9 @@ impl Talker {
             MessageReading::Message(m) => {
                 let verdict = m.verdict;
                 let trigger = heard_trigger(self, m.version, verdict);
-                pull(self, m.version, trigger)
+                triggered(self, m.version, trigger)
             }
-            MessageReading::Refused(number) => refuse(self, number),
+            MessageReading::Refused(number) => refusing(self, number),
         }
     }
 }

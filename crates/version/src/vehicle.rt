@@ -1,13 +1,20 @@
-// Table 9 of 001, the vehicle's: a row for each state, a cell for each trigger. S2, S4 and S5 have no transition.
+// Table 9 of 001, the vehicle's: a row for each state, a cell for each trigger. S2, S4 and S5 have
+// no transition.
 ghost use mathlib.Core.Path.{_≡_};
-ghost use Rattle.version.specs.declared.State.the-variants.{S0, S1, S3};
-ghost use Rattle.version.specs.Table.{columnOf, entryOf, vehicleCell};
+ghost use Rattle.version.specs.Table.{
+  toldTrigger,
+  toldEntry,
+  vehicleS0,
+  vehicleS1,
+  vehicleS3,
+  vehicleCell,
+};
 use crate::State;
 use crate::table::Entry;
 use crate::table::Trigger;
 
 fn vehicle_s0(trigger: Trigger) -> Entry
-    ensures { λ r. ⌜ entryOf r ≡ vehicleCell S0 (columnOf trigger) ⌝ }
+    ensures { λ r. ⌜ toldEntry r ≡ vehicleS0 (toldTrigger trigger) ⌝ }
 {
     match trigger {
         Trigger::Connected => Entry::Opens,
@@ -27,7 +34,7 @@ fn vehicle_s0(trigger: Trigger) -> Entry
 }
 
 fn vehicle_s1(trigger: Trigger) -> Entry
-    ensures { λ r. ⌜ entryOf r ≡ vehicleCell S1 (columnOf trigger) ⌝ }
+    ensures { λ r. ⌜ toldEntry r ≡ vehicleS1 (toldTrigger trigger) ⌝ }
 {
     match trigger {
         Trigger::Connected => Entry::Nothing,
@@ -48,7 +55,7 @@ fn vehicle_s1(trigger: Trigger) -> Entry
 
 // S3 goes on sending success.
 fn vehicle_s3(trigger: Trigger) -> Entry
-    ensures { λ r. ⌜ entryOf r ≡ vehicleCell S3 (columnOf trigger) ⌝ }
+    ensures { λ r. ⌜ toldEntry r ≡ vehicleS3 (toldTrigger trigger) ⌝ }
 {
     match trigger {
         Trigger::Connected => Entry::Nothing,
@@ -68,7 +75,7 @@ fn vehicle_s3(trigger: Trigger) -> Entry
 }
 
 pub(crate) fn vehicle_cell(state: State, trigger: Trigger) -> Entry
-    ensures { λ r. ⌜ entryOf r ≡ vehicleCell state (columnOf trigger) ⌝ }
+    ensures { λ r. ⌜ toldEntry r ≡ vehicleCell state (toldTrigger trigger) ⌝ }
 {
     match state {
         State::S0 => vehicle_s0(trigger),

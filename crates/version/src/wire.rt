@@ -5,14 +5,14 @@ ghost use Rattle.version.specs.Message.{
   verdictByte,
   verdictOf,
   named,
-  messageBytes,
+  writeOf,
   toldReading,
-  readMessage,
+  readOf,
 };
 use crate::Message;
 use crate::MessageReading;
 use crate::Verdict;
-use crate::list::number;
+use crate::list::version_of;
 use frame::count::word;
 
 fn major(version: u32) -> u8
@@ -44,7 +44,8 @@ fn verdict_byte(verdict: Verdict) -> u8
     }
 }
 
-// The result of a byte that is 0, 1 or 2. With an arm for each of them, the compiled code takes the byte itself.
+// The result of a byte that is 0, 1 or 2. With an arm for each of them, the compiled code takes the
+// byte itself.
 fn verdict_of(byte: u8) -> Verdict
     ensures { λ r. ⌜ r ≡ verdictOf byte ⌝ }
 {
@@ -57,7 +58,7 @@ fn verdict_of(byte: u8) -> Verdict
 }
 
 // The version that a message names: a failure's is FF FF FF.
-fn version_named(verdict: Verdict, version: u32) -> u32
+fn named(verdict: Verdict, version: u32) -> u32
     ensures { λ r. ⌜ r ≡ named verdict version ⌝ }
 {
     match verdict {
@@ -69,10 +70,10 @@ fn version_named(verdict: Verdict, version: u32) -> u32
 
 // The bytes of a message. CAN type 0x00 is CAN 2.0B; the transport version is 0x01.
 pub fn write(m: Message) -> [u8; 8]
-    ensures { λ r. ⌜ r ≡ messageBytes m ⌝ }
+    ensures { λ r. ⌜ r ≡ writeOf m ⌝ }
 {
     let verdict = m.verdict;
-    let version = version_named(verdict, m.version);
+    let version = named(verdict, m.version);
     let result = verdict_byte(verdict);
     let high = major(version);
     let middle = minor(version);
@@ -80,17 +81,17 @@ pub fn write(m: Message) -> [u8; 8]
     [0x00, result, high, middle, low, m.control, 0x01, 0xFF]
 }
 
-// The message of eight bytes, or refusal 10: CAN type not 0, or result over 2. Both are judged as one word, which is the result
-// where the type is 0.
+// The message of eight bytes, or refusal 10: CAN type not 0, or result over 2. Both are judged as
+// one word, which is the result where the type is 0.
 pub fn read(bytes: [u8; 8]) -> MessageReading
-    ensures { λ r. ⌜ toldReading r ≡ readMessage bytes ⌝ }
+    ensures { λ r. ⌜ toldReading r ≡ readOf bytes ⌝ }
 {
     let result = word(bytes[1], bytes[0]);
     if 2 < result {
         return MessageReading::Refused(10);
     }
     let verdict = verdict_of(result as u8);
-    let version = number(bytes[2], bytes[3], bytes[4]);
+    let version = version_of(bytes[2], bytes[3], bytes[4]);
     MessageReading::Message(Message {
         verdict,
         version,

@@ -1,5 +1,5 @@
--- `identifier::join` meets its contract. What `fits` promises is the definition's test, and where it passes, the parts are
--- inside their widths.
+-- `identifier::join` meets its contract. What `fits` promises is the definition's test, and where
+-- it passes, the parts are inside their widths.
 -- Assumes nothing.
 use borrow.Author.Needs.{needs}
 use Rattle.identifier.proofs.Laws.{within, joining}

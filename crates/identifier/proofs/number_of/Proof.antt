@@ -1,5 +1,5 @@
--- `identifier::number_of` meets its contract. Parts inside their widths make a number below 2 to the 29, so that no sum and no
--- product wraps.
+-- `identifier::number_of` meets its contract. Parts inside their widths make a number below 2 to
+-- the 29, so that no sum and no product wraps.
 -- Assumes nothing.
 use borrow.Author.Needs.{needs}
 use mathlib.Core.Path.{refl}

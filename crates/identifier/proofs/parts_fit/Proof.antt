@@ -1,4 +1,5 @@
--- `identifier::parts_fit` meets its contract. The other parts are cut to their widths, and EDP and DP lie side by side.
+-- `identifier::parts_fit` meets its contract. The other parts are cut to their widths, and EDP and
+-- DP lie side by side.
 -- Assumes nothing.
 use Rattle.identifier.proofs.Laws.{fits-at-once}
 use Rattle.identifier.proofs.parts_fit.Statement.{statement}

@@ -5,12 +5,12 @@ use Rattle.version.specs.Talk.{greetOf}
 use Rattle.version.proofs.Talker.greet.Statement.{statement}
 use Rattle.version.proofs.Talker.greet.Tie as tie
 
-pull-requires : tie.Need-pull-requires
-pull-requires c κs = search needs
+triggered-requires : tie.Need-triggered-requires
+triggered-requires c κs = search needs
 
 returns : tie.Need-returns
 unfolding greetOf
-returns c = c .pull .ensures
+returns c = search needs
 
 pub greet-spec : {M : Type 1} → statement M
-greet-spec = tie.close (tie.spec pull-requires returns)
+greet-spec = tie.close (tie.spec triggered-requires returns)

@@ -1,8 +1,8 @@
--- `version::Talker::hear` meets its contract. What `read` refuses is refused; else the message's trigger is pulled.
+-- `version::Talker::hear` meets its contract. What `read` refuses is refused; else the message's
+-- trigger is looked up in the talker's table.
 -- Assumes nothing.
 use borrow.Author.Needs.{needs}
-use Rattle.version.specs.Table.{columnOf}
-use Rattle.version.proofs.Laws.{hear-message, hear-refused}
+use Rattle.version.proofs.Laws.{hears}
 use Rattle.version.proofs.Talker.hear.Statement.{statement}
 use Rattle.version.proofs.Talker.hear.Tie as tie
 
@@ -15,20 +15,20 @@ enum-known-m c = search needs
 heard-trigger-requires : tie.Need-heard-trigger-requires
 heard-trigger-requires c κs = search needs
 
-pull-requires : tie.Need-pull-requires
-pull-requires c κs = search needs
+triggered-requires : tie.Need-triggered-requires
+triggered-requires c κs = search needs
 
 enum-known-number : tie.Need-enum-known-number
 enum-known-number c = search needs
 
-refuse-requires : tie.Need-refuse-requires
-refuse-requires c κs = search needs
+refusing-requires : tie.Need-refusing-requires
+refusing-requires c κs = search needs
 
 returns : tie.Need-returns
-returns c = hear-message _ _ (c .before .before .before .before .before .read .ensures) (columnOf (c .before .heard-trigger .result)) (c .before .before .before .m .given .1) (c .before .heard-trigger .ensures) (c .pull .ensures)
+returns c = search hears
 
 returns-2 : tie.Need-returns-2
-returns-2 c = hear-refused _ _ (c .before .before .before .before .read .ensures) (c .before .before .number .given .1) (c .refuse .ensures)
+returns-2 c = search hears
 
 pub hear-spec : {M : Type 1} → statement M
 hear-spec =
@@ -37,8 +37,8 @@ hear-spec =
     read-requires
     enum-known-m
     heard-trigger-requires
-    pull-requires
+    triggered-requires
     enum-known-number
-    refuse-requires
+    refusing-requires
     returns
     returns-2)

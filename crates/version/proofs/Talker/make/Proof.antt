@@ -5,12 +5,12 @@ use Rattle.version.specs.Talk.{makeOf}
 use Rattle.version.proofs.Talker.make.Statement.{statement}
 use Rattle.version.proofs.Talker.make.Tie as tie
 
-last-place-requires : tie.Need-last-place-requires
-last-place-requires c κs = search needs
+highest-requires : tie.Need-highest-requires
+highest-requires c κs = search needs
 
 returns : tie.Need-returns
 unfolding makeOf
 returns c = cc
 
 pub make-spec : {M : Type 1} → statement M
-make-spec = tie.close (tie.spec last-place-requires returns)
+make-spec = tie.close (tie.spec highest-requires returns)

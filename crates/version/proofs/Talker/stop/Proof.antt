@@ -5,12 +5,12 @@ use Rattle.version.specs.Talk.{stopOf}
 use Rattle.version.proofs.Talker.stop.Statement.{statement}
 use Rattle.version.proofs.Talker.stop.Tie as tie
 
-pull-requires : tie.Need-pull-requires
-pull-requires c κs = search needs
+triggered-requires : tie.Need-triggered-requires
+triggered-requires c κs = search needs
 
 returns : tie.Need-returns
 unfolding stopOf
-returns c = c .pull .ensures
+returns c = search needs
 
 pub stop-spec : {M : Type 1} → statement M
-stop-spec = tie.close (tie.spec pull-requires returns)
+stop-spec = tie.close (tie.spec triggered-requires returns)

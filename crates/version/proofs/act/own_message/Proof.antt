@@ -1,7 +1,6 @@
 -- `version::act::own_message` meets its contract. The version is that at Ns.
 -- Assumes nothing.
 use borrow.Author.Needs.{needs}
-use Rattle.version.proofs.Laws.{own-said}
 use Rattle.version.proofs.act.own_message.Statement.{statement}
 use Rattle.version.proofs.act.own_message.Tie as tie
 
@@ -12,7 +11,7 @@ write-requires : tie.Need-write-requires
 write-requires c κs = search needs
 
 returns : tie.Need-returns
-returns c = own-said (c .before .before .args .t) (c .write .ensures) (c .before .own-version .ensures)
+returns c = cc
 
 pub own-message-spec : {M : Type 1} → statement M
 own-message-spec = tie.close (tie.spec own-version-requires write-requires returns)

@@ -1,10 +1,11 @@
--- `version::list::find` meets its contract. The invariant: the version stands from place i on, if anywhere. It holds past another
--- version, and the place or the end settles it. The measure is what is left of the list.
+-- `version::list::find` meets its contract. The invariant: the version stands from place i on, if
+-- anywhere. It holds past another version, and the place or the end settles it. The measure is what
+-- is left of the list.
 -- Assumes nothing.
 use Prim.Native.Nat.{_-_}
 use mathlib.Core.Path.{refl}
 use borrow.Author.Needs.{needs}
-use Rattle.version.proofs.Laws.{Seeking, seek-here, seek-on, seek-ends}
+use Rattle.version.proofs.Laws.{Seeking, seeks}
 use Rattle.version.proofs.list.find.Statement.{statement}
 use Rattle.version.proofs.list.find.Tie as tie
 
@@ -30,7 +31,7 @@ cast-t11 : tie.Need-cast-t11 Inv-loop μ-loop
 cast-t11 c = search needs
 
 returns : tie.Need-returns Inv-loop μ-loop
-returns c = seek-here _ _ _ (search needs) (c .before .before .before .standing-count .ensures) (c .before .loop-test .taken) (c .before .before .loop .inv) (c .if1 .taken)
+returns c = search (needs, seeks)
 
 add-i : tie.Need-add-i Inv-loop μ-loop
 add-i c = search needs
@@ -39,10 +40,10 @@ loop-less : tie.Need-loop-less Inv-loop μ-loop
 loop-less c = search needs
 
 loop-again : tie.Need-loop-again Inv-loop μ-loop
-loop-again c = seek-on _ _ _ (search needs) (c .before .before .before .standing-count .ensures) (c .before .loop-test .taken) (c .before .before .loop .inv) (c .if1 .left)
+loop-again c = search (needs, seeks)
 
 returns-2 : tie.Need-returns-2 Inv-loop μ-loop
-returns-2 c = seek-ends _ _ _ (search needs) (c .before .before .standing-count .ensures) (c .loop-test .left) (c .before .loop .inv)
+returns-2 c = search (needs, seeks)
 
 pub find-spec : {M : Type 1} → statement M
 find-spec =

@@ -1,11 +1,12 @@
--- `version::list::find_below` meets its contract. The invariant: the highest version below stands before place i, if anywhere. It
--- holds past a version that is not below, and a version below or the first place settles it. The measure is i.
+-- `version::list::find_below` meets its contract. The invariant: the highest version below stands
+-- before place i, if anywhere. It holds past a version that is not below, and a version below or
+-- the first place settles it. The measure is i.
 -- Assumes nothing.
 use Prim.Native.Nat.{_≤_}
 use mathlib.Core.Path.{refl}
 use native.Mathlib.Nat.{le-refl}
 use borrow.Author.Needs.{needs}
-use Rattle.version.proofs.Laws.{Sinking, sink-here, sink-on, sink-ends}
+use Rattle.version.proofs.Laws.{Sinking, sinks}
 use Rattle.version.proofs.list.find_below.Statement.{statement}
 use Rattle.version.proofs.list.find_below.Tie as tie
 
@@ -34,16 +35,16 @@ cast-t10 : tie.Need-cast-t10 Inv-loop μ-loop
 cast-t10 c = search needs
 
 returns : tie.Need-returns Inv-loop μ-loop
-returns c = sink-here _ _ _ (search needs) (c .before .before .before .standing-count .ensures) (c .before .loop-test .taken) (c .before .before .loop .inv .0) (c .before .before .loop .inv .1) (c .if1 .taken)
+returns c = search (needs, sinks)
 
 loop-less : tie.Need-loop-less Inv-loop μ-loop
 loop-less c = search needs
 
 loop-again : tie.Need-loop-again Inv-loop μ-loop
-loop-again c = (search needs, sink-on _ _ _ (search needs) (c .before .before .before .standing-count .ensures) (c .before .loop-test .taken) (c .before .before .loop .inv .0) (c .before .before .loop .inv .1) (c .if1 .left))
+loop-again c = (search needs, search (needs, sinks))
 
 returns-2 : tie.Need-returns-2 Inv-loop μ-loop
-returns-2 c = sink-ends _ _ _ (search needs) (c .before .before .standing-count .ensures) (c .loop-test .left) (c .before .loop .inv .1)
+returns-2 c = search (needs, sinks)
 
 pub find-below-spec : {M : Type 1} → statement M
 find-below-spec =

@@ -1,48 +1,48 @@
--- `version::list::lent` meets its contract. A version's three bytes start at three times its place; past the last there is none.
+-- `version::list::lent` meets its contract. A version's three bytes start at three times its place;
+-- past the last there is none.
 -- Assumes nothing.
-use mathlib.Core.Path.{_∙_}
 use borrow.Author.Needs.{needs}
-use Rattle.version.proofs.Laws.{versions-at, versions-past}
+use Rattle.version.proofs.Laws.{lents}
 use Rattle.version.proofs.list.lent.Statement.{statement}
 use Rattle.version.proofs.list.lent.Tie as tie
 
 mul-first : tie.Need-mul-first
 mul-first c = search needs
 
-shared-slice-read-number : tie.Need-shared-slice-read-number
-shared-slice-read-number c = search needs
+shared-slice-read-version-of : tie.Need-shared-slice-read-version-of
+shared-slice-read-version-of c = search needs
 
-add-number : tie.Need-add-number
-add-number c = search needs
+add-version-of : tie.Need-add-version-of
+add-version-of c = search needs
 
-shared-slice-read-number-2 : tie.Need-shared-slice-read-number-2
-shared-slice-read-number-2 c = search needs
+shared-slice-read-version-of-2 : tie.Need-shared-slice-read-version-of-2
+shared-slice-read-version-of-2 c = search needs
 
-add-number-2 : tie.Need-add-number-2
-add-number-2 c = search needs
+add-version-of-2 : tie.Need-add-version-of-2
+add-version-of-2 c = search needs
 
-shared-slice-read-number-3 : tie.Need-shared-slice-read-number-3
-shared-slice-read-number-3 c = search needs
+shared-slice-read-version-of-3 : tie.Need-shared-slice-read-version-of-3
+shared-slice-read-version-of-3 c = search needs
 
-number-requires : tie.Need-number-requires
-number-requires c κs = search needs
+version-of-requires : tie.Need-version-of-requires
+version-of-requires c κs = search needs
 
 returns : tie.Need-returns
-returns c = c .number .ensures ∙ versions-at _ _ (search needs)
+returns c = search lents
 
 returns-2 : tie.Need-returns-2
-returns-2 c = versions-past _ _ (c .if1 .left)
+returns-2 c = search lents
 
 pub lent-spec : {M : Type 1} → statement M
 lent-spec =
     tie.close
     (tie.spec
     mul-first
-    shared-slice-read-number
-    add-number
-    shared-slice-read-number-2
-    add-number-2
-    shared-slice-read-number-3
-    number-requires
+    shared-slice-read-version-of
+    add-version-of
+    shared-slice-read-version-of-2
+    add-version-of-2
+    shared-slice-read-version-of-3
+    version-of-requires
     returns
     returns-2)

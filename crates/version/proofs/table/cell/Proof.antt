@@ -1,8 +1,7 @@
 -- `version::table::cell` meets its contract. Each side has its own table.
 -- Assumes nothing.
 use borrow.Author.Needs.{needs}
-use Rattle.version.specs.Table.{columnOf}
-use Rattle.version.proofs.Laws.{by-charger, by-vehicle}
+use Rattle.version.proofs.Laws.{cells}
 use Rattle.version.proofs.table.cell.Statement.{statement}
 use Rattle.version.proofs.table.cell.Tie as tie
 
@@ -19,10 +18,10 @@ vehicle-cell-requires : tie.Need-vehicle-cell-requires
 vehicle-cell-requires c κs = search needs
 
 returns : tie.Need-returns
-returns c = by-charger (c .before .before .before .args .state) (columnOf (c .before .before .before .args .trigger)) (c .charger-cell .ensures) (c .before .enum-told .given .1)
+returns c = search cells
 
 returns-2 : tie.Need-returns-2
-returns-2 c = by-vehicle (c .before .before .before .args .state) (columnOf (c .before .before .before .args .trigger)) (c .vehicle-cell .ensures) (c .before .enum-told2 .given .1)
+returns-2 c = search cells
 
 pub cell-spec : {M : Type 1} → statement M
 cell-spec =

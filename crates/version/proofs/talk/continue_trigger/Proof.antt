@@ -1,7 +1,8 @@
--- `version::talk::continue_trigger` meets its contract. `find` tells whether the version is in the list.
+-- `version::talk::continue_trigger` meets its contract. `find` tells whether the version is in the
+-- list.
 -- Assumes nothing.
 use borrow.Author.Needs.{needs}
-use Rattle.version.proofs.Laws.{continue-else, continue-same}
+use Rattle.version.proofs.Laws.{triggers}
 use Rattle.version.proofs.talk.continue_trigger.Statement.{statement}
 use Rattle.version.proofs.talk.continue_trigger.Tie as tie
 
@@ -18,10 +19,10 @@ enum-told-2 : tie.Need-enum-told-2
 enum-told-2 c = search needs
 
 returns : tie.Need-returns
-returns c = continue-else (c .before .before .before .before .before .args .t) _ (c .before .before .before .find .ensures) (c .else-trigger .ensures) (c .before .enum-told .given .1)
+returns c = search triggers
 
 returns-2 : tie.Need-returns-2
-returns-2 c = continue-same (c .before .before .before .before .args .t) _ (c .before .before .find .ensures) (c .enum-told2 .given .1)
+returns-2 c = search triggers
 
 pub continue-trigger-spec : {M : Type 1} → statement M
 continue-trigger-spec =

@@ -1,10 +1,8 @@
 -- `version::talk::heard_trigger` meets its contract. Each result has its own clause.
 -- Assumes nothing.
-use mathlib.Core.Path.{refl}
 use borrow.Author.Needs.{needs}
 use Rattle.version.specs.Talk.{heardTrigger}
-use Rattle.version.specs.declared.Verdict.the-variants.{Continue, Success, Failure}
-use Rattle.version.proofs.Laws.{by-verdict}
+use Rattle.version.proofs.Laws.{triggers}
 use Rattle.version.proofs.talk.heard_trigger.Statement.{statement}
 use Rattle.version.proofs.talk.heard_trigger.Tie as tie
 
@@ -25,15 +23,15 @@ enum-told-3 c = search needs
 
 returns : tie.Need-returns
 unfolding heardTrigger
-returns c = by-verdict (c .before .before .before .args .t) (c .before .before .before .args .version) Continue (c .continue-trigger .ensures) (c .before .enum-told .given .1)
+returns c = search triggers
 
 returns-2 : tie.Need-returns-2
 unfolding heardTrigger
-returns-2 c = by-verdict (c .before .before .before .args .t) (c .before .before .before .args .version) Success (c .success-trigger .ensures) (c .before .enum-told2 .given .1)
+returns-2 c = search triggers
 
 returns-3 : tie.Need-returns-3
 unfolding heardTrigger
-returns-3 c = by-verdict (c .before .before .args .t) (c .before .before .args .version) Failure refl (c .enum-told3 .given .1)
+returns-3 c = search triggers
 
 pub heard-trigger-spec : {M : Type 1} → statement M
 heard-trigger-spec =

@@ -1,12 +1,12 @@
 -- `version::wire::write` meets its contract. Each byte is that of the definition.
 -- Assumes nothing.
 use borrow.Author.Needs.{needs}
-use Rattle.version.specs.Message.{messageBytes}
+use Rattle.version.specs.Message.{writeOf}
 use Rattle.version.proofs.wire.write.Statement.{statement}
 use Rattle.version.proofs.wire.write.Tie as tie
 
-version-named-requires : tie.Need-version-named-requires
-version-named-requires c κs = search needs
+named-requires : tie.Need-named-requires
+named-requires c κs = search needs
 
 verdict-byte-requires : tie.Need-verdict-byte-requires
 verdict-byte-requires c κs = search needs
@@ -21,14 +21,14 @@ temporary-requires : tie.Need-temporary-requires
 temporary-requires c κs = search needs
 
 returns : tie.Need-returns
-unfolding messageBytes
+unfolding writeOf
 returns c = cc
 
 pub write-spec : {M : Type 1} → statement M
 write-spec =
     tie.close
     (tie.spec
-    version-named-requires
+    named-requires
     verdict-byte-requires
     major-requires
     minor-requires

@@ -1,10 +1,10 @@
--- `version::list::numbers_of` meets its contract. The places hold the version at each, as the code reads them.
+-- `version::list::places` meets its contract. The places hold the version at each, as the code
+-- reads them.
 -- Assumes nothing.
-use native.Mathlib.Nat.{le-refl}
 use borrow.Author.Needs.{needs}
-use Rattle.version.proofs.Laws.{each}
-use Rattle.version.proofs.list.numbers_of.Statement.{statement}
-use Rattle.version.proofs.list.numbers_of.Tie as tie
+use Rattle.version.proofs.Laws.{places-each}
+use Rattle.version.proofs.list.places.Statement.{statement}
+use Rattle.version.proofs.list.places.Tie as tie
 
 lent-requires : tie.Need-lent-requires
 lent-requires c κs = search needs
@@ -31,10 +31,10 @@ lent-requires-8 : tie.Need-lent-requires-8
 lent-requires-8 c κs = search needs
 
 returns : tie.Need-returns
-returns c = rw (each 8 8 (le-refl 8)) (cc)
+returns c = search places-each
 
-pub numbers-of-spec : {M : Type 1} → statement M
-numbers-of-spec =
+pub places-spec : {M : Type 1} → statement M
+places-spec =
     tie.close
     (tie.spec
     lent-requires
