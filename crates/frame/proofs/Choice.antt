@@ -1,5 +1,6 @@
 -- How a fact is shown of a choice: by its test's outcome, or on each side with the outcome in hand.
 -- Assumes nothing.
+use Prim.Native.Nat.{ℕ}
 use mathlib.Core.Path.{_≡_, refl}
 use mathlib.Core.Bool.{Bool, true, false, _&&_, _||_, false≢true, true≢false}
 use Rattle.frame.specs.Choice.{pick}
@@ -21,6 +22,13 @@ pub pick-elim : {A : Type 0} (P : A → Type 0) (b : Bool) {x y : A} → (b ≡ 
 unfolding pick
 pick-elim P true f g = f refl
 pick-elim P false f g = g refl
+
+-- a choice between a result and a refusal, where it is accepted: the test passed, and the result is that
+pub pick-accepted : {A : Type 0} (test : Bool) (r : Result A) (n : ℕ) {x : A} → pick test r (refused n) ≡ accepted x
+    → (test ≡ true) × (r ≡ accepted x)
+unfolding pick
+pick-accepted true r n h = (refl, h)
+pick-accepted false r n h = (cc, cc)
 
 -- a frame is read as what it is, or refused 6
 pub read-elim : (P : Result Parsed → Type 0) (f : Frame) → P (accepted (parsedOf f)) → P (refused 6) → P (readOf f)

@@ -19,6 +19,7 @@ use Rattle.frame.specs.declared.Frame.{Frame}
 use Rattle.frame.specs.declared.Parsed.{Parsed}
 use Rattle.frame.specs.declared.Reading.{Reading}
 use Rattle.frame.specs.declared.Reading.the-variants.{Read, Refused}
+use Rattle.frame.proofs.Choice.{pick-accepted}
 use Rattle.frame.proofs.Laws.{fill, fill-whole, word-whole, word-low, word-high}
 
 -- What is told of a reading leaves nothing of it open.
@@ -66,21 +67,15 @@ filled (b ∷ s) h =
     let tail : s ≡ replicate (length s) 255 = filled s (both .1) in
     cc
 
-passed : (inside filler : Bool) (x k : Parsed) → pick inside (pick filler (accepted x) (refused 6)) (refused 6) ≡ accepted k
-    → (inside ≡ true) × (filler ≡ true)
-unfolding pick
-passed true true x k h = (refl, refl)
-passed true false x k h = (refl, cc)
-passed false filler x k h = (cc, cc)
-
 -- A frame that is not refused has a kind from 1 to 7, and its filler passed.
 pub read-passed : (f : Frame) (k : Parsed) → readOf f ≡ accepted k
     → (1 ≤ f .kind) × (f .kind ≤ 7) × (allFiller (drop (namedOf (f .kind) (byteOf f 0)) (f .bytes)) ≡ true)
 unfolding readOf
 read-passed f k h =
-    let both = passed (leb 1 (f .kind) && leb (f .kind) 7) _ _ k h in
-    let range = and-eq-true-iff (leb 1 (f .kind)) (leb (f .kind) 7) .0 (both .0) in
-    (leb-true _ _ (range .0), leb-true _ _ (range .1), both .1)
+    let known = pick-accepted _ _ 6 h in
+    let clean = pick-accepted _ _ 6 (known .1) in
+    let range = and-eq-true-iff (leb 1 (f .kind)) (leb (f .kind) 7) .0 (known .0) in
+    (leb-true _ _ (range .0), leb-true _ _ (range .1), clean .0)
 
 -- `written (contentOf f) ≡ f` of the frame of a kind and bytes
 Restored : ℕ → List ℕ → Type 0

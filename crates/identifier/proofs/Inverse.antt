@@ -5,6 +5,7 @@ use Prim.Native.Nat.{ℕ, _+_, _*_, _/_, _%_}
 use mathlib.Core.Path.{_≡_, refl, sym, ap, _∙_, subst}
 use mathlib.Core.Bool.{Bool, true, false}
 use native.Mathlib.Omega.{arith}
+use Rattle.frame.proofs.Choice.{pick-accepted}
 use Rattle.frame.specs.Choice.{pick}
 use Rattle.frame.specs.Result.{Result, accepted, refused}
 use Rattle.identifier.specs.Identifier.{numberOf, partsOf, fitsOf, Within}
@@ -34,13 +35,6 @@ pub told-parted-whole : (r : Parted) → untoldParted (toldParted r) ≡ r
 told-parted-whole (partings.Into x) = refl
 told-parted-whole (partings.Refused n) = refl
 
--- A choice that gives passed its test and gives its value.
-gave : {A : Type 0} (test : Bool) (a b : A) → pick test (accepted a) (refused 8) ≡ accepted b
-    → (test ≡ true) × (a ≡ b)
-unfolding pick
-gave true a b h = (refl, cc)
-gave false a b h = (cc, cc)
-
 -- The parts of the number of parts inside their widths.
 parts-number : (x : Parts) → Within x → x ≡ partsOf (numberOf x)
 unfolding numberOf partsOf
@@ -69,18 +63,20 @@ number-parts n =
 pub parted-joined : (x : Parts) (n : ℕ) → joinOf x ≡ accepted n → partOf n ≡ accepted x
 unfolding joinOf
 parted-joined x n h =
-    let both = gave (fitsOf x) (numberOf x) n h in
-    let e : x ≡ partsOf n = parts-number x (within x (both .0)) ∙ ap partsOf (both .1) in
+    let both = pick-accepted (fitsOf x) (accepted (numberOf x)) 8 h in
+    let same : numberOf x ≡ n = cc in
+    let e : x ≡ partsOf n = parts-number x (within x (both .0)) ∙ ap partsOf same in
     sym (part-accepted x n (fitsOf x) (both .0) (ap fitsOf e ∙ fits-number n) e)
 
 -- Joining the parts of an accepted identifier gives it back.
 pub joined-parted : (n : ℕ) (x : Parts) → partOf n ≡ accepted x → joinOf x ≡ accepted n
 unfolding partOf
 joined-parted n x h =
-    let both = gave _ (partsOf n) x h in
+    let both = pick-accepted _ (accepted (partsOf n)) 8 h in
+    let same : partsOf n ≡ x = cc in
     let fits : fitsOf (partsOf n) ≡ true = fits-number n ∙ both .0 in
     let e : n ≡ numberOf (partsOf n) = number-parts n in
-    subst (λ (y : Parts). joinOf y ≡ accepted n) (both .1) (sym (join-accepted (partsOf n) n _ fits refl e))
+    subst (λ (y : Parts). joinOf y ≡ accepted n) same (sym (join-accepted (partsOf n) n _ fits refl e))
 
 -- The identifiers of 001 tables 4 and 5 are what joining their parts gives.
 pub charger-version-joined : joinOf chargerVersionParts ≡ accepted chargerVersion

@@ -9,6 +9,7 @@ use native.Mathlib.Omega.{arith}
 use borrow.Author.Tests.{leb-true, eqb-true}
 use lib.Dec.{eqb, leb}
 use lib.ListN.{length, getD, take}
+use Rattle.frame.proofs.Choice.{pick-accepted}
 use Rattle.frame.specs.Choice.{pick}
 use Rattle.frame.specs.Result.{Result, accepted, refused}
 use Rattle.version.specs.List.{versionOf, majorOf, minorOf, temporaryOf}
@@ -23,7 +24,6 @@ use Rattle.version.specs.declared.Outcome as outcome-enum
 use Rattle.version.specs.declared.Outcome.the-variants as outcome-variants
 use Rattle.version.specs.declared.Verdict.{Verdict}
 use Rattle.version.specs.declared.Verdict.the-variants.{Continue, Success, Failure}
-use Rattle.version.proofs.Laws.{accepts-passed}
 
 -- ---- answers
 
@@ -121,7 +121,7 @@ module _ (b0 b2 b3 b4 b5 : ℕ) (rest : List ℕ) (x : b2 < 256) (y : b3 < 256) 
   unfolding readOf
   restored b1 h other =
       let bytes : List ℕ = b0 ∷ b1 ∷ b2 ∷ b3 ∷ b4 ∷ b5 ∷ rest in
-      let both = accepts-passed (eqb b0 0 && leb b1 2) (accepted (messageOf bytes)) 10 h in
+      let both = pick-accepted (eqb b0 0 && leb b1 2) (accepted (messageOf bytes)) 10 h in
       let tests = and-eq-true-iff (eqb b0 0) (leb b1 2) .0 (both .0) in
       let same : messageOf bytes ≡ m = cc (both .1) in
       let whole : verdictOf b1 ≡ Failure → ⊥ =

@@ -37,14 +37,6 @@ use Rattle.version.specs.declared.list.Found.the-variants.{Nowhere, Here
 use Rattle.version.specs.declared.table.Entry as entry-enum
 use Rattle.version.specs.declared.table.Entry.the-variants.{Settles}
 
--- a choice that accepts passed its test
-pub accepts-passed : {A : Type 0} (test : Bool) (r : Result A) (n : ℕ) {x : A}
-    → pick test r (refused n) ≡ accepted x
-    → (test ≡ true) × (r ≡ accepted x)
-unfolding pick
-accepts-passed true r n h = (refl, h)
-accepts-passed false r n h = (cc, cc)
-
 -- ---- lent bytes
 
 -- Three bytes are a version.

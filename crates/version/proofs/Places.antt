@@ -13,11 +13,11 @@ use borrow.Author.Tests.{leb-true, ltb-true, ltb-false, eqb-true, eqb-false}
 use lib.Dec.{eqb, leb, ltb}
 use lib.ListN.{length, getD, replicate}
 use lib.Seq.{take-take, take-append-seam}
+use Rattle.frame.proofs.Choice.{pick-accepted}
 use Rattle.frame.specs.Choice.{pick}
 use Rattle.frame.specs.Result.{accepted}
 use Rattle.version.specs.List.{versionsIn, rising, placed, countFits, ifRising, listOf, standing, Place, nowhere, here, orElse, placeOf, placeBelow}
 use Rattle.version.specs.declared.Versions.{Versions}
-use Rattle.version.proofs.Laws.{accepts-passed}
 
 -- ---- an accepted list
 
@@ -70,8 +70,8 @@ pub listed-stands : (bytes : List ℕ) (v : Versions) → listOf bytes ≡ accep
 unfolding listOf
 listed-stands bytes v h =
     let s : List ℕ = versionsIn bytes in
-    let counted = accepts-passed (countFits bytes (length s)) (ifRising s) 11 h in
-    let rises = accepts-passed (rising s) (accepted (placed s)) 11 (counted .1) in
+    let counted = pick-accepted (countFits bytes (length s)) (ifRising s) 11 h in
+    let rises = pick-accepted (rising s) (accepted (placed s)) 11 (counted .1) in
     let range = fits (leb 1 (length s)) (leb (length s) 8) (eqb (length bytes) (3 * length s)) (counted .0) in
     let high : length s ≤ 8 = leb-true _ _ (range .1) in
     let same : placed s ≡ v = cc (rises .1) in

@@ -3,9 +3,10 @@
 use Prim.Native.Nat.{ℕ, _+_, _-_, _*_, _/_, _%_}
 use mathlib.Core.Bool.{Bool, true, _&&_}
 use mathlib.Core.List.{List, [], _∷_, _++_}
-use lib.Dec.{eqb, leb, ltb}
+use lib.Dec.{eqb, ltb}
 use lib.ListN.{length, getD, take, replicate}
 use Rattle.frame.specs.Choice.{pick}
+use Rattle.frame.specs.Count.{within}
 use Rattle.frame.specs.Result.{Result, accepted, refused}
 use Rattle.version.specs.declared.ListOutcome.the-variants.{Accepted, Refused}
 use Rattle.version.specs.declared.Listed.{Listed}
@@ -54,7 +55,7 @@ placed versions = record { count = length versions; numbers = places versions }
 -- refusals, version list: "11 not 1 to 8 strictly rising versions"; bytes that are no whole number
 -- of versions are no list
 abbrev pub countFits : List ℕ → ℕ → Bool
-countFits bytes count = leb 1 count && leb count 8 && eqb (length bytes) (3 * count)
+countFits bytes count = within 1 count 8 && eqb (length bytes) (3 * count)
 
 abbrev pub ifRising : List ℕ → Result Versions
 ifRising versions = pick (rising versions) (accepted (placed versions)) (refused 11)
