@@ -282,15 +282,15 @@ module _ {st : Settings} {m : List ℕ} {n : ℕ} {p : Phase} {forward back : Li
   short-rests shut l (view.retries _ _) = absurd shut
   short-rests shut l view.expires = absurd shut
 
-  -- SM_RM is delivered and acknowledged, or refused
+  -- SM_RM is delivered and acknowledged, or nothing happens
   short-hear : {rs : receiver-settings.Settings} {q : receiver-phase.Phase} {lent : List ℕ} {h : Heard} → Shut q → Line (Repeats m) forward
       → view.Hears rs (smRmOf m) lent q h → Received st (senderIn st p) forward back buffer (since m n 0 ds) h
   unfolding smRmOf
   short-hear shut l (view.refuses _) = record { live = rw (append-nil, add-zero n) (short narrow young v shut l e c) }
+  short-hear shut l view.ignores = record { live = rw (append-nil, add-zero n) (short narrow young v shut l e c) }
   short-hear shut l (view.announced k _ _) = absurd (omega arith)
   short-hear shut l (view.informed _ k _ _) = absurd (omega arith)
   short-hear shut l (view.closes k) = absurd (omega arith)
-  short-hear shut l (view.unmoved _ k) = absurd (omega arith)
   short-hear shut l (view.short _) =
       let some : 1 ≤ length (fillTo 8 m ∷ ds) = omega arith in
       record { live = rw (add-zero n) (short narrow young v shut l (joins (widens (echo-more (fillTo 8 m)) e) (echoes _ some)) (refl, c)) }

@@ -8,9 +8,10 @@ use lib.ListN.{length, take}
 use Rattle.frame.specs.Frames.{fillTo, partFrom, announcementOf, informationOf, endOfAckOf}
 use Rattle.frame.proofs.Laws.{word-whole}
 use Rattle.frame.specs.declared.Frame.{Frame}
-use Rattle.receiver.proofs.View.{receiverIn, moved, Ticks, rests, waits, retries, expires, Announced, nacks, opens, again, ignored, Informed, skips, ended, above, delivers, asks, goes-on, Hears, refuses, announced, informed, closes, unmoved, short, short-only}
+use Rattle.receiver.proofs.View.{receiverIn, Ticks, rests, waits, retries, expires, Announced, nacks, opens, again, Informed, ended, above, delivers, asks, goes-on, Hears, refuses, ignores, announced, informed, closes, short, short-only}
 use Rattle.receiver.specs.Hear.{storing}
-use Rattle.receiver.specs.Told.{Told, Heard, heard, quiet, delivered, failed, refusing}
+use Rattle.receiver.specs.State.{moved}
+use Rattle.receiver.specs.Told.{Told, Heard, heard, quiet, delivered, failed, refusing, silently}
 use Rattle.receiver.specs.declared.Connection.{Connection}
 use Rattle.receiver.specs.declared.Phase.{Phase}
 use Rattle.receiver.specs.declared.Phase.the-variants.{Idle, Done, Open}
@@ -23,9 +24,10 @@ use Rattle.transport.proofs.Refusals.{Unrefused, announced-taken, informed-take
 
 -- ---- the frames of a transfer, as the receiver reads them
 
--- a hearing is refused, or the frame is read as what it is
+-- a hearing is refused or ignored, or the frame is read as what it is
 pub data Read (rs : Settings) (q : Phase) (lent : List ℕ) (P : Heard → Type 0) : Heard → Type 0 where
   refused : (number : ℕ) → Read rs q lent P (heard (refusing (receiverIn rs q) number) lent)
+  ignored : Read rs q lent P (heard (silently (receiverIn rs q)) lent)
   read : {h : Heard} → Unrefused h → P h → Read rs q lent P h
 
 module _ {rs : Settings} {lent : List ℕ} where
@@ -33,10 +35,10 @@ module _ {rs : Settings} {lent : List ℕ} where
       → Read rs q lent (Announced rs frames l lent q) h
   unfolding announcementOf
   reads-announcement frames l small (refuses number) = refused number
+  reads-announcement frames l small ignores = ignored
   reads-announcement frames l small (announced _ _ a) = read (announced-taken a) (rw (word-whole l small) at a)
   reads-announcement frames l small (informed _ _ z _) = absurd (omega arith)
   reads-announcement frames l small (closes k) = absurd (omega arith)
-  reads-announcement frames l small (unmoved _ k) = absurd (omega arith)
   reads-announcement frames l small (short k) = absurd (omega arith)
   reads-announcement frames l small (short-only k) = absurd (omega arith)
 
@@ -44,10 +46,10 @@ module _ {rs : Settings} {lent : List ℕ} where
       → Read rs q lent (λ g. (length lent ≡ 1785) × Informed rs number (fillTo 7 (partFrom number m)) lent q g) h
   unfolding informationOf
   reads-information number m low (refuses n) = refused n
+  reads-information number m low ignores = ignored
   reads-information number m low (announced _ z _) = absurd (omega arith)
   reads-information number m low (informed held _ _ i) = read (informed-taken i) (held, i)
   reads-information number m low (closes k) = absurd (omega arith)
-  reads-information number m low (unmoved _ k) = absurd (omega arith)
   reads-information number m low (short k) = absurd (omega arith)
   reads-information number m low (short-only k) = absurd (omega arith)
 
@@ -91,7 +93,6 @@ module _ (m : List ℕ) (rs : Settings) where
       let one : 1 ≤ 1 = omega arith in
       replies (opened refl refl one some refl) (grants 1 _)
   half-announcement some again h = replies h (grants 1 _)
-  half-announcement some ignored h = silent h
 
   module _ (number : ℕ) (left : List ℕ) (held : length left ≡ 1785) (fits : length m ≤ 1785) where
     abbrev stored : Connection → List ℕ
@@ -107,7 +108,6 @@ module _ (m : List ℕ) (rs : Settings) where
 
     pub half-information : {q : Phase} {h : Heard} → number ≤ framesOf m → Informed rs number (fillTo 7 (partFrom number m)) left q h
         → Halfway m q left → Ends m rs h
-    half-information inside skips h = goes (silent h)
     half-information inside (above over) (opened many long low high before) = absurd (omega arith)
     half-information inside (delivers {x} at whole) (opened many long low high before) =
         ends {left = stored x} many long refl (rw (at, long) (last-stored m left (x .expected) held fits low high before (whole ∙ many)))

@@ -57,16 +57,17 @@ module _ (s : Settings) where
 
   -- ---- an announcement of N and L that is not ignored
 
-  pub data Announced (frames length : ℕ) : Phase → Told → Type 0 where
+  pub data Announced (frames length : ℕ) (buffer : List ℕ) : Phase → Heard → Type 0 where
     nacks : {p : Phase} → Shut p → (cause : ℕ)
-        → Announced frames length p (emitting (receiverIn s p) (lmNackOf cause))
+        → Announced frames length buffer p (heard (emitting (receiverIn s p) (lmNackOf cause)) buffer)
     opens : {p : Phase} → Shut p
         → 9 ≤ length
         → length ≤ 1785
         → frames ≡ frameCountOf length
         → length ≤ s .capacity
-        → Announced frames length p (opening (receiverIn s p) frames length)
-    again : {x : Connection} → Announced frames length (Open x) (openingAgain (opened x) x)
+        → Announced frames length buffer p (heard (opening (receiverIn s p) frames length) buffer)
+    again : {x : Connection}
+        → Announced frames length buffer (Open x) (heard (openingAgain (opened x) x) buffer)
 
   -- ---- an information frame that is neither refused nor ignored
 
@@ -101,11 +102,11 @@ module _ (s : Settings) where
     refuses : {p : Phase} (number : ℕ)
         → Hears f buffer p (heard (refusing (receiverIn s p) number) buffer)
     ignores : {p : Phase} → Hears f buffer p (heard (silently (receiverIn s p)) buffer)
-    announced : {p : Phase} {t : Told}
+    announced : {p : Phase} {h : Heard}
         → f .kind ≡ 1
         → byteOf f 0 ≡ 0
-        → Announced (byteOf f 1) (wordAt f 2 3) p t
-        → Hears f buffer p (heard t buffer)
+        → Announced (byteOf f 1) (wordAt f 2 3) buffer p h
+        → Hears f buffer p h
     informed : {p : Phase} {h : Heard}
         → length buffer ≡ 1785
         → f .kind ≡ 1
