@@ -15,7 +15,6 @@ use Rattle.receiver.specs.Tick as receiver-tick
 use Rattle.receiver.specs.Told as receiver
 use Rattle.receiver.specs.Told.{Heard, heard}
 use Rattle.receiver.specs.declared.Phase as receiver-phase
-use Rattle.receiver.specs.declared.Phase.the-variants as at
 use Rattle.receiver.specs.declared.Receiver.{Receiver}
 use Rattle.receiver.specs.declared.Settings as receiver-settings
 use Rattle.sender.specs.Begin.{beginOf, beginPhase, beginIdle, beginLong, beginShort}

@@ -2,11 +2,10 @@
 use Prim.Native.Nat.{ℕ, _≤_, _<_}
 use mathlib.Core.Bool.{Bool, true, false}
 use mathlib.Core.List.{List, [], _∷_, _++_, append-nil}
-use mathlib.Core.Path.{_≡_, refl, ap₂, _∙_, subst⁻¹}
+use mathlib.Core.Path.{_≡_, refl, subst⁻¹}
 use native.Mathlib.Omega.{arith}
 use lib.ListN.{length}
 use Rattle.frame.specs.Count.{frameCountOf}
-use Rattle.frame.specs.Frames.{endOfAckOf}
 use Rattle.frame.specs.declared.Frame.{Frame}
 use Rattle.receiver.proofs.View.{receiverIn, Shut, Ticks, rests, waits, retries, expires, tick-does, Announced, nacks, opens, again, Informed, ended, Hears, hear-does}
 use Rattle.receiver.specs.Hear.{hearOf}
@@ -46,20 +45,20 @@ module _ {m : List ℕ} {rs : Settings} {forward back : List Frame} {buffer : Li
   asked-goes : {h : Heard} → Line (Announces m) forward → Line Replies back → Goes m rs h → Took m true forward back buffer [] h
   asked-goes l b (silent h) = record { stage = asked h l (same b) }
   asked-goes l b (replies h r) = record { stage = asked h l (joins b r) }
-  asked-goes l b (fails r) = record { stage = asked closed l (joins b r) }
+  asked-goes l b (fails cause) = record { stage = asked closed l (joins b (stages.Replies.refuses cause)) }
 
   going-goes : {h : Heard} → Ordered (Announces m) (Carries m) forward → Line Replies back → Goes m rs h → Took m false forward back buffer [] h
   going-goes l b (silent h) = record { stage = going h l (same b) }
   going-goes l b (replies h r) = record { stage = going h l (joins b r) }
-  going-goes l b (fails r) = record { stage = going closed l (joins b r) }
+  going-goes l b (fails cause) = record { stage = going closed l (joins b (stages.Replies.refuses cause)) }
 
   -- the last frame: m has been delivered, and only information frames are left on forward
   going-ends : {h : Heard} → Line (Carries m) forward → Line Replies back → Ends m rs h → Took m false forward back buffer [] h
   going-ends l b (goes g) = going-goes (late l) b g
-  going-ends l b (ends {left = left} many long e whole) =
+  going-ends l b (ends x many long whole) =
       record {
         stage =
-            rw (many, long, whole) (there l (joins (widens (λ f r. stages.replies r) b) (stages.ends (e ∙ ap₂ endOfAckOf many long))));
+            rw (many, long, whole) (there l (joins (widens (λ f r. stages.replies r) b) (stages.ends refl)));
       }
 
 module _ {m : List ℕ} {rs : Settings} {forward back : List Frame} {buffer : List ℕ} where

@@ -3,7 +3,7 @@
 -- Assumes nothing.
 use Prim.Native.Nat.{ℕ, _+_, _-_, _*_, _<_, _≤_}
 use mathlib.Core.Path.{_≡_, refl, sym, ap, _∙_}
-use mathlib.Core.Bool.{Bool, true, false, _&&_}
+use mathlib.Core.Bool.{Bool, true, false}
 use mathlib.Core.Logic.{_⊎_, inl, inr}
 use mathlib.Core.List.{List, _++_, map, append-nil, append-assoc}
 use native.Mathlib.Nat.{le-refl}
@@ -19,7 +19,7 @@ use Rattle.frame.specs.Result.{accepted, refused, refusalOf}
 use Rattle.frame.proofs.Choice.{pick-true, pick-false}
 use Rattle.frame.specs.Choice.{pick}
 use Rattle.frame.specs.Count.{incrementOf, wordOf}
-use Rattle.frame.specs.Frames.{byteOf, lmAckOf, lmNackOf, endOfAckOf, smAckOf}
+use Rattle.frame.specs.Frames.{byteOf, lmNackOf, smAckOf}
 use Rattle.frame.specs.Reading.{readOf, toldReading}
 use Rattle.frame.specs.declared.Frame.{Frame}
 use Rattle.frame.specs.declared.Parsed.{Parsed}

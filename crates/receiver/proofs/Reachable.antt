@@ -23,7 +23,7 @@ use Rattle.receiver.specs.Told.{Told, Heard}
 use Rattle.receiver.specs.Window.{windowOf}
 use Rattle.receiver.specs.declared.Connection.{Connection}
 use Rattle.receiver.specs.declared.Phase.{Phase}
-use Rattle.receiver.specs.declared.Phase.the-variants.{Idle, Open}
+use Rattle.receiver.specs.declared.Phase.the-variants.{Open}
 use Rattle.receiver.specs.declared.Receiver.{Receiver}
 use Rattle.receiver.specs.declared.Settings.{Settings}
 

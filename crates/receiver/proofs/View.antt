@@ -35,12 +35,11 @@ Shut (Done x) = Unit
 Shut (Open x) = ⊥
 
 module _ (s : Settings) where
-  -- with a connection open, and with a delivery remembered
-  abbrev opened : Connection → Receiver
-  opened x = receiverIn s (Open x)
+  abbrev openWith : Connection → Receiver
+  openWith x = receiverIn s (Open x)
 
-  abbrev done : Delivery → Receiver
-  done y = receiverIn s (Done y)
+  abbrev doneWith : Delivery → Receiver
+  doneWith y = receiverIn s (Done y)
 
   -- ---- a tick
 
@@ -48,12 +47,12 @@ module _ (s : Settings) where
     rests : {p : Phase} → Shut p → Ticks p (silently (receiverIn s p))
     waits : {x : Connection}
         → incrementOf (x .wait) < s .timeout
-        → Ticks (Open x) (waiting (opened x) x)
+        → Ticks (Open x) (waiting (openWith x) x)
     retries : {x : Connection}
         → s .timeout ≤ incrementOf (x .wait)
         → incrementOf (x .misses) < 3
-        → Ticks (Open x) (askingAgain (opened x) x)
-    expires : {x : Connection} → Ticks (Open x) (failingWith (opened x) 2)
+        → Ticks (Open x) (askingAgain (openWith x) x)
+    expires : {x : Connection} → Ticks (Open x) (failingWith (openWith x) 2)
 
   -- ---- an announcement of N and L that is not ignored
 
@@ -67,34 +66,34 @@ module _ (s : Settings) where
         → length ≤ s .capacity
         → Announced frames length buffer p (heard (opening (receiverIn s p) frames length) buffer)
     again : {x : Connection}
-        → Announced frames length buffer (Open x) (heard (openingAgain (opened x) x) buffer)
+        → Announced frames length buffer (Open x) (heard (openingAgain (openWith x) x) buffer)
 
   -- ---- an information frame that is neither refused nor ignored
 
   pub data Informed (number : ℕ) (bytes buffer : List ℕ) : Phase → Heard → Type 0 where
     ended : {y : Delivery}
         → number ≡ y .frames
-        → Informed number bytes buffer (Done y) (heard (endingAgain (done y) y) buffer)
+        → Informed number bytes buffer (Done y) (heard (endingAgain (doneWith y) y) buffer)
     above : {x : Connection}
         → x .frames < number
-        → Informed number bytes buffer (Open x) (heard (failingWith (opened x) 4) buffer)
+        → Informed number bytes buffer (Open x) (heard (failingWith (openWith x) 4) buffer)
     delivers : {x : Connection}
         → number ≡ x .expected
         → x .expected ≡ x .frames
         → Informed number bytes buffer (Open x)
-        (heard (ending (opened x) x) (storing buffer number (x .length) bytes))
+        (heard (ending (openWith x) x) (storing buffer number (x .length) bytes))
     asks : {x : Connection}
         → number ≡ x .expected
         → x .expected < x .frames
         → x .expected ≡ x .last
         → Informed number bytes buffer (Open x)
-        (heard (askingNext (opened x) x) (storing buffer number (x .length) bytes))
+        (heard (askingNext (openWith x) x) (storing buffer number (x .length) bytes))
     goes-on : {x : Connection}
         → number ≡ x .expected
         → x .expected < x .frames
         → (x .expected ≡ x .last → ⊥)
         → Informed number bytes buffer (Open x)
-        (heard (expectingNext (opened x) x) (storing buffer number (x .length) bytes))
+        (heard (expectingNext (openWith x) x) (storing buffer number (x .length) bytes))
 
   -- ---- a hearing
 
@@ -115,7 +114,7 @@ module _ (s : Settings) where
         → Hears f buffer p h
     closes : {x : Connection}
         → f .kind ≡ 3
-        → Hears f buffer (Open x) (heard (failing (opened x) 1) buffer)
+        → Hears f buffer (Open x) (heard (failing (openWith x) 1) buffer)
     short : {p : Phase}
         → f .kind ≡ 5
         → Hears f buffer p

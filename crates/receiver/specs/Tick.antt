@@ -1,5 +1,4 @@
 -- Document 01, The receiver: Tick.
-use Prim.Native.Nat.{ℕ}
 use lib.Dec.{leb}
 use Rattle.frame.specs.Choice.{pick}
 use Rattle.frame.specs.Count.{incrementOf}
