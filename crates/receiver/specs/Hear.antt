@@ -12,7 +12,7 @@ use Rattle.frame.specs.Reading.{readOf}
 use Rattle.frame.specs.Result.{Result, accepted, refused}
 use Rattle.frame.specs.declared.Frame.{Frame}
 use Rattle.frame.specs.declared.Parsed.{Parsed}
-use Rattle.receiver.specs.State.{opened, moved, remembered, inPhase}
+use Rattle.receiver.specs.State.{opened, moved, inPhase}
 use Rattle.receiver.specs.Told.{Told, Heard, heard, refusing, silently, emitting, delivering, failingWith, failing, shortWith, shortOnly}
 use Rattle.receiver.specs.Window.{windowOf, asking}
 use Rattle.receiver.specs.declared.Connection.{Connection}
@@ -64,7 +64,8 @@ hearAnnouncement r (Open x) frames length = announceOpen r x frames length
 -- "At N: EndofACK, delivered L, Idle."
 abbrev pub ending : Receiver → Connection → Told
 ending r x =
-    delivering (inPhase r (Done (remembered x))) (endOfAckOf (x .frames) (x .length)) (x .length)
+    let last : Delivery = record { frames = x .frames; length = x .length } in
+    delivering (inPhase r (Done last)) (endOfAckOf (x .frames) (x .length)) (x .length)
 
 -- "wait and misses 0", "At w: e grows by 1, w is the smaller of e + C − 1 and N, LM_ACK e, w − e + 1."
 abbrev pub askingNext : Receiver → Connection → Told

@@ -1,7 +1,6 @@
 -- The receiver's state as the rules change it. A connection is spelt out here and nowhere else.
 use Prim.Native.Nat.{ℕ}
 use Rattle.receiver.specs.declared.Connection.{Connection}
-use Rattle.receiver.specs.declared.Delivery.{Delivery}
 use Rattle.receiver.specs.declared.Phase.{Phase}
 use Rattle.receiver.specs.declared.Receiver.{Receiver}
 
@@ -21,10 +20,6 @@ moved x expected last wait misses =
       wait = wait;
       misses = misses;
     }
-
--- "the N and L last delivered": those of the connection
-abbrev pub remembered : Connection → Delivery
-remembered x = record { frames = x .frames; length = x .length }
 
 -- the receiver with its settings, in another phase
 abbrev pub inPhase : Receiver → Phase → Receiver

@@ -76,9 +76,10 @@ impl Receiver {
         }
     }
 
-    pub(crate) fn hear_announcement(self, phase: Phase, frames: u8, length: u16) -> Answer
-        ensures { λ r. ⌜ told r ≡ hearAnnouncement self phase frames length ⌝ }
+    pub(crate) fn hear_announcement(self, frames: u8, length: u16) -> Answer
+        ensures { λ r. ⌜ told r ≡ hearAnnouncement self (self .phase) frames length ⌝ }
     {
+        let phase = self.phase;
         match phase {
             Phase::Idle => self.announce_idle(frames, length),
             Phase::Done(_) => self.announce_idle(frames, length),

@@ -19,9 +19,10 @@ const BUFFER: usize = 1785;
 
 impl Receiver {
     // LM_NACK closes an open connection.
-    fn hear_nack(self, phase: Phase) -> Answer
-        ensures { λ r. ⌜ told r ≡ hearNack self phase ⌝ }
+    fn hear_nack(self) -> Answer
+        ensures { λ r. ⌜ told r ≡ hearNack self (self .phase) ⌝ }
     {
+        let phase = self.phase;
         match phase {
             Phase::Idle => self.silently(),
             Phase::Done(_) => self.silently(),
@@ -34,13 +35,12 @@ impl Receiver {
         requires { ⌜ length (now buffer) ≡ 1785 ⌝ }
         ensures { λ r. ⌜ heard (told r) (now (buffer .exit)) ≡ hearNumbered self f parsed (now (buffer .entry)) ⌝ }
     {
-        let phase = self.phase;
         let bytes = f.bytes;
         let number = parsed.number;
         if number == 0 {
-            self.hear_announcement(phase, bytes[1], word(bytes[2], bytes[3]))
+            self.hear_announcement(bytes[1], word(bytes[2], bytes[3]))
         } else {
-            self.hear_information(phase, f, number, buffer)
+            self.hear_information(f, number, buffer)
         }
     }
 
@@ -50,11 +50,10 @@ impl Receiver {
         ensures { λ r. ⌜ heard (told r) (now (buffer .exit)) ≡ hearKind self f parsed (now (buffer .entry)) ⌝ }
     {
         let kind = parsed.kind;
-        let phase = self.phase;
         let bytes = f.bytes;
         match kind {
             1 => self.hear_numbered(f, parsed, buffer),
-            3 => self.hear_nack(phase),
+            3 => self.hear_nack(),
             5 => self.short_with(sm_ack(bytes[0]), bytes),
             7 => self.short_only(bytes),
             0 | 2 | 4 | 6 | 8..=255 => self.refusing(7),

@@ -27,7 +27,10 @@ impl Receiver {
     fn ending(self, x: Connection) -> Answer
         ensures { λ r. ⌜ told r ≡ ending self x ⌝ }
     {
-        self.in_phase(Phase::Done(x.remembered()))
+        self.in_phase(Phase::Done(Delivery {
+                frames: x.frames,
+                length: x.length,
+            }))
             .delivering(end_of_ack(x.frames, x.length), x.length)
     }
 
@@ -95,17 +98,12 @@ impl Receiver {
         }
     }
 
-    pub(crate) fn hear_information(
-        self,
-        phase: Phase,
-        f: Frame,
-        number: u8,
-        buffer: &mut [u8],
-    ) -> Answer
+    pub(crate) fn hear_information(self, f: Frame, number: u8, buffer: &mut [u8]) -> Answer
         requires { ⌜ length (now buffer) ≡ 1785 ⌝ }
         ensures { λ r. ⌜ heard (told r) (now (buffer .exit))
-            ≡ hearInformation self phase number (drop 1 (f .bytes)) (now (buffer .entry)) ⌝ }
+            ≡ hearInformation self (self .phase) number (drop 1 (f .bytes)) (now (buffer .entry)) ⌝ }
     {
+        let phase = self.phase;
         match phase {
             Phase::Idle => self.silently(),
             Phase::Done(x) => self.information_done(x, number),

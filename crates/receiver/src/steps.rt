@@ -1,6 +1,6 @@
 // The steps that the calls share: the changed state, and the answer of each kind.
 ghost use mathlib.Core.Path.{_≡_};
-ghost use Rattle.receiver.specs.State.{opened, moved, remembered, inPhase};
+ghost use Rattle.receiver.specs.State.{opened, moved, inPhase};
 ghost use Rattle.receiver.specs.Told.{
   told,
   refusing,
@@ -14,7 +14,6 @@ ghost use Rattle.receiver.specs.Told.{
 };
 use crate::Answer;
 use crate::Connection;
-use crate::Delivery;
 use crate::Outcome;
 use crate::Phase;
 use crate::Receiver;
@@ -50,16 +49,6 @@ impl Connection {
             last,
             wait,
             misses,
-        }
-    }
-
-    // Its N and L.
-    pub(crate) fn remembered(self) -> Delivery
-        ensures { λ r. ⌜ r ≡ remembered self ⌝ }
-    {
-        Delivery {
-            frames: self.frames,
-            length: self.length,
         }
     }
 }

@@ -4,9 +4,6 @@ use borrow.Author.Needs.{needs}
 use Rattle.receiver.proofs.Receiver.ending.Statement.{statement}
 use Rattle.receiver.proofs.Receiver.ending.Tie as tie
 
-remembered-requires : tie.Need-remembered-requires
-remembered-requires c κs = search needs
-
 in-phase-requires : tie.Need-in-phase-requires
 in-phase-requires c κs = search needs
 
@@ -23,7 +20,6 @@ pub ending-spec : {M : Type 1} → statement M
 ending-spec =
     tie.close
     (tie.spec
-    remembered-requires
     in-phase-requires
     end-of-ack-requires
     delivering-requires
