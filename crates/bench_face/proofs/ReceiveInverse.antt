@@ -46,7 +46,7 @@ pub flat-back : (r : FlatReceiver) → Written r → flatReceiver (receiverFrom 
 unfolding flatPhase
 flat-back r (idle p k) = ap (flatPhase _) (sym (reads-idle r (other p) (other p))) ∙ rebuilt r (sym p) (sym k)
 flat-back r (done p k) = ap (flatPhase _) (sym (reads-done r p)) ∙ rebuilt r (sym p) (sym k)
-flat-back r (opened p) = ap (flatPhase _) (sym (reads-open r p)) ∙ rebuilt r (sym p) refl
+flat-back r (opened p) = ap (flatPhase _) (sym (reads-open r p _ refl)) ∙ rebuilt r (sym p) refl
 
 -- ---- answers
 

@@ -9,14 +9,15 @@ use Rattle.frame.specs.Result.{Result}
 use Rattle.frame.specs.Choice.{pick}
 use Rattle.frame.specs.declared.Frame.{Frame}
 use Rattle.bench_face.specs.Frames.{frameFrom, flatFrame}
-use Rattle.bench_face.specs.Receive.{phaseFrom, receiverFrom, remembering, flatOf, flatPhase, flatReceiver, flatOutcome, flatAnswer, noReceiver, flatMade, hearing, flatHeard}
+use Rattle.bench_face.specs.Receive.{connectionFrom, phaseFrom, receiverFrom, remembering, flatOf, flatPhase, flatReceiver, flatOutcome, flatAnswer, noReceiver, flatMade, hearing, flatHeard}
 use Rattle.bench_face.specs.declared.frames.FlatFrame.{FlatFrame}
 use Rattle.bench_face.specs.declared.receive.FlatReceiver.{FlatReceiver}
 use Rattle.bench_face.specs.declared.receive.ReceiverAnswer.{ReceiverAnswer}
 use Rattle.bench_face.specs.declared.receive.ReceiverMade.{ReceiverMade}
 use Rattle.bench_face.specs.declared.receive.Report.{Report}
 use Rattle.receiver.specs.Hear.{hearOf}
-use Rattle.receiver.specs.Tick.{makeOf, tickOf}
+use Rattle.receiver.specs.Make.{makeOf}
+use Rattle.receiver.specs.Tick.{tickOf}
 use Rattle.receiver.specs.Told.{toldMade, toldOutcome, Told, told, heard}
 use Rattle.receiver.specs.declared.Answer.{Answer}
 use Rattle.receiver.specs.declared.Connection.{Connection}
@@ -37,11 +38,9 @@ module _ (r : FlatReceiver) where
   unfolding phaseFrom pick
   reads-done e = cc (test 1 e)
 
-  pub reads-open : r .phase ≡ 2
-      → Open (record { frames = r .frames; length = r .length; expected = r .expected; last = r .last; wait = r .wait; misses = r .misses })
-      ≡ phaseFrom r
+  pub reads-open : r .phase ≡ 2 → (x : Connection) → x ≡ connectionFrom r → Open x ≡ phaseFrom r
   unfolding phaseFrom pick
-  reads-open e = cc (test 1 e, test 2 e)
+  reads-open e x k = cc (test 1 e, test 2 e)
 
   -- every other number is Idle
   pub reads-idle : (r .phase ≡ 1 → ⊥) → (r .phase ≡ 2 → ⊥) → Idle ≡ phaseFrom r

@@ -2,6 +2,7 @@
 ghost use mathlib.Core.Path.{_≡_};
 ghost use Rattle.bench_face.specs.Frames.{frameFrom};
 ghost use Rattle.bench_face.specs.Receive.{
+  connectionFrom,
   phaseFrom,
   receiverFrom,
   flatOf,
@@ -15,7 +16,8 @@ ghost use Rattle.bench_face.specs.Receive.{
   flatHeard,
 };
 ghost use Rattle.receiver.specs.Hear.{hearOf};
-ghost use Rattle.receiver.specs.Tick.{makeOf, tickOf};
+ghost use Rattle.receiver.specs.Make.{makeOf};
+ghost use Rattle.receiver.specs.Tick.{tickOf};
 ghost use Rattle.receiver.specs.Told.{toldMade, toldOutcome, told};
 use crate::frames::FlatFrame;
 use crate::frames::read_frame;
@@ -75,6 +77,19 @@ pub(crate) struct Report {
     pub length: u16,
 }
 
+fn read_connection(r: FlatReceiver) -> Connection
+    ensures { λ x. ⌜ x ≡ connectionFrom r ⌝ }
+{
+    Connection {
+        frames: r.frames,
+        length: r.length,
+        expected: r.expected,
+        last: r.last,
+        wait: r.wait,
+        misses: r.misses,
+    }
+}
+
 // By the phase's number; an unknown one is Idle.
 fn read_phase(r: FlatReceiver) -> Phase
     ensures { λ p. ⌜ p ≡ phaseFrom r ⌝ }
@@ -85,14 +100,7 @@ fn read_phase(r: FlatReceiver) -> Phase
             frames: r.frames,
             length: r.length,
         }),
-        2 => Phase::Open(Connection {
-            frames: r.frames,
-            length: r.length,
-            expected: r.expected,
-            last: r.last,
-            wait: r.wait,
-            misses: r.misses,
-        }),
+        2 => Phase::Open(read_connection(r)),
         _ => Phase::Idle,
     }
 }

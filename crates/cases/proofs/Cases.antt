@@ -16,6 +16,7 @@ use Rattle.sender.specs.Tick as sender-tick
 use Rattle.sender.specs.declared.Phase.the-variants.{Idle}
 use Rattle.sender.specs.declared.Sender.{Sender}
 use Rattle.receiver.specs.Hear as receiver-hear
+use Rattle.receiver.specs.Make as receiver-making
 use Rattle.receiver.specs.Tick as receiver-tick
 use Rattle.identifier.specs.Answer.{joinOf}
 use Rattle.identifier.specs.Identifier.{fitsOf, numberOf}
@@ -42,8 +43,8 @@ unfolding
     sender-hear.hearOf sender-hear.hearRead sender-hear.hearKind sender-hear.hearAck sender-hear.ackOpening
     sender-tick.tickOf sender-tick.tickPhase sender-tick.tickOpening
     receiver-hear.hearOf receiver-hear.hearRead receiver-hear.hearKind receiver-hear.hearNumbered
-    receiver-hear.hearAnnouncement receiver-hear.announceIdle receiver-hear.opening
-    receiver-tick.makeOf receiver-tick.tickOf receiver-tick.tickPhase receiver-tick.tickOpen
+    receiver-hear.hearAnnouncement receiver-hear.announceIdle
+    receiver-making.makeOf receiver-tick.tickOf receiver-tick.tickPhase receiver-tick.tickOpen
     shownJoined joinOf fitsOf numberOf
 all-right = tt
 

@@ -14,8 +14,10 @@ use Rattle.frame.specs.Count.{frameCountOf, incrementOf, lowByte, highByte, wor
 use Rattle.frame.specs.Frames.{announcementOf, lmAckOf, lmNackOf}
 use Rattle.frame.specs.Reading.{namedOf, allFiller, readOf}
 use Rattle.receiver.specs.Hear.{hearOf, hearRead, hearKind, hearNumbered, hearAnnouncement, announceIdle, opening}
-use Rattle.receiver.specs.Tick.{makeOf, tickOf, tickPhase, tickOpen}
-use Rattle.receiver.specs.Told.{Told, failingWith, inPhase}
+use Rattle.receiver.specs.Make.{idleWith, makeOf}
+use Rattle.receiver.specs.State.{inPhase}
+use Rattle.receiver.specs.Tick.{tickOf, tickPhase, tickOpen}
+use Rattle.receiver.specs.Told.{Told, failingWith}
 use Rattle.receiver.specs.declared.Connection.{Connection}
 use Rattle.receiver.specs.declared.Phase.the-variants.{Idle, Open}
 use Rattle.receiver.specs.declared.Receiver.{Receiver}
@@ -103,7 +105,7 @@ alone-shows : (r : Receiver) (frames l : ℕ) (buffer : List ℕ) (ticks : ℕ)
     → frames ≡ frameCountOf l
     → length buffer ≡ 1785
     → receiverInSilence r frames l buffer ticks ≡ openNumbers (r .settings .timeout) 1 0 0 1 ticks
-unfolding receiverInSilence opening
+unfolding receiverInSilence
 alone-shows r frames l buffer ticks idle low room high fits lent =
     ap (λ (t : Told). receiverTicks (t .next) 1 ticks) (opens r frames l buffer idle low room high fits lent)
     ∙ open-shows r _ 1 ticks
@@ -115,9 +117,7 @@ by-fit : (timeout window capacity frames l : ℕ) (buffer : List ℕ) (ticks : �
     → frames ≡ frameCountOf l
     → length buffer ≡ 1785
     → ofReceiver
-    (pick (fit && true)
-    (accepted (record { settings = record { timeout = timeout; window = window; capacity = capacity }; phase = Idle }))
-    (refused 1))
+    (pick (fit && true && true) (accepted (idleWith timeout window capacity)) (refused 1))
     (λ r. receiverInSilence r frames l buffer ticks)
     ≡ pick fit (openNumbers timeout 1 0 0 1 ticks) (refusal 1)
 unfolding ofReceiver pick

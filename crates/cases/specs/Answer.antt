@@ -14,6 +14,7 @@ use Rattle.sender.specs.Tick as sender-tick
 use Rattle.sender.specs.Told as sender
 use Rattle.sender.specs.declared.Sender.{Sender}
 use Rattle.receiver.specs.Hear as receiver-hear
+use Rattle.receiver.specs.Make as receiver-making
 use Rattle.receiver.specs.Tick as receiver-tick
 use Rattle.receiver.specs.Told as receiver
 use Rattle.receiver.specs.declared.Receiver.{Receiver}
@@ -105,6 +106,6 @@ answerOf (acknowledged frames start count) =
 answerOf (senderSilence timeout limit ticks) =
     ofSender (sender-begin.makeOf 1 timeout limit) (λ s. senderInSilence s (zeros 9) ticks)
 answerOf (receiverSilence timeout frames ticks) =
-    ofReceiver (receiver-tick.makeOf timeout 255 1785) (λ r. receiverInSilence r frames (7 * frames) (zeros 1785) ticks)
+    ofReceiver (receiver-making.makeOf timeout 255 1785) (λ r. receiverInSilence r frames (7 * frames) (zeros 1785) ticks)
 answerOf (joined p pf ps sa) =
     shownJoined (parts.joinOf (record { p = p; edp = 0; dp = 0; pf = pf; ps = ps; sa = sa }))

@@ -14,7 +14,7 @@ use Rattle.sender.specs.declared.Phase.the-variants.{Idle, Opening, Sending, Wa
 use Rattle.sender.specs.declared.Sender.{Sender}
 use Rattle.sender.specs.declared.Streamed.{Streamed}
 use Rattle.sender.specs.declared.Transfer.{Transfer}
-use Rattle.receiver.specs.Tick as receiver-tick
+use Rattle.receiver.specs.Make as receiver-making
 use Rattle.identifier.specs.Answer.{joinOf}
 use Rattle.identifier.specs.declared.Parts.{Parts}
 use Rattle.cases.specs.Answer.{shownBegin, shownHearing, senderInSilence, receiverInSilence, ofSender, ofReceiver, shownJoined}
@@ -61,7 +61,7 @@ Claim (receiverSilence timeout frames ticks) answer =
     → capacity ≤ 1785
     → frames ≡ frameCountOf l
     → length buffer ≡ 1785
-    → ofReceiver (receiver-tick.makeOf timeout window capacity) (λ r. receiverInSilence r frames l buffer ticks) ≡ answer
+    → ofReceiver (receiver-making.makeOf timeout window capacity) (λ r. receiverInSilence r frames l buffer ticks) ≡ answer
 Claim (joined p pf ps sa) answer =
     (x : Parts)
     → x .p ≡ p

@@ -10,7 +10,7 @@ use Rattle.frame.specs.Frames.{fillTo, blankOf, announcementOf, informationOf, 
 use Rattle.frame.specs.Reading.{namedOf, allFiller, readOf}
 use Rattle.frame.specs.declared.Frame.{Frame}
 use Rattle.receiver.specs.Hear as receiver-hear
-use Rattle.receiver.specs.Tick as receiver-tick
+use Rattle.receiver.specs.Window as receiver-window
 use Rattle.receiver.specs.declared.Receiver.{Receiver}
 use Rattle.sender.specs.Begin as sender-begin
 use Rattle.sender.specs.Hear as sender-hear
@@ -32,8 +32,8 @@ unfolding
     sender-begin.beginOf sender-begin.beginPhase sender-begin.beginIdle sender-begin.beginLong
     sender-tick.tickOf sender-tick.tickPhase sender-tick.tickSending sender-tick.afterFrame
     sender-hear.hearOf sender-hear.hearRead sender-hear.hearKind sender-hear.hearAck sender-hear.ackOpening sender-hear.taking sender-hear.hearEnd sender-hear.ifWhole
-    receiver-hear.hearOf receiver-hear.hearRead receiver-hear.hearKind receiver-hear.hearNumbered receiver-hear.hearAnnouncement receiver-hear.announceIdle receiver-hear.opening receiver-hear.hearInformation receiver-hear.informationOpen receiver-hear.stored receiver-hear.storing
-    receiver-tick.windowOf
+    receiver-hear.hearOf receiver-hear.hearRead receiver-hear.hearKind receiver-hear.hearNumbered receiver-hear.hearAnnouncement receiver-hear.announceIdle receiver-hear.hearInformation receiver-hear.informationOpen receiver-hear.stored receiver-hear.storing
+    receiver-window.windowOf
 example = refl
 
 -- ---- the player's runs meet the conditions

@@ -15,7 +15,6 @@ use Rattle.receiver.specs.Tick as receiver-tick
 use Rattle.receiver.specs.Told as receiver
 use Rattle.receiver.specs.Told.{Heard, heard}
 use Rattle.receiver.specs.declared.Phase as receiver-phase
-use Rattle.receiver.specs.declared.Phase.the-variants as at
 use Rattle.receiver.specs.declared.Receiver.{Receiver}
 use Rattle.receiver.specs.declared.Settings as receiver-settings
 use Rattle.sender.specs.Begin.{beginOf, beginPhase, beginIdle, beginLong, beginShort}
@@ -282,15 +281,15 @@ module _ {st : Settings} {m : List ℕ} {n : ℕ} {p : Phase} {forward back : Li
   short-rests shut l (view.retries _ _) = absurd shut
   short-rests shut l view.expires = absurd shut
 
-  -- SM_RM is delivered and acknowledged, or refused
+  -- SM_RM is delivered and acknowledged, or nothing happens
   short-hear : {rs : receiver-settings.Settings} {q : receiver-phase.Phase} {lent : List ℕ} {h : Heard} → Shut q → Line (Repeats m) forward
       → view.Hears rs (smRmOf m) lent q h → Received st (senderIn st p) forward back buffer (since m n 0 ds) h
   unfolding smRmOf
   short-hear shut l (view.refuses _) = record { live = rw (append-nil, add-zero n) (short narrow young v shut l e c) }
+  short-hear shut l view.ignores = record { live = rw (append-nil, add-zero n) (short narrow young v shut l e c) }
   short-hear shut l (view.announced k _ _) = absurd (omega arith)
   short-hear shut l (view.informed _ k _ _) = absurd (omega arith)
   short-hear shut l (view.closes k) = absurd (omega arith)
-  short-hear shut l (view.unmoved _ k) = absurd (omega arith)
   short-hear shut l (view.short _) =
       let some : 1 ≤ length (fillTo 8 m ∷ ds) = omega arith in
       record { live = rw (add-zero n) (short narrow young v shut l (joins (widens (echo-more (fillTo 8 m)) e) (echoes _ some)) (refl, c)) }

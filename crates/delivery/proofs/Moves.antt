@@ -2,13 +2,12 @@
 use Prim.Native.Nat.{ℕ, _≤_, _<_}
 use mathlib.Core.Bool.{Bool, true, false}
 use mathlib.Core.List.{List, [], _∷_, _++_, append-nil}
-use mathlib.Core.Path.{_≡_, refl, ap₂, _∙_, subst⁻¹}
+use mathlib.Core.Path.{_≡_, refl, subst⁻¹}
 use native.Mathlib.Omega.{arith}
 use lib.ListN.{length}
 use Rattle.frame.specs.Count.{frameCountOf}
-use Rattle.frame.specs.Frames.{endOfAckOf}
 use Rattle.frame.specs.declared.Frame.{Frame}
-use Rattle.receiver.proofs.View.{receiverIn, Shut, Ticks, rests, waits, retries, expires, tick-does, Announced, nacks, opens, again, ignored, Informed, skips, ended, Hears, hear-does}
+use Rattle.receiver.proofs.View.{receiverIn, Shut, Ticks, rests, waits, retries, expires, tick-does, Announced, nacks, opens, again, Informed, ended, Hears, hear-does}
 use Rattle.receiver.specs.Hear.{hearOf}
 use Rattle.receiver.specs.Tick.{tickOf}
 use Rattle.receiver.specs.Told.{Told, Heard, heard}
@@ -16,7 +15,7 @@ use Rattle.receiver.specs.declared.Phase.{Phase}
 use Rattle.receiver.specs.declared.Phase.the-variants.{Done}
 use Rattle.receiver.specs.declared.Settings.{Settings}
 use Rattle.delivery.proofs.Lines.{Line, more, joins, widens, behind, Ordered, late, early, behind-ordered}
-use Rattle.delivery.proofs.Receives.{Read, refused, read, reads-announcement, reads-information, Goes, silent, replies, fails, Ends, goes, ends, half-tick, half-announcement, half-information}
+use Rattle.delivery.proofs.Receives.{Read, refused, ignored, read, reads-announcement, reads-information, Goes, silent, replies, fails, Ends, goes, ends, half-tick, half-announcement, half-information}
 use Rattle.transport.proofs.Refusals.{Unrefused}
 use Rattle.delivery.proofs.Stages as stages
 use Rattle.delivery.proofs.Stages.{framesOf, Announces, announces, Carries, carries, Refuses, Replies, grants, Closes, Halfway, closed, opened, Stage, fresh, asked, going, there}
@@ -46,20 +45,20 @@ module _ {m : List ℕ} {rs : Settings} {forward back : List Frame} {buffer : Li
   asked-goes : {h : Heard} → Line (Announces m) forward → Line Replies back → Goes m rs h → Took m true forward back buffer [] h
   asked-goes l b (silent h) = record { stage = asked h l (same b) }
   asked-goes l b (replies h r) = record { stage = asked h l (joins b r) }
-  asked-goes l b (fails r) = record { stage = asked closed l (joins b r) }
+  asked-goes l b (fails cause) = record { stage = asked closed l (joins b (stages.Replies.refuses cause)) }
 
   going-goes : {h : Heard} → Ordered (Announces m) (Carries m) forward → Line Replies back → Goes m rs h → Took m false forward back buffer [] h
   going-goes l b (silent h) = record { stage = going h l (same b) }
   going-goes l b (replies h r) = record { stage = going h l (joins b r) }
-  going-goes l b (fails r) = record { stage = going closed l (joins b r) }
+  going-goes l b (fails cause) = record { stage = going closed l (joins b (stages.Replies.refuses cause)) }
 
   -- the last frame: m has been delivered, and only information frames are left on forward
   going-ends : {h : Heard} → Line (Carries m) forward → Line Replies back → Ends m rs h → Took m false forward back buffer [] h
   going-ends l b (goes g) = going-goes (late l) b g
-  going-ends l b (ends {left = left} many long e whole) =
+  going-ends l b (ends x many long whole) =
       record {
         stage =
-            rw (many, long, whole) (there l (joins (widens (λ f r. stages.replies r) b) (stages.ends (e ∙ ap₂ endOfAckOf many long))));
+            rw (many, long, whole) (there l (joins (widens (λ f r. stages.replies r) b) (stages.ends refl)));
       }
 
 module _ {m : List ℕ} {rs : Settings} {forward back : List Frame} {buffer : List ℕ} where
@@ -71,12 +70,10 @@ module _ {m : List ℕ} {rs : Settings} {forward back : List Frame} {buffer : Li
       let one : 1 ≤ 1 = omega arith in
       record { stage = asked (opened refl refl one some refl) l (joins (widens refused-is b) (grants 1 _)) }
   fresh-announcement some shut l b again = absurd shut
-  fresh-announcement some shut l b ignored = absurd shut
 
   -- after the delivery the last frame again draws EndofACK again; nothing else happens
   there-information : {lent bytes : List ℕ} {number : ℕ} {h : Heard} → Line (Carries m) forward → Line (Closes m) back
       → Informed rs number bytes lent (holding m) h → Took m false forward back buffer (m ∷ []) h
-  there-information l b skips = record { stage = there l (same b) }
   there-information l b (ended _) = record { stage = there l (joins b (stages.ends refl)) }
 
 -- ---- every stage
@@ -136,7 +133,7 @@ module _ {m : List ℕ} (w : Fits m) {rs : Settings} {lent : List ℕ} (k : Rest
   announcement : {q : Phase} {f : Frame} {h : Heard} → Announces m f → Hears rs f lent q h → Read rs q lent (Announced rs (framesOf m) (length m) lent q) h
   announcement (announces e) v = let small = w .fits in reads-announcement _ _ (omega arith) (rw e at v)
 
-  -- the stage stays where the hearing is refused; else its buffer is the world's, and what is read decides
+  -- the stage stays where the hearing is refused or ignored; else its buffer is the world's, and what is read decides
   taken : {isOpening : Bool} {q : Phase} {f : Frame} {rest back : List Frame} {buffer : List ℕ} {ds : List (List ℕ)} {h : Heard} {P : Heard → Type 0}
       → Stage m isOpening q (f ∷ rest) back buffer ds
       → (Unrefused h → lent ≡ buffer)
@@ -144,6 +141,7 @@ module _ {m : List ℕ} (w : Fits m) {rs : Settings} {lent : List ℕ} (k : Rest
       → (lent ≡ buffer → P h → Took m isOpening (leaving k f rest) back buffer ds h)
       → Took m isOpening (leaving k f rest) back buffer ds h
   taken s c (refused number) t = record { stage = rw append-nil (stage-leaving k s) }
+  taken s c ignored t = record { stage = rw (append-nil, c refl) (stage-leaving k s) }
   taken s c (read u p) t = t (c u) p
 
   -- the hearing of the first frame of forward, whatever the stage

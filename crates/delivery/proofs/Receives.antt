@@ -1,19 +1,19 @@
 -- What the receiver does in a long transfer, at a tick and at each frame that the sender of that transfer emits.
-use Prim.Native.Nat.{ℕ, _+_, _-_, _*_, _≤_, _<_}
-use mathlib.Core.Bool.{true, false, not}
+use Prim.Native.Nat.{ℕ, _+_, _-_, _≤_, _<_}
 use mathlib.Core.List.{List}
 use mathlib.Core.Path.{_≡_, refl, _∙_}
 use native.Mathlib.Omega.{arith}
 use lib.ListN.{length, take}
-use Rattle.frame.specs.Frames.{fillTo, partFrom, announcementOf, informationOf, endOfAckOf}
+use Rattle.frame.specs.Frames.{fillTo, partFrom, announcementOf, informationOf}
 use Rattle.frame.proofs.Laws.{word-whole}
 use Rattle.frame.specs.declared.Frame.{Frame}
-use Rattle.receiver.proofs.View.{receiverIn, moved, Ticks, rests, waits, retries, expires, Announced, nacks, opens, again, ignored, Informed, skips, ended, above, delivers, asks, goes-on, Hears, refuses, announced, informed, closes, unmoved, short, short-only}
-use Rattle.receiver.specs.Hear.{storing}
-use Rattle.receiver.specs.Told.{Told, Heard, heard, quiet, delivered, failed, refusing}
+use Rattle.receiver.proofs.View.{receiverIn, Ticks, rests, waits, retries, expires, Announced, nacks, opens, again, Informed, above, delivers, asks, goes-on, Hears, refuses, ignores, announced, informed, closes, short, short-only}
+use Rattle.receiver.specs.Hear.{ending, storing}
+use Rattle.receiver.specs.State.{moved}
+use Rattle.receiver.specs.Told.{Told, Heard, heard, refusing, silently, emitting, failingWith}
 use Rattle.receiver.specs.declared.Connection.{Connection}
 use Rattle.receiver.specs.declared.Phase.{Phase}
-use Rattle.receiver.specs.declared.Phase.the-variants.{Idle, Done, Open}
+use Rattle.receiver.specs.declared.Phase.the-variants.{Idle, Open}
 use Rattle.receiver.specs.declared.Settings.{Settings}
 use Rattle.sender.specs.Tick.{informationAt}
 use Rattle.delivery.proofs.Pieces.{next-stored, last-stored}
@@ -23,9 +23,10 @@ use Rattle.transport.proofs.Refusals.{Unrefused, announced-taken, informed-take
 
 -- ---- the frames of a transfer, as the receiver reads them
 
--- a hearing is refused, or the frame is read as what it is
+-- a hearing is refused or ignored, or the frame is read as what it is
 pub data Read (rs : Settings) (q : Phase) (lent : List ℕ) (P : Heard → Type 0) : Heard → Type 0 where
   refused : (number : ℕ) → Read rs q lent P (heard (refusing (receiverIn rs q) number) lent)
+  ignored : Read rs q lent P (heard (silently (receiverIn rs q)) lent)
   read : {h : Heard} → Unrefused h → P h → Read rs q lent P h
 
 module _ {rs : Settings} {lent : List ℕ} where
@@ -33,10 +34,10 @@ module _ {rs : Settings} {lent : List ℕ} where
       → Read rs q lent (Announced rs frames l lent q) h
   unfolding announcementOf
   reads-announcement frames l small (refuses number) = refused number
+  reads-announcement frames l small ignores = ignored
   reads-announcement frames l small (announced _ _ a) = read (announced-taken a) (rw (word-whole l small) at a)
   reads-announcement frames l small (informed _ _ z _) = absurd (omega arith)
   reads-announcement frames l small (closes k) = absurd (omega arith)
-  reads-announcement frames l small (unmoved _ k) = absurd (omega arith)
   reads-announcement frames l small (short k) = absurd (omega arith)
   reads-announcement frames l small (short-only k) = absurd (omega arith)
 
@@ -44,44 +45,39 @@ module _ {rs : Settings} {lent : List ℕ} where
       → Read rs q lent (λ g. (length lent ≡ 1785) × Informed rs number (fillTo 7 (partFrom number m)) lent q g) h
   unfolding informationOf
   reads-information number m low (refuses n) = refused n
+  reads-information number m low ignores = ignored
   reads-information number m low (announced _ z _) = absurd (omega arith)
   reads-information number m low (informed held _ _ i) = read (informed-taken i) (held, i)
   reads-information number m low (closes k) = absurd (omega arith)
-  reads-information number m low (unmoved _ k) = absurd (omega arith)
   reads-information number m low (short k) = absurd (omega arith)
   reads-information number m low (short-only k) = absurd (omega arith)
 
 -- ---- what the receiver answers while the message is on its way
 
--- nothing, a reply, or a failure with a reply
+-- nothing, a reply, or a failure
 pub data Goes (m : List ℕ) (rs : Settings) : Heard → Type 0 where
-  silent : {q : Phase} {f : Frame} {bytes left : List ℕ}
-      → Halfway m q left
-      → Goes m rs (heard (record { next = receiverIn rs q; emits = false; frame = f; outcome = quiet; bytes = bytes }) left)
-  replies : {q : Phase} {f : Frame} {bytes left : List ℕ}
+  silent : {q : Phase} {left : List ℕ} → Halfway m q left → Goes m rs (heard (silently (receiverIn rs q)) left)
+  replies : {q : Phase} {f : Frame} {left : List ℕ}
       → Halfway m q left
       → Replies f
-      → Goes m rs (heard (record { next = receiverIn rs q; emits = true; frame = f; outcome = quiet; bytes = bytes }) left)
-  fails : {f : Frame} {cause : ℕ} {bytes left : List ℕ}
-      → Replies f
-      → Goes m rs (heard (record { next = receiverIn rs Idle; emits = true; frame = f; outcome = failed cause; bytes = bytes }) left)
+      → Goes m rs (heard (emitting (receiverIn rs q) f) left)
+  fails : (cause : ℕ) {left : List ℕ} → Goes m rs (heard (failingWith (receiverIn rs Idle) cause) left)
 
 -- or the delivery
 pub data Ends (m : List ℕ) (rs : Settings) : Heard → Type 0 where
   goes : {h : Heard} → Goes m rs h → Ends m rs h
-  ends : {frames l : ℕ} {f : Frame} {bytes left : List ℕ}
-      → frames ≡ framesOf m
-      → l ≡ length m
-      → f ≡ endOfAckOf frames l
+  ends : (x : Connection) {left : List ℕ}
+      → x .frames ≡ framesOf m
+      → x .length ≡ length m
       → take (length m) left ≡ m
-      → Ends m rs (heard (record { next = receiverIn rs (Done (record { frames = frames; length = l })); emits = true; frame = f; outcome = delivered l; bytes = bytes }) left)
+      → Ends m rs (heard (ending (receiverIn rs (Open x)) x) left)
 
 module _ (m : List ℕ) (rs : Settings) where
   pub half-tick : {q : Phase} {t : Told} {left : List ℕ} → Ticks rs q t → Halfway m q left → Goes m rs (heard t left)
   half-tick (rests _) h = silent h
   half-tick (waits _) (opened many long low high before) = silent (opened many long low high before)
   half-tick (retries _ _) (opened many long low high before) = replies (opened many long low high before) (grants _ _)
-  half-tick expires h = fails (stages.Replies.refuses 2)
+  half-tick expires h = fails 2
 
   -- the announcement of m: refused, or the connection is open for m
   pub half-announcement : {q : Phase} {left : List ℕ} {h : Heard} → 1 ≤ framesOf m → Announced rs (framesOf m) (length m) left q h
@@ -91,7 +87,6 @@ module _ (m : List ℕ) (rs : Settings) where
       let one : 1 ≤ 1 = omega arith in
       replies (opened refl refl one some refl) (grants 1 _)
   half-announcement some again h = replies h (grants 1 _)
-  half-announcement some ignored h = silent h
 
   module _ (number : ℕ) (left : List ℕ) (held : length left ≡ 1785) (fits : length m ≤ 1785) where
     abbrev stored : Connection → List ℕ
@@ -107,9 +102,8 @@ module _ (m : List ℕ) (rs : Settings) where
 
     pub half-information : {q : Phase} {h : Heard} → number ≤ framesOf m → Informed rs number (fillTo 7 (partFrom number m)) left q h
         → Halfway m q left → Ends m rs h
-    half-information inside skips h = goes (silent h)
     half-information inside (above over) (opened many long low high before) = absurd (omega arith)
     half-information inside (delivers {x} at whole) (opened many long low high before) =
-        ends {left = stored x} many long refl (rw (at, long) (last-stored m left (x .expected) held fits low high before (whole ∙ many)))
+        ends x {left = stored x} many long (rw (at, long) (last-stored m left (x .expected) held fits low high before (whole ∙ many)))
     half-information inside (asks at more _) h = goes (replies (next _ at more h) (grants _ _))
     half-information inside (goes-on at more _) h = goes (silent (next _ at more h))

@@ -9,8 +9,9 @@ use borrow.Author.Tests.{leb-true}
 use lib.Dec.{leb}
 use Rattle.frame.specs.Result.{accepted, refused}
 use Rattle.frame.specs.Choice.{pick}
+use Rattle.frame.specs.Count.{within}
 use Rattle.frame.specs.declared.Frame.{Frame}
-use Rattle.receiver.specs.Tick as receiver-tick
+use Rattle.receiver.specs.Make as receiver-making
 use Rattle.receiver.specs.Told as receiver
 use Rattle.receiver.specs.declared.Phase.the-variants as at
 use Rattle.receiver.specs.declared.Receiver.{Receiver}
@@ -173,18 +174,18 @@ sender-made gap timeout limit s = go (sender-making.settingsFit gap timeout limi
 
 data ReceiverMade (timeout window capacity : ℕ) : Receiver → Type 0 where
   fits :
-      receiver-tick.settingsFit timeout window capacity ≡ true
+      receiver-making.settingsFit timeout window capacity ≡ true
       → ReceiverMade timeout window capacity (receiverIn (record { timeout = timeout; window = window; capacity = capacity }) at.Idle)
 
-receiver-made : (timeout window capacity : ℕ) (r : Receiver) → receiver-tick.makeOf timeout window capacity ≡ accepted r
+receiver-made : (timeout window capacity : ℕ) (r : Receiver) → receiver-making.makeOf timeout window capacity ≡ accepted r
     → ReceiverMade timeout window capacity r
-unfolding receiver-tick.makeOf pick
-receiver-made timeout window capacity r = go (receiver-tick.settingsFit timeout window capacity) refl
+unfolding receiver-making.makeOf pick
+receiver-made timeout window capacity r = go (receiver-making.settingsFit timeout window capacity) refl
   where
     fresh-receiver : Receiver
     fresh-receiver = receiverIn (record { timeout = timeout; window = window; capacity = capacity }) at.Idle
 
-    go : (b : Bool) → receiver-tick.settingsFit timeout window capacity ≡ b
+    go : (b : Bool) → receiver-making.settingsFit timeout window capacity ≡ b
         → pick b (accepted fresh-receiver) (refused 1) ≡ accepted r
         → ReceiverMade timeout window capacity r
     go true e q = let z : fresh-receiver ≡ r = cc in subst (ReceiverMade timeout window capacity) z (fits e)
@@ -192,11 +193,11 @@ receiver-made timeout window capacity r = go (receiver-tick.settingsFit timeout 
 
 limits-of : (gap timeout limit timeout′ window capacity : ℕ)
     → sender-making.settingsFit gap timeout limit ≡ true
-    → receiver-tick.settingsFit timeout′ window capacity ≡ true
+    → receiver-making.settingsFit timeout′ window capacity ≡ true
     → Limits (record { gap = gap; timeout = timeout; limit = limit }) (record { timeout = timeout′; window = window; capacity = capacity })
 limits-of gap timeout limit timeout′ window capacity e d =
     let time = both-right (leb 1 timeout && leb timeout 10000) (leb 1 limit && leb limit 60000) (both-right (leb 1 gap && leb gap 10) _ e) in
-    let wait = both-left (leb 1 timeout′ && leb timeout′ 10000) _ d in
+    let wait = both-left (leb 1 timeout′ && leb timeout′ 10000) (within 1 window 255) (both-left _ (within 9 capacity 1785) d) in
     record {
       some = leb-true 1 limit (both-left (leb 1 limit) (leb limit 60000) time);
       few = leb-true limit 60000 (both-right (leb 1 limit) (leb limit 60000) time);

@@ -10,10 +10,12 @@ use Rattle.frame.specs.Choice.{pick}
 use Rattle.frame.specs.Count.{incrementOf, frameCountOf}
 use Rattle.frame.specs.Frames.{byteOf, wordAt, lmAckOf, lmNackOf, endOfAckOf, smAckOf}
 use Rattle.frame.specs.declared.Frame.{Frame}
-use Rattle.receiver.proofs.View.{receiverIn, Shut, moved, fresh, Ticks, rests, waits, retries, expires, tick-does, nacks, opens, again, ignored, skips, ended, above, delivers, asks, goes-on, Hears, refuses, announced, informed, closes, unmoved, short, short-only, hear-does}
+use Rattle.receiver.proofs.View.{receiverIn, Shut, Ticks, rests, waits, retries, expires, tick-does, nacks, opens, again, ended, above, delivers, asks, goes-on, Hears, refuses, ignores, announced, informed, closes, short, short-only, hear-does}
 use Rattle.receiver.specs.Hear.{hearOf}
+use Rattle.receiver.specs.State.{opened, moved}
 use Rattle.receiver.specs.Tick.{tickOf}
 use Rattle.receiver.specs.Told.{Told, Heard}
+use Rattle.receiver.specs.Window.{windowOf}
 use Rattle.receiver.specs.declared.Connection.{Connection}
 use Rattle.receiver.specs.declared.Phase.{Phase}
 use Rattle.receiver.specs.declared.Phase.the-variants.{Open}
@@ -133,17 +135,15 @@ module _ (st : Settings) (pos : 1 ≤ st .timeout) (small : st .timeout ≤ 1000
 
     heard-open : {lent : List ℕ} {h : Heard} → Hears st f lent (Open x) h → To (h .told)
     heard-open (refuses number) = on (timed-later (during w))
+    heard-open ignores = on (timed-later (during w))
     heard-open (announced k z (nacks shut cause)) = absurd shut
     heard-open (announced k z (opens shut _ _ _ _)) = absurd shut
     heard-open (announced k z again) = on (timed-later (during w))
-    heard-open (announced k z ignored) = on (timed-later (during w))
-    heard-open (informed _ k z skips) = on (timed-later (during w))
     heard-open (informed _ k z (above _)) = on (between tt)
     heard-open (informed _ k z (delivers _ _)) = on (between tt)
     heard-open (informed _ k z (asks _ more _)) = on (during (next-expected x _ w more))
     heard-open (informed _ k z (goes-on _ more _)) = on (during (next-expected x _ w more))
     heard-open (closes k) = on (between tt)
-    heard-open (unmoved shut k) = absurd shut
     heard-open (short k) = on (timed-later (during w))
     heard-open (short-only k) = on (timed-later (during w))
 
@@ -156,21 +156,19 @@ module _ (st : Settings) (pos : 1 ≤ st .timeout) (small : st .timeout ≤ 1000
     heard-shut : {p : Phase} {lent : List ℕ} {h : Heard} → Shut p → Timed st (receiverIn st p) (later o 0 0) → Hears st f lent p h → Listened st o f (h .told)
     unfolding pick lmAckOf frameCountOf
     heard-shut shut same (refuses number) = quietly refl same
+    heard-shut shut same ignores = quietly refl same
     heard-shut shut same (announced k z (nacks _ cause)) = quietly (nack-drawn cause) same
     heard-shut shut same (announced k z (opens _ nine _ fits _)) =
-        let w : Within st (fresh st (byteOf f 1) (wordAt f 2 3)) 0 =
+        let w : Within st (opened (byteOf f 1) (wordAt f 2 3) (windowOf st 1 (byteOf f 1))) 0 =
         record { low = omega arith; high = omega arith; waits = pos; tries = omega arith; bound = omega arith } in
         record { timed = rw (k, z, free) (during w) }
     heard-shut shut same (announced k z again) = absurd shut
-    heard-shut shut same (announced k z ignored) = absurd shut
-    heard-shut shut same (informed _ k z skips) = quietly refl same
     heard-shut shut same (informed _ k z (ended {y} _)) = quietly (end-drawn (y .frames) (y .length)) same
     heard-shut shut same (informed _ k z (above _)) = absurd shut
     heard-shut shut same (informed _ k z (delivers _ _)) = absurd shut
     heard-shut shut same (informed _ k z (asks _ _ _)) = absurd shut
     heard-shut shut same (informed _ k z (goes-on _ _ _)) = absurd shut
     heard-shut shut same (closes k) = absurd shut
-    heard-shut shut same (unmoved _ k) = quietly refl same
     heard-shut shut same (short k) = quietly (short-drawn _) same
     heard-shut shut same (short-only k) = quietly refl same
 

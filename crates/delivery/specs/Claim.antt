@@ -8,7 +8,7 @@ use Rattle.frame.specs.Result.{accepted}
 use Rattle.transport.specs.Capped.{cappedStep}
 use Rattle.delivery.specs.Turns.{eventsFrom}
 use Rattle.frame.specs.Frames.{blankOf}
-use Rattle.receiver.specs.Tick as receiver-making
+use Rattle.receiver.specs.Make as receiver-making
 use Rattle.receiver.specs.Told as receiver
 use Rattle.receiver.specs.declared.Receiver.{Receiver}
 use Rattle.sender.specs.Begin as sender-making

@@ -16,7 +16,7 @@ use mathlib.Core.Path.{_≡_}
 use lib.ListN.{length}
 use Rattle.frame.specs.Result.{accepted}
 use Rattle.frame.specs.Frames.{fillTo}
-use Rattle.receiver.specs.Tick as receiver-making
+use Rattle.receiver.specs.Make as receiver-making
 use Rattle.receiver.specs.Told as receiver
 use Rattle.receiver.specs.declared.Receiver.{Receiver}
 use Rattle.sender.specs.Begin as sender-making

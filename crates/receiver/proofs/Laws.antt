@@ -3,7 +3,7 @@
 -- Assumes nothing.
 use Prim.Native.Nat.{ℕ, _+_, _-_, _*_, _<_, _≤_}
 use mathlib.Core.Path.{_≡_, refl, sym, ap, _∙_}
-use mathlib.Core.Bool.{Bool, true, false, _&&_}
+use mathlib.Core.Bool.{Bool, true, false}
 use mathlib.Core.Logic.{_⊎_, inl, inr}
 use mathlib.Core.List.{List, _++_, map, append-nil, append-assoc}
 use native.Mathlib.Nat.{le-refl}
@@ -12,23 +12,23 @@ use native.Mathlib.Numerals.{add-one}
 use borrow.Author.Needs.{length-unmapped}
 use borrow.Author.Tests.{le-leb, lt-leb, lt-ltb, le-ltb, eq-eqb, ne-eqb}
 use borrow.Rule.Slice.PartMut.{putMid}
-use lib.Dec.{eqb}
+use lib.Dec.{leb}
 use lib.ListN.{length, getD, take, drop, set, length-drop, drop-of-length-le}
 use lib.Seq.{drop-cons, drop-drop, take-suc, take-all, set-at, append-snoc, length-take-le, paste}
 use Rattle.frame.specs.Result.{accepted, refused, refusalOf}
 use Rattle.frame.proofs.Choice.{pick-true, pick-false}
 use Rattle.frame.specs.Choice.{pick}
 use Rattle.frame.specs.Count.{incrementOf, wordOf}
-use Rattle.frame.specs.Frames.{byteOf, lmAckOf, lmNackOf, endOfAckOf, smAckOf}
+use Rattle.frame.specs.Frames.{byteOf, lmNackOf, smAckOf}
 use Rattle.frame.specs.Reading.{readOf, toldReading}
 use Rattle.frame.specs.declared.Frame.{Frame}
 use Rattle.frame.specs.declared.Parsed.{Parsed}
 use Rattle.frame.specs.declared.Reading.{Reading}
 use Rattle.frame.specs.declared.Reading.the-variants.{Read, Refused}
-use Rattle.receiver.proofs.View.{moved}
-use Rattle.receiver.specs.Hear.{announcesWell, opening, announceIdle, announceOpen, hearAnnouncement, stored, carried, storing, informationOpen, hearInformation, hearNack, hearNumbered, hearKind, hearRead, hearOf}
-use Rattle.receiver.specs.Tick.{settingsFit, makeOf, windowOf, windowAck, tickOpen, tickPhase, tickOf}
-use Rattle.receiver.specs.Told.{Told, Heard, heard, inPhase, refusing, silently, emitting, delivering, failingWith, failing, shortWith, shortOnly}
+use Rattle.receiver.specs.Hear.{announcesWell, opening, announceIdle, announcedAgain, openingAgain, announceOpen, hearAnnouncement, ending, askingNext, expectingNext, stored, carried, storing, informationOpen, endingAgain, informationDone, hearInformation, hearNack, hearNumbered, hearKind, hearRead, hearOf}
+use Rattle.receiver.specs.Make.{settingsFit, idleWith, makeOf}
+use Rattle.receiver.specs.Tick.{waiting, askingAgain, tickOpen, tickPhase, tickOf}
+use Rattle.receiver.specs.Told.{Told, Heard, heard, refusing, silently, emitting, failingWith, failing, shortWith, shortOnly}
 use Rattle.receiver.specs.declared.Connection.{Connection}
 use Rattle.receiver.specs.declared.Delivery.{Delivery}
 use Rattle.receiver.specs.declared.Phase.{Phase}
@@ -38,8 +38,7 @@ use Rattle.receiver.specs.declared.Receiver.{Receiver}
 -- ---- making
 
 pub make-made : (timeout window capacity : ℕ) {fit : Bool} → fit ≡ settingsFit timeout window capacity → fit ≡ true
-    → accepted (record { settings = record { timeout = timeout; window = window; capacity = capacity }; phase = Idle })
-    ≡ makeOf timeout window capacity
+    → accepted (idleWith timeout window capacity) ≡ makeOf timeout window capacity
 unfolding makeOf
 make-made timeout window capacity f t = pick-true _ (sym f ∙ t) refl
 
@@ -52,113 +51,95 @@ pub ruleset makes = (make-made, make-refused)
 
 -- ---- a tick
 
-pub tick-waits : (r : Receiver) (x : Connection) {a : Told} {n : Receiver} {wait : ℕ}
-    → a ≡ silently n
-    → n ≡ inPhase r (Open (moved x (x .expected) (x .last) wait (x .misses)))
-    → wait ≡ incrementOf (x .wait)
-    → wait < r .settings .timeout
-    → a ≡ tickOpen r x
-unfolding tickOpen
-tick-waits r x e s w early = pick-false _ (lt-leb (r .settings .timeout) (incrementOf (x .wait)) (omega arith)) (cc)
+module _ (r : Receiver) (x : Connection) {wait : ℕ} (w : wait ≡ incrementOf (x .wait)) where
+  pub tick-waits : {a : Told} → a ≡ waiting r x → wait < r .settings .timeout → a ≡ tickOpen r x
+  unfolding tickOpen
+  tick-waits e early = pick-false _ (lt-leb (r .settings .timeout) (incrementOf (x .wait)) (omega arith)) e
 
-pub tick-fails : (r : Receiver) (x : Connection) {a : Told} {wait misses : ℕ}
-    → a ≡ failingWith r 2
-    → wait ≡ incrementOf (x .wait)
-    → r .settings .timeout ≤ wait
-    → misses ≡ incrementOf (x .misses)
-    → 3 ≤ misses
-    → a ≡ tickOpen r x
-unfolding tickOpen
-tick-fails r x e w due m third =
-    pick-true _ (le-leb (r .settings .timeout) (incrementOf (x .wait)) (omega arith))
-    (pick-true _ (le-leb 3 (incrementOf (x .misses)) (omega arith)) e)
+  late : r .settings .timeout ≤ wait → leb (r .settings .timeout) (incrementOf (x .wait)) ≡ true
+  late due = le-leb (r .settings .timeout) (incrementOf (x .wait)) (omega arith)
 
-pub tick-asks : (r : Receiver) (x : Connection) {a : Told} {n : Receiver} {wait misses last : ℕ} {ack : Frame}
-    → a ≡ emitting n ack
-    → n ≡ inPhase r (Open (moved x (x .expected) last 0 misses))
-    → ack ≡ windowAck (x .expected) last
-    → last ≡ windowOf r (x .expected) (x .frames)
-    → wait ≡ incrementOf (x .wait)
-    → r .settings .timeout ≤ wait
-    → misses ≡ incrementOf (x .misses)
-    → misses < 3
-    → a ≡ tickOpen r x
-unfolding tickOpen
-tick-asks r x e s k l w due m more =
-    pick-true _ (le-leb (r .settings .timeout) (incrementOf (x .wait)) (omega arith))
-    (pick-false _ (lt-leb 3 (incrementOf (x .misses)) (omega arith)) (cc))
+  module _ {misses : ℕ} (m : misses ≡ incrementOf (x .misses)) (due : r .settings .timeout ≤ wait) where
+    pub tick-fails : {a : Told} → a ≡ failingWith r 2 → 3 ≤ misses → a ≡ tickOpen r x
+    unfolding tickOpen
+    tick-fails e third = pick-true _ (late due) (pick-true _ (le-leb 3 (incrementOf (x .misses)) (omega arith)) e)
+
+    pub tick-asks : {a : Told} → a ≡ askingAgain r x → misses < 3 → a ≡ tickOpen r x
+    unfolding tickOpen
+    tick-asks e more = pick-true _ (late due) (pick-false _ (lt-leb 3 (incrementOf (x .misses)) (omega arith)) e)
 
 pub ruleset ticks-open = (tick-waits, tick-fails, tick-asks)
 
-pub tick-idle : (r : Receiver) {a : Told} → a ≡ silently r → r .phase ≡ Idle → a ≡ tickOf r
-unfolding tickOf tickPhase
-tick-idle r e p = e ∙ ap (tickPhase r) (sym p)
+module _ (r : Receiver) {a : Told} where
+  pub tick-idle : a ≡ silently r → r .phase ≡ Idle → a ≡ tickOf r
+  unfolding tickOf tickPhase
+  tick-idle e p = e ∙ ap (tickPhase r) (sym p)
 
-pub tick-done : (r : Receiver) {a : Told} {x : Delivery} → a ≡ silently r → r .phase ≡ Done x → a ≡ tickOf r
-unfolding tickOf tickPhase
-tick-done r e p = e ∙ ap (tickPhase r) (sym p)
+  pub tick-done : {x : Delivery} → a ≡ silently r → r .phase ≡ Done x → a ≡ tickOf r
+  unfolding tickOf tickPhase
+  tick-done e p = e ∙ ap (tickPhase r) (sym p)
 
-pub tick-opened : (r : Receiver) {a : Told} {x : Connection} → a ≡ tickOpen r x → r .phase ≡ Open x → a ≡ tickOf r
-unfolding tickOf tickPhase
-tick-opened r e p = e ∙ ap (tickPhase r) (sym p)
+  pub tick-opened : {x : Connection} → a ≡ tickOpen r x → r .phase ≡ Open x → a ≡ tickOf r
+  unfolding tickOf tickPhase
+  tick-opened e p = e ∙ ap (tickPhase r) (sym p)
 
 pub ruleset ticks = (tick-idle, tick-done, tick-opened)
 
 -- ---- an announcement
 
-module _ (r : Receiver) (frames length : ℕ) where
-  pub idle-opens : {a : Told} {well : Bool} → a ≡ opening r frames length
-      → well ≡ announcesWell frames length → well ≡ true → length ≤ r .settings .capacity
-      → a ≡ announceIdle r frames length
-  unfolding announceIdle
-  idle-opens e w t room = pick-true _ (sym w ∙ t) (pick-true _ (le-leb length (r .settings .capacity) room) e)
+module _ (r : Receiver) (frames length : ℕ) {a : Told} where
+  module _ {well : Bool} (w : well ≡ announcesWell frames length) where
+    pub idle-opens : a ≡ opening r frames length → well ≡ true → length ≤ r .settings .capacity
+        → a ≡ announceIdle r frames length
+    unfolding announceIdle
+    idle-opens e t room = pick-true _ (sym w ∙ t) (pick-true _ (le-leb length (r .settings .capacity) room) e)
 
-  pub idle-no-space : {a : Told} {f : Frame} {well : Bool} → a ≡ emitting r f → f ≡ lmNackOf 1
-      → well ≡ announcesWell frames length → well ≡ true → r .settings .capacity < length
-      → a ≡ announceIdle r frames length
-  unfolding announceIdle
-  idle-no-space e n w t over =
-      pick-true _ (sym w ∙ t) (pick-false _ (lt-leb length (r .settings .capacity) over) (cc))
+    pub idle-no-space : {f : Frame} → a ≡ emitting r f → f ≡ lmNackOf 1 → well ≡ true
+        → r .settings .capacity < length
+        → a ≡ announceIdle r frames length
+    unfolding announceIdle
+    idle-no-space e n t over =
+        pick-true _ (sym w ∙ t) (pick-false _ (lt-leb length (r .settings .capacity) over) (cc))
 
-  pub idle-bad : {a : Told} {f : Frame} {well : Bool} → a ≡ emitting r f → f ≡ lmNackOf 5
-      → well ≡ announcesWell frames length → well ≡ false
-      → a ≡ announceIdle r frames length
-  unfolding announceIdle
-  idle-bad e n w t = pick-false _ (sym w ∙ t) (cc)
+    pub idle-bad : {f : Frame} → a ≡ emitting r f → f ≡ lmNackOf 5 → well ≡ false
+        → a ≡ announceIdle r frames length
+    unfolding announceIdle
+    idle-bad e n t = pick-false _ (sym w ∙ t) (cc)
 
-  pub open-again : (x : Connection) {a : Told} {f : Frame} {again : Bool} → a ≡ emitting r f → f ≡ lmAckOf 1 (x .last)
-      → again ≡ (eqb frames (x .frames) && eqb length (x .length) && eqb (x .expected) 1) → again ≡ true
-      → a ≡ announceOpen r x frames length
-  unfolding announceOpen
-  open-again x e k g t = pick-true _ (sym g ∙ t) (cc)
+  module _ (x : Connection) {again : Bool} (g : again ≡ announcedAgain x frames length) where
+    pub open-again : a ≡ openingAgain r x → again ≡ true → a ≡ announceOpen r x frames length
+    unfolding announceOpen
+    open-again e t = pick-true _ (sym g ∙ t) e
 
-  pub open-ignores : (x : Connection) {a : Told} {again : Bool} → a ≡ silently r
-      → again ≡ (eqb frames (x .frames) && eqb length (x .length) && eqb (x .expected) 1) → again ≡ false
-      → a ≡ announceOpen r x frames length
-  unfolding announceOpen
-  open-ignores x e g t = pick-false _ (sym g ∙ t) e
+    pub open-ignores : a ≡ silently r → again ≡ false → a ≡ announceOpen r x frames length
+    unfolding announceOpen
+    open-ignores e t = pick-false _ (sym g ∙ t) e
 
-  announced : {a : Told} {p : Phase} → a ≡ hearAnnouncement r p frames length → r .phase ≡ p
-      → a ≡ hearAnnouncement r (r .phase) frames length
-  announced e p = e ∙ ap (λ (q : Phase). hearAnnouncement r q frames length) (sym p)
+  module _ {p : Phase} where
+    pub announced-idle : a ≡ announceIdle r frames length → p ≡ Idle → a ≡ hearAnnouncement r p frames length
+    unfolding hearAnnouncement
+    announced-idle e k = rw k e
 
-  pub announced-idle : {a : Told} → a ≡ announceIdle r frames length → r .phase ≡ Idle
-      → a ≡ hearAnnouncement r (r .phase) frames length
-  unfolding hearAnnouncement
-  announced-idle e p = announced e p
+    pub announced-done : {x : Delivery} → a ≡ announceIdle r frames length → p ≡ Done x
+        → a ≡ hearAnnouncement r p frames length
+    unfolding hearAnnouncement
+    announced-done e k = rw k e
 
-  pub announced-done : {a : Told} {x : Delivery} → a ≡ announceIdle r frames length → r .phase ≡ Done x
-      → a ≡ hearAnnouncement r (r .phase) frames length
-  unfolding hearAnnouncement
-  announced-done e p = announced e p
+    pub announced-open : {x : Connection} → a ≡ announceOpen r x frames length → p ≡ Open x
+        → a ≡ hearAnnouncement r p frames length
+    unfolding hearAnnouncement
+    announced-open e k = rw k e
 
-  pub announced-open : {a : Told} {x : Connection} → a ≡ announceOpen r x frames length → r .phase ≡ Open x
-      → a ≡ hearAnnouncement r (r .phase) frames length
-  unfolding hearAnnouncement
-  announced-open e p = announced e p
-
-pub ruleset announces =
-    (idle-opens, idle-no-space, idle-bad, open-again, open-ignores, announced-idle, announced-done, announced-open)
+pub ruleset announces = (
+  idle-opens,
+  idle-no-space,
+  idle-bad,
+  open-again,
+  open-ignores,
+  announced-idle,
+  announced-done,
+  announced-open,
+)
 
 -- ---- storing
 
@@ -198,84 +179,64 @@ array-end bytes size e = omega (arith, length-unmapped ℕ bytes size e)
 
 -- ---- an information frame
 
-pub stored-delivers : (r : Receiver) (x : Connection) {a : Told} {n : Receiver} {f : Frame}
-    → a ≡ delivering n f (x .length)
-    → n ≡ inPhase r (Done (record { frames = x .frames; length = x .length }))
-    → f ≡ endOfAckOf (x .frames) (x .length)
-    → x .expected ≡ x .frames
-    → a ≡ stored r x
-unfolding stored
-stored-delivers r x e s k at = pick-true _ (eq-eqb _ _ at) (cc)
+module _ (r : Receiver) (x : Connection) {a : Told} where
+  pub stored-ends : a ≡ ending r x → x .expected ≡ x .frames → a ≡ stored r x
+  unfolding stored
+  stored-ends e at = pick-true _ (eq-eqb _ _ at) e
 
-pub stored-asks : (r : Receiver) (x : Connection) {a : Told} {n : Receiver} {f : Frame} {last : ℕ}
-    → a ≡ emitting n f
-    → n ≡ inPhase r (Open (moved x (x .expected + 1) last 0 0))
-    → f ≡ windowAck (x .expected + 1) last
-    → last ≡ windowOf r (x .expected + 1) (x .frames)
-    → (x .expected ≡ x .frames → ⊥)
-    → x .expected ≡ x .last
-    → a ≡ stored r x
-unfolding stored
-stored-asks r x e s k l more at = pick-false _ (ne-eqb _ _ more) (pick-true _ (eq-eqb _ _ at) (cc))
+  module _ (more : x .expected ≡ x .frames → ⊥) where
+    pub stored-asks : a ≡ askingNext r x → x .expected ≡ x .last → a ≡ stored r x
+    unfolding stored
+    stored-asks e at = pick-false _ (ne-eqb _ _ more) (pick-true _ (eq-eqb _ _ at) e)
 
-pub stored-goes-on : (r : Receiver) (x : Connection) {a : Told} {n : Receiver}
-    → a ≡ silently n
-    → n ≡ inPhase r (Open (moved x (x .expected + 1) (x .last) 0 0))
-    → (x .expected ≡ x .frames → ⊥)
-    → (x .expected ≡ x .last → ⊥)
-    → a ≡ stored r x
-unfolding stored
-stored-goes-on r x e s more inside = pick-false _ (ne-eqb _ _ more) (pick-false _ (ne-eqb _ _ inside) (cc))
+    pub stored-goes-on : a ≡ expectingNext r x → (x .expected ≡ x .last → ⊥) → a ≡ stored r x
+    unfolding stored
+    stored-goes-on e inside = pick-false _ (ne-eqb _ _ more) (pick-false _ (ne-eqb _ _ inside) e)
 
-pub ruleset advances = (stored-delivers, stored-asks, stored-goes-on)
+pub ruleset stores-on = (stored-ends, stored-asks, stored-goes-on)
 
-module _ (r : Receiver) (x : Connection) (number : ℕ) (bytes buffer : List ℕ) where
-  pub information-above : {a : Told} → a ≡ failingWith r 4 → x .frames < number
+module _ (r : Receiver) (x : Connection) (number : ℕ) (bytes buffer : List ℕ) {a : Told} where
+  pub information-above : a ≡ failingWith r 4 → x .frames < number
       → heard a buffer ≡ informationOpen r x number bytes buffer
   unfolding informationOpen
   information-above e above = pick-true _ (lt-ltb _ _ above) (cc)
 
-  pub information-expected : {a : Told} {left : List ℕ} → a ≡ stored r x
-      → left ≡ storing buffer number (x .length) bytes → number ≤ x .frames → number ≡ x .expected
-      → heard a left ≡ informationOpen r x number bytes buffer
-  unfolding informationOpen
-  information-expected e l inside at = pick-false _ (le-ltb _ _ inside) (pick-true _ (eq-eqb _ _ at) (cc))
+  module _ (inside : number ≤ x .frames) where
+    pub information-expected : {left : List ℕ} → a ≡ stored r x → left ≡ storing buffer number (x .length) bytes
+        → number ≡ x .expected
+        → heard a left ≡ informationOpen r x number bytes buffer
+    unfolding informationOpen
+    information-expected e l at = pick-false _ (le-ltb _ _ inside) (pick-true _ (eq-eqb _ _ at) (cc))
 
-  pub information-other : {a : Told} → a ≡ silently r → number ≤ x .frames → (number ≡ x .expected → ⊥)
-      → heard a buffer ≡ informationOpen r x number bytes buffer
-  unfolding informationOpen
-  information-other e inside other = pick-false _ (le-ltb _ _ inside) (pick-false _ (ne-eqb _ _ other) (cc))
+    pub information-other : a ≡ silently r → (number ≡ x .expected → ⊥)
+        → heard a buffer ≡ informationOpen r x number bytes buffer
+    unfolding informationOpen
+    information-other e other = pick-false _ (le-ltb _ _ inside) (pick-false _ (ne-eqb _ _ other) (cc))
 
-pub done-again : (r : Receiver) (x : Delivery) (number : ℕ) {a : Told} {f : Frame} → a ≡ emitting r f
-    → f ≡ endOfAckOf (x .frames) (x .length) → number ≡ x .frames
-    → a ≡ pick (eqb number (x .frames)) (emitting r (endOfAckOf (x .frames) (x .length))) (silently r)
-done-again r x number e k at = pick-true _ (eq-eqb _ _ at) (cc)
+module _ (r : Receiver) (x : Delivery) (number : ℕ) {a : Told} where
+  pub done-again : a ≡ endingAgain r x → number ≡ x .frames → a ≡ informationDone r x number
+  unfolding informationDone
+  done-again e at = pick-true _ (eq-eqb _ _ at) e
 
-pub done-other : (r : Receiver) (x : Delivery) (number : ℕ) {a : Told} → a ≡ silently r → (number ≡ x .frames → ⊥)
-    → a ≡ pick (eqb number (x .frames)) (emitting r (endOfAckOf (x .frames) (x .length))) (silently r)
-done-other r x number e other = pick-false _ (ne-eqb _ _ other) e
+  pub done-other : a ≡ silently r → (number ≡ x .frames → ⊥) → a ≡ informationDone r x number
+  unfolding informationDone
+  done-other e other = pick-false _ (ne-eqb _ _ other) e
 
-module _ (r : Receiver) (number : ℕ) (bytes buffer : List ℕ) where
-  informed : {h : Heard} {p : Phase} → h ≡ hearInformation r p number bytes buffer → r .phase ≡ p
-      → h ≡ hearInformation r (r .phase) number bytes buffer
-  informed e p = e ∙ ap (λ (q : Phase). hearInformation r q number bytes buffer) (sym p)
-
-  pub information-idle : {a : Told} → a ≡ silently r → r .phase ≡ Idle
-      → heard a buffer ≡ hearInformation r (r .phase) number bytes buffer
+module _ (r : Receiver) (number : ℕ) (bytes buffer : List ℕ) {p : Phase} where
+  pub information-idle : {a : Told} → a ≡ silently r → p ≡ Idle
+      → heard a buffer ≡ hearInformation r p number bytes buffer
   unfolding hearInformation
-  information-idle e p = informed (ap (λ (t : Told). heard t buffer) e) p
+  information-idle e k = rw k (cc)
 
-  pub information-done : {a : Told} (x : Delivery)
-      → a ≡ pick (eqb number (x .frames)) (emitting r (endOfAckOf (x .frames) (x .length))) (silently r)
-      → r .phase ≡ Done x
-      → heard a buffer ≡ hearInformation r (r .phase) number bytes buffer
+  pub information-done : {a : Told} {x : Delivery} → a ≡ informationDone r x number → p ≡ Done x
+      → heard a buffer ≡ hearInformation r p number bytes buffer
   unfolding hearInformation
-  information-done x e p = informed (ap (λ (t : Told). heard t buffer) e) p
+  information-done e k = rw k (cc)
 
-  pub information-open : {h : Heard} {x : Connection} → h ≡ informationOpen r x number bytes buffer → r .phase ≡ Open x
-      → h ≡ hearInformation r (r .phase) number bytes buffer
+  pub information-open : {h : Heard} {x : Connection} → h ≡ informationOpen r x number bytes buffer → p ≡ Open x
+      → h ≡ hearInformation r p number bytes buffer
   unfolding hearInformation
-  information-open e p = informed e p
+  information-open e k = rw k e
 
 pub ruleset informs = (
   information-above,
@@ -290,18 +251,18 @@ pub ruleset informs = (
 
 -- ---- a hearing
 
-module _ (r : Receiver) {a : Told} where
-  pub nack-idle : a ≡ silently r → r .phase ≡ Idle → a ≡ hearNack r (r .phase)
+module _ (r : Receiver) {a : Told} {p : Phase} where
+  pub nack-idle : a ≡ silently r → p ≡ Idle → a ≡ hearNack r p
   unfolding hearNack
-  nack-idle e p = e ∙ ap (hearNack r) (sym p)
+  nack-idle e k = rw k e
 
-  pub nack-done : {x : Delivery} → a ≡ silently r → r .phase ≡ Done x → a ≡ hearNack r (r .phase)
+  pub nack-done : {x : Delivery} → a ≡ silently r → p ≡ Done x → a ≡ hearNack r p
   unfolding hearNack
-  nack-done e p = e ∙ ap (hearNack r) (sym p)
+  nack-done e k = rw k e
 
-  pub nack-open : {x : Connection} → a ≡ failing r 1 → r .phase ≡ Open x → a ≡ hearNack r (r .phase)
+  pub nack-open : {x : Connection} → a ≡ failing r 1 → p ≡ Open x → a ≡ hearNack r p
   unfolding hearNack
-  nack-open e p = e ∙ ap (hearNack r) (sym p)
+  nack-open e k = rw k e
 
 pub ruleset nacks = (nack-idle, nack-done, nack-open)
 

@@ -4,24 +4,26 @@
 -- Assumes nothing.
 use Prim.Native.Nat.{ℕ, _+_, _-_, _≤_, _<_}
 use mathlib.Core.Path.{_≡_, refl, subst}
-use mathlib.Core.Bool.{Bool, true, false, _&&_, and-eq-true-iff}
+use mathlib.Core.Bool.{Bool, true, false, _&&_}
 use mathlib.Core.List.{List}
 use native.Mathlib.Omega.{arith}
 use borrow.Author.Tests.{leb-true, eqb-true, eqb-false, le-leb, lt-leb}
 use lib.Dec.{eqb, leb}
 use Rattle.frame.specs.Result.{Result, accepted}
-use Rattle.frame.specs.Count.{frameCountOf, incrementOf}
+use Rattle.frame.specs.Count.{frameCountOf, incrementOf, within}
 use Rattle.frame.specs.Frames.{byteOf, wordAt}
 use Rattle.frame.specs.declared.Frame.{Frame}
-use Rattle.frame.proofs.Choice.{pick-elim}
+use Rattle.frame.proofs.Choice.{pick-elim, both-left, both-right}
 use Rattle.frame.proofs.Laws.{frame-count-bounds}
-use Rattle.receiver.proofs.View.{receiverIn, moved, fresh, end, Ticks, rests, waits, retries, expires, tick-does, nacks, opens, again, ignored, skips, ended, above, delivers, asks, goes-on, Hears, refuses, announced, informed, closes, unmoved, short, short-only, hear-does}
+use Rattle.receiver.proofs.View.{receiverIn, Ticks, rests, waits, retries, expires, tick-does, nacks, opens, again, ended, above, delivers, asks, goes-on, Hears, refuses, ignores, announced, informed, closes, short, short-only, hear-does}
+use Rattle.receiver.specs.Make.{settingsFit, idleWith, makeOf}
 use Rattle.receiver.specs.Reachable.{Reachable, new, ticked, hearing, SettingsWithin, Announced, OpenWithin, PhaseWithin, Within, Exact}
-use Rattle.receiver.specs.Tick.{settingsFit, makeOf, windowOf}
+use Rattle.receiver.specs.State.{opened, moved}
 use Rattle.receiver.specs.Told.{Told, Heard}
+use Rattle.receiver.specs.Window.{windowOf}
 use Rattle.receiver.specs.declared.Connection.{Connection}
 use Rattle.receiver.specs.declared.Phase.{Phase}
-use Rattle.receiver.specs.declared.Phase.the-variants.{Idle, Open}
+use Rattle.receiver.specs.declared.Phase.the-variants.{Open}
 use Rattle.receiver.specs.declared.Receiver.{Receiver}
 use Rattle.receiver.specs.declared.Settings.{Settings}
 
@@ -43,21 +45,27 @@ NextHeard h = Within (h .told .next)
 
 -- ---- making
 
+-- a number within its limits
+low-of : (low x high : ℕ) → within low x high ≡ true → low ≤ x
+low-of low x high e = leb-true _ _ (both-left (leb low x) (leb x high) e)
+
+high-of : (low x high : ℕ) → within low x high ≡ true → x ≤ high
+high-of low x high e = leb-true _ _ (both-right (leb low x) (leb x high) e)
+
 settings-within : (timeout window capacity : ℕ) → settingsFit timeout window capacity ≡ true
-    → SettingsWithin (record { timeout = timeout; window = window; capacity = capacity })
+    → SettingsWithin (idleWith timeout window capacity .settings)
 settings-within timeout window capacity e =
-    let all = and-eq-true-iff (leb 1 timeout && leb timeout 10000) _ .0 e in
-    let t = and-eq-true-iff (leb 1 timeout) (leb timeout 10000) .0 (all .0) in
-    let rest = and-eq-true-iff (leb 1 window && leb window 255) _ .0 (all .1) in
-    let w = and-eq-true-iff (leb 1 window) (leb window 255) .0 (rest .0) in
-    let c = and-eq-true-iff (leb 9 capacity) (leb capacity 1785) .0 (rest .1) in
+    let first = both-left (within 1 timeout 10000 && within 1 window 255) (within 9 capacity 1785) e in
+    let t = both-left (within 1 timeout 10000) (within 1 window 255) first in
+    let w = both-right (within 1 timeout 10000) (within 1 window 255) first in
+    let k = both-right (within 1 timeout 10000 && within 1 window 255) (within 9 capacity 1785) e in
     record {
-      timeoutLow = leb-true _ _ (t .0);
-      timeoutHigh = leb-true _ _ (t .1);
-      windowLow = leb-true _ _ (w .0);
-      windowHigh = leb-true _ _ (w .1);
-      capacityLow = leb-true _ _ (c .0);
-      capacityHigh = leb-true _ _ (c .1);
+      timeoutLow = low-of 1 timeout 10000 t;
+      timeoutHigh = high-of 1 timeout 10000 t;
+      windowLow = low-of 1 window 255 w;
+      windowHigh = high-of 1 window 255 w;
+      capacityLow = low-of 9 capacity 1785 k;
+      capacityHigh = high-of 9 capacity 1785 k;
     }
 
 -- what is made is within
@@ -69,20 +77,20 @@ unfolding makeOf
 made-within timeout window capacity =
     pick-elim MadeWithin (settingsFit timeout window capacity)
     (λ fit r e.
-    let fresh : Receiver = record { settings = record { timeout = timeout; window = window; capacity = capacity }; phase = Idle } in
-    let same : fresh ≡ r = cc in
+    let same : idleWith timeout window capacity ≡ r = cc in
     subst Within same (record { settings = settings-within timeout window capacity fit; phase = tt }))
     (λ unfit r e. let z : _≡_ {A = ℕ} 0 1 = cc in absurd (omega arith))
 
 -- a window that is asked for: at least one frame, within N and C
-window-low : (r : Receiver) → 1 ≤ r .settings .window → (expected frames : ℕ) → expected ≤ frames → expected ≤ windowOf r expected frames
+window-low : (s : Settings) → 1 ≤ s .window → (expected frames : ℕ) → expected ≤ frames
+    → expected ≤ windowOf s expected frames
 unfolding windowOf
-window-low r some expected frames h = omega arith
+window-low s some expected frames h = omega arith
 
 module _ (s : Settings) (w : SettingsWithin s) where
   -- a connection with a window just asked for
   asked : (x : Connection) (expected misses : ℕ) → Announced s (x .frames) (x .length) → 1 ≤ expected → expected ≤ x .frames → misses < 3
-      → Within (receiverIn s (Open (moved x expected (end s expected (x .frames)) 0 misses)))
+      → Within (receiverIn s (Open (moved x expected (windowOf s expected (x .frames)) 0 misses)))
   unfolding windowOf
   asked x expected misses a low high more =
       record {
@@ -90,7 +98,7 @@ module _ (s : Settings) (w : SettingsWithin s) where
         phase = record {
           announced = a;
           first = low;
-          inside = window-low (receiverIn s Idle) (w .windowLow) expected (x .frames) high;
+          inside = window-low s (w .windowLow) expected (x .frames) high;
           final = omega arith;
           window = omega arith;
           waits = w .timeoutLow;
@@ -123,12 +131,11 @@ module _ (s : Settings) (w : SettingsWithin s) where
   hears-within : {f : Frame} {buffer : List ℕ} {p : Phase} {h : Heard} → PhaseWithin s p → Hears s f buffer p h → NextHeard h
   unfolding frameCountOf
   hears-within o (refuses _) = record { settings = w; phase = o }
+  hears-within o ignores = record { settings = w; phase = o }
   hears-within o (announced _ _ (nacks _ _)) = record { settings = w; phase = o }
   hears-within {f} o (announced _ _ (opens _ low high fits room)) =
-      asked (fresh s (byteOf f 1) (wordAt f 2 3)) 1 0 (record { long = low; space = room; fits = fits; byte = omega arith }) (omega arith) (omega arith) (omega arith)
+      asked (opened (byteOf f 1) (wordAt f 2 3) 1) 1 0 (record { long = low; space = room; fits = fits; byte = omega arith }) (omega arith) (omega arith) (omega arith)
   hears-within o (announced _ _ again) = record { settings = w; phase = o }
-  hears-within o (announced _ _ ignored) = record { settings = w; phase = o }
-  hears-within o (informed _ _ _ skips) = record { settings = w; phase = o }
   hears-within o (informed _ _ _ (ended _)) = record { settings = w; phase = o }
   hears-within o (informed _ _ _ (above _)) = record { settings = w; phase = tt }
   hears-within o (informed _ _ _ (delivers _ _)) = record { settings = w; phase = o .announced }
@@ -147,7 +154,6 @@ module _ (s : Settings) (w : SettingsWithin s) where
         };
       }
   hears-within o (closes _) = record { settings = w; phase = tt }
-  hears-within o (unmoved _ _) = record { settings = w; phase = o }
   hears-within o (short _) = record { settings = w; phase = o }
   hears-within o (short-only _) = record { settings = w; phase = o }
 
@@ -171,8 +177,8 @@ within-exact r x w p =
       due = at-bound (r .settings .timeout) (x .wait) (omega arith) (omega arith);
       third = at-bound 3 (x .misses) (omega arith) (omega arith);
       count = omega arith;
-      again = window-low r (w .settings .windowLow) (x .expected) (x .frames) (omega arith);
-      next = λ more. window-low r (w .settings .windowLow) (x .expected + 1) (x .frames) (omega arith);
+      again = window-low (r .settings) (w .settings .windowLow) (x .expected) (x .frames) (omega arith);
+      next = λ more. window-low (r .settings) (w .settings .windowLow) (x .expected + 1) (x .frames) (omega arith);
       some = omega arith;
       part = omega arith;
       whole = omega arith;

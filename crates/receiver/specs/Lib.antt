@@ -1,4 +1,7 @@
+pub mod State
 pub mod Told
+pub mod Window
+pub mod Make
 pub mod Tick
 pub mod Hear
 pub mod Reachable

@@ -8,7 +8,9 @@ use Rattle.frame.specs.Result.{accepted}
 use Rattle.frame.specs.Count.{frameCountOf, incrementOf}
 use Rattle.frame.specs.declared.Frame.{Frame}
 use Rattle.receiver.specs.Hear.{carried, hearOf}
-use Rattle.receiver.specs.Tick.{makeOf, windowOf, tickOf}
+use Rattle.receiver.specs.Make.{makeOf}
+use Rattle.receiver.specs.Tick.{tickOf}
+use Rattle.receiver.specs.Window.{windowOf}
 use Rattle.receiver.specs.declared.Connection.{Connection}
 use Rattle.receiver.specs.declared.Phase.{Phase}
 use Rattle.receiver.specs.declared.Phase.the-variants.{Idle, Done, Open}
@@ -68,8 +70,8 @@ pub record Exact (r : Receiver) (x : Connection) : Type 0 where
   pub third : leb 3 (incrementOf (x .misses)) ≡ eqb (x .misses + 1) 3
   -- "LM_ACK e, w − e + 1": of the window now, asked for again, and of the next
   pub count : x .last - (x .expected - 1) ≡ x .last + 1 - x .expected
-  pub again : x .expected ≤ windowOf r (x .expected) (x .frames)
-  pub next : x .expected < x .frames → x .expected + 1 ≤ windowOf r (x .expected + 1) (x .frames)
+  pub again : x .expected ≤ windowOf (r .settings) (x .expected) (x .frames)
+  pub next : x .expected < x .frames → x .expected + 1 ≤ windowOf (r .settings) (x .expected + 1) (x .frames)
   -- "its message bytes": at least one, and none past L; the last frame's end at L
   pub some : 1 ≤ carried (x .expected) (x .length)
   pub part : 7 * (x .expected - 1) + carried (x .expected) (x .length) ≤ x .length

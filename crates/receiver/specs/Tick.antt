@@ -1,53 +1,32 @@
--- Making a receiver, its window, and document 01, The receiver: Tick.
-use Prim.Native.Nat.{ℕ, _+_, _-_, min}
-use mathlib.Core.Bool.{Bool, _&&_}
+-- Document 01, The receiver: Tick.
 use lib.Dec.{leb}
-use Rattle.frame.specs.Result.{Result, accepted, refused}
 use Rattle.frame.specs.Choice.{pick}
 use Rattle.frame.specs.Count.{incrementOf}
-use Rattle.frame.specs.Frames.{lmAckOf}
-use Rattle.frame.specs.declared.Frame.{Frame}
-use Rattle.receiver.specs.Told.{Told, inPhase, silently, emitting, failingWith}
+use Rattle.receiver.specs.State.{moved, inPhase}
+use Rattle.receiver.specs.Told.{Told, silently, failingWith}
+use Rattle.receiver.specs.Window.{asking}
 use Rattle.receiver.specs.declared.Connection.{Connection}
 use Rattle.receiver.specs.declared.Phase.{Phase}
 use Rattle.receiver.specs.declared.Phase.the-variants.{Idle, Done, Open}
 use Rattle.receiver.specs.declared.Receiver.{Receiver}
 
--- the receiver: "Settings: T as above (its own), window C 1 to 255, capacity K 9 to 1785."
-abbrev pub settingsFit : ℕ → ℕ → ℕ → Bool
-settingsFit timeout window capacity =
-    (leb 1 timeout && leb timeout 10000) && ((leb 1 window && leb window 255) && (leb 9 capacity && leb capacity 1785))
+-- "wait grows by 1", and nothing else
+abbrev pub waiting : Receiver → Connection → Told
+waiting r x =
+    let waited = moved x (x .expected) (x .last) (incrementOf (x .wait)) (x .misses) in
+    silently (inPhase r (Open waited))
 
--- refusals: "making an end: 1 setting"
-unfoldable pub makeOf : ℕ → ℕ → ℕ → Result Receiver
-makeOf timeout window capacity =
-    pick (settingsFit timeout window capacity)
-    (accepted (record { settings = record { timeout = timeout; window = window; capacity = capacity }; phase = Idle }))
-    (refused 1)
+-- "wait is 0 and misses grows by 1; .. w as above and LM_ACK e, w − e + 1"
+abbrev pub askingAgain : Receiver → Connection → Told
+askingAgain r x = asking r x (x .expected) (incrementOf (x .misses))
 
--- "w is the smaller of e + C − 1 and N"
-unfoldable pub windowOf : Receiver → ℕ → ℕ → ℕ
-windowOf r expected frames = min (expected + r .settings .window - 1) frames
-
--- "LM_ACK e, w − e + 1"
-abbrev pub windowAck : ℕ → ℕ → Frame
-windowAck expected last = lmAckOf expected (last - (expected - 1))
-
--- "Tick, Open: wait grows by 1. At T, wait is 0 and misses grows by 1; the third emits NACK 2 and fails; before it w as
--- above and LM_ACK e, w − e + 1." A state that no calls make may be past T or the third miss; it does the same.
+-- "Tick, Open: wait grows by 1. At T, .. misses grows by 1; the third emits NACK 2 and fails; before it" the window is
+-- asked for again. A state that no calls make may be past T or the third miss; it does the same.
 unfoldable pub tickOpen : Receiver → Connection → Told
 tickOpen r x =
     pick (leb (r .settings .timeout) (incrementOf (x .wait)))
-    (pick (leb 3 (incrementOf (x .misses))) (failingWith r 2)
-    (emitting
-    (inPhase r
-    (Open
-    (record { frames = x .frames; length = x .length; expected = x .expected; last = windowOf r (x .expected) (x .frames); wait = 0; misses = incrementOf (x .misses) })))
-    (windowAck (x .expected) (windowOf r (x .expected) (x .frames)))))
-    (silently
-    (inPhase r
-    (Open
-    (record { frames = x .frames; length = x .length; expected = x .expected; last = x .last; wait = incrementOf (x .wait); misses = x .misses }))))
+    (pick (leb 3 (incrementOf (x .misses))) (failingWith r 2) (askingAgain r x))
+    (waiting r x)
 
 -- "Tick or LM_NACK, Idle: nothing."
 unfoldable pub tickPhase : Receiver → Phase → Told

@@ -5,12 +5,12 @@ use mathlib.Core.List.{List, [], _∷_}
 use Rattle.frame.specs.Result as result
 use Rattle.frame.specs.Frames.{blankOf, lmNackOf}
 use Rattle.frame.specs.declared.Frame.{Frame}
+use Rattle.receiver.specs.State.{inPhase}
 use Rattle.receiver.specs.declared.Answer as answer
 use Rattle.receiver.specs.declared.Made as made-enum
 use Rattle.receiver.specs.declared.Made.the-variants as made-variants
 use Rattle.receiver.specs.declared.Outcome as outcome-enum
 use Rattle.receiver.specs.declared.Outcome.the-variants as outcome-variants
-use Rattle.receiver.specs.declared.Phase.{Phase}
 use Rattle.receiver.specs.declared.Phase.the-variants.{Idle}
 use Rattle.receiver.specs.declared.Receiver.{Receiver}
 
@@ -56,10 +56,6 @@ pub record Heard : Type 0 where
 
 abbrev pub heard : Told → List ℕ → Heard
 heard t buffer = record { told = t; buffer = buffer }
-
--- the receiver with its settings, in another phase
-abbrev pub inPhase : Receiver → Phase → Receiver
-inPhase r p = record { settings = r .settings; phase = p }
 
 abbrev pub noBytes : List ℕ
 noBytes = 0 ∷ 0 ∷ 0 ∷ 0 ∷ 0 ∷ 0 ∷ 0 ∷ 0 ∷ []

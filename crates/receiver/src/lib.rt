@@ -1,9 +1,9 @@
 // The receiving end: its settings, its state and its answers. State goes in and out by value.
 mod announce;
-mod answers;
 mod hear;
 mod information;
 mod make;
+mod steps;
 mod store;
 mod tick;
 mod window;

@@ -1,6 +1,6 @@
 // Making a receiver.
 ghost use mathlib.Core.Path.{_≡_};
-ghost use Rattle.receiver.specs.Tick.{settingsFit, makeOf};
+ghost use Rattle.receiver.specs.Make.{settingsFit, makeOf};
 ghost use Rattle.receiver.specs.Told.{toldMade};
 use crate::Made;
 use crate::Phase;
@@ -21,13 +21,12 @@ impl Receiver {
         ensures { λ r. ⌜ toldMade r ≡ makeOf timeout window capacity ⌝ }
     {
         if settings_fit(timeout, window, capacity) {
-            let settings = Settings {
-                timeout,
-                window,
-                capacity,
-            };
             Made::End(Receiver {
-                settings,
+                settings: Settings {
+                    timeout,
+                    window,
+                    capacity,
+                },
                 phase: Phase::Idle,
             })
         } else {

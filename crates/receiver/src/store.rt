@@ -20,7 +20,7 @@ fn copy(to: &mut [u8], from: &[u8], count: usize)
 }
 
 // How many message bytes frame `number` of a message of this length carries.
-fn carried_by(number: u8, length: u16) -> usize
+fn carried(number: u8, length: u16) -> usize
     ensures { λ r. ⌜ r ≡ carried number length ⌝ }
 {
     let before = 7 * (saturating_sub(number, 1) as u16);
@@ -35,12 +35,12 @@ fn carried_by(number: u8, length: u16) -> usize
 }
 
 // The message bytes of frame `number` go to their place in the buffer, 7(i − 1), which starts the part that is lent.
-pub(crate) fn store(f: Frame, number: u8, total: u16, buffer: &mut [u8])
+pub(crate) fn storing(f: Frame, number: u8, total: u16, buffer: &mut [u8])
     requires { ⌜ length (now buffer) ≡ 1785 ⌝ }
     ensures { λ _. ⌜ now (buffer .exit) ≡ storing (now (buffer .entry)) number total (drop 1 (f .bytes)) ⌝ }
 {
     let bytes = f.bytes;
     let from = 7 * (saturating_sub(number, 1) as usize);
-    let count = carried_by(number, total);
+    let count = carried(number, total);
     copy(&mut buffer[from..], &bytes[1..], count);
 }

@@ -11,7 +11,7 @@ use Rattle.frame.specs.Frames.{blankOf, announcementOf, informationOf, lmAckOf,
 use Rattle.frame.specs.Result.{Result}
 use Rattle.frame.specs.declared.Parsed.{Parsed}
 use Rattle.frame.specs.declared.Frame.{Frame}
-use Rattle.receiver.proofs.View.{Ticks, rests, waits, retries, expires, tick-does, nacks, opens, again, ignored, skips, ended, above, delivers, asks, goes-on, Hears, refuses, announced, informed, closes, unmoved, short, short-only, hear-does}
+use Rattle.receiver.proofs.View.{Ticks, rests, waits, retries, expires, tick-does, nacks, opens, again, ended, above, delivers, asks, goes-on, Hears, refuses, ignores, announced, informed, closes, short, short-only, hear-does}
 use Rattle.receiver.specs.Hear as hearing
 use Rattle.receiver.specs.Tick as ticking
 use Rattle.receiver.specs.Told as receiver
@@ -147,18 +147,16 @@ hear-told : {s : Settings} {f : Frame} {buffer : List ℕ} {p : receiver-phase.P
     → Hears s f buffer p h → HeardEights h
 unfolding lmNackOf lmAckOf endOfAckOf smAckOf blankOf
 hear-told e (refuses _) = blank refl refl
+hear-told e ignores = blank refl refl
 hear-told e (announced _ _ (nacks _ _)) = blank refl refl
 hear-told e (announced _ _ (opens _ _ _ _ _)) = blank refl refl
 hear-told e (announced _ _ again) = blank refl refl
-hear-told e (announced _ _ ignored) = blank refl refl
-hear-told e (informed _ _ _ skips) = blank refl refl
 hear-told e (informed _ _ _ (ended _)) = blank refl refl
 hear-told e (informed _ _ _ (above _)) = blank refl refl
 hear-told e (informed _ _ _ (delivers _ _)) = blank refl refl
 hear-told e (informed _ _ _ (asks _ _ _)) = blank refl refl
 hear-told e (informed _ _ _ (goes-on _ _ _)) = blank refl refl
 hear-told e (closes _) = blank refl refl
-hear-told e (unmoved _ _) = blank refl refl
 hear-told e (short _) = blank refl e
 hear-told e (short-only _) = blank refl e
 

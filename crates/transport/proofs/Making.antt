@@ -6,7 +6,7 @@ use mathlib.Core.Path.{_≡_, refl, sym, ap, _∙_}
 use Rattle.frame.specs.Result.{Result, accepted, refused}
 use Rattle.line.specs.Ring.{framesFrom, framesIn, emptyOf}
 use Rattle.line.specs.declared.Ring.{Ring}
-use Rattle.receiver.specs.Tick as receiver-making
+use Rattle.receiver.specs.Make as receiver-making
 use Rattle.receiver.specs.Told as receiver
 use Rattle.receiver.specs.declared.Made as receiver-enum
 use Rattle.receiver.specs.declared.Made.the-variants as receiver-made

@@ -6,7 +6,7 @@ use mathlib.Core.Bool.{Bool, true, false, not, false≢true}
 use mathlib.Core.List.{List}
 use mathlib.Core.Path.{_≡_, refl}
 use Rattle.frame.specs.declared.Frame.{Frame}
-use Rattle.receiver.proofs.View.{Announced, nacks, opens, again, ignored, Informed, skips, ended, above, delivers, asks, goes-on, Hears, refuses, announced, informed, closes, unmoved, short, short-only, hear-does}
+use Rattle.receiver.proofs.View.{Announced, nacks, opens, again, Informed, ended, above, delivers, asks, goes-on, Hears, refuses, ignores, announced, informed, closes, short, short-only, hear-does}
 use Rattle.receiver.specs.Hear.{hearOf}
 use Rattle.receiver.specs.Told.{Heard}
 use Rattle.receiver.specs.declared.Phase.{Phase}
@@ -23,10 +23,8 @@ module _ {rs : Settings} {lent : List ℕ} where
   announced-taken (nacks _ _) = refl
   announced-taken (opens _ _ _ _ _) = refl
   announced-taken again = refl
-  announced-taken ignored = refl
 
   pub informed-taken : {q : Phase} {number : ℕ} {bytes : List ℕ} {h : Heard} → Informed rs number bytes lent q h → Unrefused h
-  informed-taken skips = refl
   informed-taken (ended _) = refl
   informed-taken (above _) = refl
   informed-taken (delivers _ _) = refl
@@ -44,10 +42,10 @@ taken buffer h = go (wasRefused (h .told .outcome))
 left : {s : Settings} {f : Frame} {p : Phase} {buffer : List ℕ} {h : Heard} → Hears s f buffer p h
     → bufferAfter (wasRefused (h .told .outcome)) buffer (h .buffer) ≡ h .buffer
 left (refuses _) = refl
+left ignores = refl
 left {buffer = buffer} {h = h} (announced _ _ a) = taken buffer h (announced-taken a)
 left {buffer = buffer} {h = h} (informed _ _ _ i) = taken buffer h (informed-taken i)
 left (closes _) = refl
-left (unmoved _ _) = refl
 left (short _) = refl
 left (short-only _) = refl
 

@@ -3,7 +3,7 @@ use Prim.Native.Nat.{ℕ}
 use mathlib.Core.List.{List}
 use Rattle.frame.specs.Result.{Result, accepted, refused}
 use Rattle.line.specs.Ring.{emptyOf}
-use Rattle.receiver.specs.Tick as receiver-making
+use Rattle.receiver.specs.Make as receiver-making
 use Rattle.receiver.specs.Told as receiver
 use Rattle.receiver.specs.declared.Receiver.{Receiver}
 use Rattle.sender.specs.Begin as sender-making

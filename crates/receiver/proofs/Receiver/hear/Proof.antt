@@ -6,8 +6,8 @@ use Rattle.receiver.proofs.Laws.{hears}
 use Rattle.receiver.proofs.Receiver.hear.Statement.{statement}
 use Rattle.receiver.proofs.Receiver.hear.Tie as tie
 
-refuse-requires : tie.Need-refuse-requires
-refuse-requires c κs = search needs
+refusing-requires : tie.Need-refusing-requires
+refusing-requires c κs = search needs
 
 returns : tie.Need-returns
 returns c = search hears
@@ -24,8 +24,8 @@ enum-told c = search needs
 refusal-requires : tie.Need-refusal-requires
 refusal-requires c κs = search needs
 
-refuse-requires-2 : tie.Need-refuse-requires-2
-refuse-requires-2 c κs = search needs
+refusing-requires-2 : tie.Need-refusing-requires-2
+refusing-requires-2 c κs = search needs
 
 returns-2 : tie.Need-returns-2
 returns-2 c = search hears
@@ -43,13 +43,13 @@ pub hear-spec : {M : Type 1} → statement M
 hear-spec =
     tie.close
     (tie.spec
-    refuse-requires
+    refusing-requires
     returns
     read-requires
     enum-known-reading
     enum-told
     refusal-requires
-    refuse-requires-2
+    refusing-requires-2
     returns-2
     hear-kind-requires
     same-length

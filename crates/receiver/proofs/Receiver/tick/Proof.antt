@@ -9,14 +9,14 @@ use Rattle.receiver.proofs.Receiver.tick.Tie as tie
 enum-told : tie.Need-enum-told
 enum-told c = search needs
 
-stay-quiet-requires : tie.Need-stay-quiet-requires
-stay-quiet-requires c κs = search needs
+silently-requires : tie.Need-silently-requires
+silently-requires c κs = search needs
 
 enum-told-2 : tie.Need-enum-told-2
 enum-told-2 c = search needs
 
-stay-quiet-requires-2 : tie.Need-stay-quiet-requires-2
-stay-quiet-requires-2 c κs = search needs
+silently-requires-2 : tie.Need-silently-requires-2
+silently-requires-2 c κs = search needs
 
 enum-known-phase : tie.Need-enum-known-phase
 enum-known-phase c = search needs
@@ -38,9 +38,9 @@ tick-spec =
     tie.close
     (tie.spec
     enum-told
-    stay-quiet-requires
+    silently-requires
     enum-told-2
-    stay-quiet-requires-2
+    silently-requires-2
     enum-known-phase
     tick-open-requires
     returns

@@ -1,7 +1,5 @@
--- `receiver::make::settings_fit` meets its contract. The three tests of a range are those of the definition,
--- which pairs the last two.
+-- `receiver::make::settings_fit` meets its contract. The three tests of a range are those of the definition.
 -- Assumes nothing.
-use mathlib.Core.Bool.{and-assoc}
 use borrow.Author.Needs.{needs}
 use Rattle.receiver.proofs.make.settings_fit.Statement.{statement}
 use Rattle.receiver.proofs.make.settings_fit.Tie as tie
@@ -16,8 +14,7 @@ within-requires-3 : tie.Need-within-requires-3
 within-requires-3 c κs = search needs
 
 returns : tie.Need-returns
-returns c =
-    cc (and-assoc (c .before .before .within .result) (c .before .within2 .result) (c .within3 .result))
+returns c = cc
 
 pub settings-fit-spec : {M : Type 1} → statement M
 settings-fit-spec =

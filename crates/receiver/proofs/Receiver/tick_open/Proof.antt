@@ -1,0 +1,44 @@
+-- `receiver::Receiver::tick_open` meets its contract. One law for each of its three answers: the wait goes on, the
+-- third miss, the window asked for again.
+-- Assumes nothing.
+use borrow.Author.Needs.{needs}
+use Rattle.receiver.proofs.Laws.{ticks-open}
+use Rattle.receiver.proofs.Receiver.tick_open.Statement.{statement}
+use Rattle.receiver.proofs.Receiver.tick_open.Tie as tie
+
+increment-requires : tie.Need-increment-requires
+increment-requires c κs = search needs
+
+waiting-requires : tie.Need-waiting-requires
+waiting-requires c κs = search needs
+
+returns : tie.Need-returns
+returns c = search ticks-open
+
+increment-requires-2 : tie.Need-increment-requires-2
+increment-requires-2 c κs = search needs
+
+failing-with-requires : tie.Need-failing-with-requires
+failing-with-requires c κs = search needs
+
+returns-2 : tie.Need-returns-2
+returns-2 c = search ticks-open
+
+asking-again-requires : tie.Need-asking-again-requires
+asking-again-requires c κs = search needs
+
+returns-3 : tie.Need-returns-3
+returns-3 c = search ticks-open
+
+pub tick-open-spec : {M : Type 1} → statement M
+tick-open-spec =
+    tie.close
+    (tie.spec
+    increment-requires
+    waiting-requires
+    returns
+    increment-requires-2
+    failing-with-requires
+    returns-2
+    asking-again-requires
+    returns-3)
