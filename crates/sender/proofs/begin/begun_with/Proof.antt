@@ -6,13 +6,13 @@ use Rattle.sender.proofs.begin.begun_with.Statement.{statement}
 use Rattle.sender.proofs.begin.begun_with.Tie as tie
 
 first-byte-requires : tie.Need-first-byte-requires
-first-byte-requires c κs = tt
+first-byte-requires c κs = search needs
 
 cast-t5 : tie.Need-cast-t5
 cast-t5 c = search needs
 
 returns : tie.Need-returns
-returns c = rw (c .first-byte .ensures)
+returns c = cc
 
 pub begun-with-spec : {M : Type 1} → statement M
 begun-with-spec = tie.close (tie.spec first-byte-requires cast-t5 returns)
