@@ -24,17 +24,29 @@ abbrev pub transferFrom : FlatSender → Transfer
 transferFrom s =
     record { length = s .length; frames = s .frames; first = s .first; age = s .age; emitted = s .emitted }
 
+-- each phase with its transfer, of the fields that it has
+abbrev pub openingFrom : FlatSender → Transfer → Phase
+openingFrom s t = Opening (record { transfer = t; wait = s .wait; misses = s .misses })
+
+abbrev pub sendingFrom : FlatSender → Transfer → Phase
+sendingFrom s t =
+    Sending
+    (record { transfer = t; start = s .start; next = s .next; last = s .last; gap = s .count; misses = s .misses })
+
+abbrev pub waitingFrom : FlatSender → Transfer → Phase
+waitingFrom s t =
+    Waiting (record { transfer = t; start = s .start; last = s .last; wait = s .wait; misses = s .misses })
+
+abbrev pub shortFrom : FlatSender → Transfer → Phase
+shortFrom s t = Short (record { transfer = t; wait = s .wait })
+
 -- 1 Opening, 2 Sending, 3 Waiting, 4 Short; every other number is read as Idle
 unfoldable pub phaseFrom : FlatSender → Phase
 phaseFrom s =
-    pick (eqb (s .phase) 1) (Opening (record { transfer = transferFrom s; wait = s .wait; misses = s .misses }))
-    (pick (eqb (s .phase) 2)
-    (Sending
-    (record { transfer = transferFrom s; start = s .start; next = s .next; last = s .last; gap = s .count; misses = s .misses }))
-    (pick (eqb (s .phase) 3)
-    (Waiting
-    (record { transfer = transferFrom s; start = s .start; last = s .last; wait = s .wait; misses = s .misses }))
-    (pick (eqb (s .phase) 4) (Short (record { transfer = transferFrom s; wait = s .wait })) Idle)))
+    pick (eqb (s .phase) 1) (openingFrom s (transferFrom s))
+    (pick (eqb (s .phase) 2) (sendingFrom s (transferFrom s))
+    (pick (eqb (s .phase) 3) (waitingFrom s (transferFrom s))
+    (pick (eqb (s .phase) 4) (shortFrom s (transferFrom s)) Idle)))
 
 abbrev pub senderFrom : FlatSender → Sender
 senderFrom s =
