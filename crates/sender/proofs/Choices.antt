@@ -1,8 +1,8 @@
--- How a fact is shown of what the sender tells: of each answer that the tests of its rules lead to, with what the tests
--- found. Proofs about every call go by these.
+-- How a fact is shown of what the sender tells: of each answer that the tests of its rules lead to, with what
+-- the tests found. Proofs about every call go by these.
 -- Assumes nothing.
 use Prim.Native.Nat.{ℕ, _≤_, _<_}
-use mathlib.Core.Path.{_≡_, refl}
+use mathlib.Core.Path.{_≡_}
 use mathlib.Core.List.{List}
 use native.Mathlib.Omega.{arith}
 use borrow.Author.Tests.{leb-true, leb-false, ltb-false, eqb-false}
@@ -46,7 +46,8 @@ module _ (P : Told → Type 0) where
             (λ fits.
             let low = leb-true 1 (length m) (both-left _ _ fits) in
             let high = leb-true (length m) 1785 (both-right (leb 1 (length m)) _ fits) in
-            pick-elim P _ (λ few. short low (leb-true _ _ few)) (λ many. long (leb-false _ _ many) high))
+            pick-elim P _ (λ few. short low (leb-true _ _ few))
+            (λ many. long (leb-false _ _ many) high))
             (λ _. refuses 2)
         go (Opening x) = refuses 3
         go (Sending x) = refuses 3
@@ -64,15 +65,19 @@ module _ (P : Told → Type 0) where
           → (incrementOf (t .age) < s .settings .limit → P otherwise)
           → P (unlessOver s t fails otherwise)
       unfolding unlessOver
-      over-elim fails over in-time = pick-elim P _ (λ _. over) (λ early. in-time (leb-false _ _ early))
+      over-elim fails over in-time =
+          pick-elim P _ (λ _. over) (λ early. in-time (leb-false _ _ early))
 
       -- the third miss, one before it, or short of T
-      pub timeout-elim : (wait misses : ℕ) {again on : Told} → P (failingWith s (aged t) 2) → (incrementOf misses < 3 → P again)
+      pub timeout-elim : (wait misses : ℕ) {again on : Told} → P (failingWith s (aged t) 2)
+          → (incrementOf misses < 3 → P again)
           → (incrementOf wait < s .settings .timeout → P on)
           → P (atTimeout s t wait misses again on)
       unfolding unlessThird
       timeout-elim wait misses third before early =
-          limit-elim (s .settings .timeout) wait (pick-elim P _ (λ _. third) (λ few. before (leb-false _ _ few))) early
+          limit-elim (s .settings .timeout) wait
+          (pick-elim P _ (λ _. third) (λ few. before (leb-false _ _ few)))
+          early
 
       -- an LM_ACK with void numbers, one above N, or a sound one
       pub bad-elim : (start count : ℕ) {otherwise : Told} → P (silently s) → P (failingWith s t 4)
@@ -83,7 +88,8 @@ module _ (P : Told → Type 0) where
           (λ some.
           let a : start ≡ 0 → ⊥ = eqb-false _ _ (neither-left _ _ some) in
           let b : count ≡ 0 → ⊥ = eqb-false _ _ (neither-right (eqb start 0) _ some) in
-          pick-elim P _ (λ _. above) (λ within. sound (omega arith) (omega arith) (ltb-false _ _ within)))
+          pick-elim P _ (λ _. above)
+          (λ within. sound (omega arith) (omega arith) (ltb-false _ _ within)))
 
     -- a hearing: refused, or by the kind
     pub hear-elim : (f : Frame) → ((number : ℕ) → P (refusing s number))

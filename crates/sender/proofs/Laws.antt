@@ -1,5 +1,6 @@
--- What a test in the code found leads to one side of the definition's choice: a law for each kind of test, and for each
--- path that goes by more than its tests. The functions' proofs search these.
+-- What a test in the code found leads to one side of the definition's choice: a law for each kind of test.
+-- What the callees answered, put together, is a result of the definitions: a law for each result. Both are in
+-- the code's form; the functions' proofs search them.
 -- Assumes nothing.
 use Prim.Native.Nat.{ℕ, _+_, _-_, _*_, _≤_, _<_, min}
 use mathlib.Core.Path.{_≡_, refl, sym, ap, _∙_}
@@ -75,8 +76,11 @@ pub emits : (s : Sender) (f : Frame) {a : Told} {g : Frame} → g ≡ f → a �
 emits s f same e = cc
 
 pub fails-with : (s : Sender) (t : Transfer) (cause : ℕ) {p : Sender} {f : Frame} {u : Transfer}
-    → p ≡ inPhase s Idle → f ≡ lmNackOf cause → u ≡ counted t
-    → _≡_ {A = Told} (record { next = p; emits = true; frame = f; outcome = failed cause (u .age) (u .emitted) }) (failingWith s t cause)
+    → p ≡ inPhase s Idle
+    → f ≡ lmNackOf cause
+    → u ≡ counted t
+    → record { next = p; emits = true; frame = f; outcome = failed cause (u .age) (u .emitted) }
+    ≡ failingWith s t cause
 fails-with s t cause idle nack counting = rw (idle, nack, counting)
 
 -- ---- begin
@@ -91,31 +95,33 @@ unfolding frameCountOf
 frames-fit n l count most = record { fits = omega arith }
 
 -- a length that fits is at most the most
-pub fits-most : (m : List ℕ) (most : ℕ) {fits : Bool} → fits ≡ lengthFits m most → fits ≡ true → length m ≤ most
+pub fits-most : (m : List ℕ) (most : ℕ) {fits : Bool} → fits ≡ lengthFits m most → fits ≡ true
+    → length m ≤ most
 fits-most m most asked t = leb-true _ _ (both-right (leb 1 (length m)) _ (sym asked ∙ t))
 
 -- what a begin tells
 module _ (s : Sender) (m : List ℕ) {a : Told} {p : Sender} {q : Phase} {f : Frame} {t : Transfer} where
-  pub begun-long : {n : ℕ} → n ≡ frameCountOf (length m) → t ≡ begunWith m n → f ≡ announcementOf n (length m)
-      → q ≡ openingWith t 0 0 → p ≡ inPhase s q → a ≡ emitting p f
+  pub begun-long : {n : ℕ} → n ≡ frameCountOf (length m) → t ≡ begunWith m n
+      → f ≡ announcementOf n (length m) → q ≡ openingWith t 0 0 → p ≡ inPhase s q → a ≡ emitting p f
       → a ≡ beginLong s m
   unfolding beginLong
   begun-long count known frame phase next e = cc
 
-  pub begun-short : t ≡ begunWith m 1 → f ≡ smRmOf m → q ≡ shortWith t 0 → p ≡ inPhase s q → a ≡ emitting p f
-      → a ≡ beginShort s m
+  pub begun-short : t ≡ begunWith m 1 → f ≡ smRmOf m → q ≡ shortWith t 0 → p ≡ inPhase s q
+      → a ≡ emitting p f → a ≡ beginShort s m
   unfolding beginShort
   begun-short known frame phase next e = cc
 
-pub begin-in : (s : Sender) (m : List ℕ) {a : Told} {p : Phase} → s .phase ≡ p → a ≡ beginPhase s p m
-    → a ≡ beginPhase s (s .phase) m
+-- by the phase
+pub begin-in : (s : Sender) (m : List ℕ) {a : Told} {p : Phase} → s .phase ≡ p
+    → a ≡ beginPhase s p m → a ≡ beginPhase s (s .phase) m
 begin-in s m is e = e ∙ ap (λ (p : Phase). beginPhase s p m) (sym is)
 
 -- ---- tick
 
 -- age grows: over at M, or in time
-module _ (s : Sender) (t : Transfer) (fails : Transfer → ℕ → Told) (otherwise : Told) {a : Told} {u : Transfer}
-    (aging : u ≡ aged t) where
+module _ (s : Sender) (t : Transfer) (fails : Transfer → ℕ → Told) (otherwise : Told)
+    {a : Told} {u : Transfer} (aging : u ≡ aged t) where
   pub over : s .settings .limit ≤ u .age → a ≡ fails u 3 → a ≡ unlessOver s t fails otherwise
   unfolding unlessOver pick
   over late e = cc (le-leb _ _ late)
@@ -136,7 +142,8 @@ module _ (count : ℕ) {a : Told} {n : ℕ} (growing : n ≡ incrementOf count) 
     short-of early e = cc (lt-leb _ _ early)
 
   module _ (s : Sender) (t : Transfer) (again : Told) where
-    pub at-third : {u : Transfer} → u ≡ aged t → 3 ≤ n → a ≡ failingWith s u 2 → a ≡ unlessThird s t count again
+    pub at-third : {u : Transfer} → u ≡ aged t → 3 ≤ n → a ≡ failingWith s u 2
+        → a ≡ unlessThird s t count again
     unfolding unlessThird pick
     at-third aging third e = cc (le-leb _ _ third)
 
@@ -167,31 +174,35 @@ module _ (s : Sender) {a : Told} {p : Sender} {q : Phase} (next : p ≡ inPhase 
 
   module _ {f : Frame} (out : a ≡ emitting p f) where
     module _ {u v : Transfer} (counting : v ≡ counted u) where
-      pub opening-again : (x : Announced) {n : ℕ} → u ≡ aged (x .transfer) → n ≡ incrementOf (x .misses) → q ≡ openingWith v 0 n
+      pub opening-again : (x : Announced) {n : ℕ} → u ≡ aged (x .transfer)
+          → n ≡ incrementOf (x .misses) → q ≡ openingWith v 0 n
           → f ≡ announcementOf (x .transfer .frames) (x .transfer .length) → a ≡ openingAgain s x
       opening-again x aging growing phase frame = cc
 
-      pub waiting-again : (x : Awaited) (m : List ℕ) {n : ℕ} → u ≡ aged (x .transfer) → n ≡ incrementOf (x .misses)
-          → q ≡ waitingWith x v 0 n → f ≡ informationAt (x .last) m → a ≡ waitingAgain s x m
+      pub waiting-again : (x : Awaited) (m : List ℕ) {n : ℕ} → u ≡ aged (x .transfer)
+          → n ≡ incrementOf (x .misses) → q ≡ waitingWith x v 0 n → f ≡ informationAt (x .last) m
+          → a ≡ waitingAgain s x m
       waiting-again x m aging growing phase frame = cc
 
-      pub short-again : (x : Single) (m : List ℕ) → u ≡ aged (x .transfer) → q ≡ shortWith v 0 → f ≡ smRmOf m
-          → a ≡ shortAgain s x m
+      pub short-again : (x : Single) (m : List ℕ) → u ≡ aged (x .transfer) → q ≡ shortWith v 0
+          → f ≡ smRmOf m → a ≡ shortAgain s x m
       short-again x m aging phase frame = cc
 
-    pub sending-next : (x : Streamed) (m : List ℕ) → q ≡ afterFrame x → f ≡ informationAt (x .next) m → a ≡ sendingNext s x m
+    pub sending-next : (x : Streamed) (m : List ℕ) → q ≡ afterFrame x → f ≡ informationAt (x .next) m
+        → a ≡ sendingNext s x m
     sending-next x m phase frame = cc
 
 pub ruleset results =
     (opening-on, sending-on, waiting-on, short-on, opening-again, waiting-again, short-again, sending-next)
 
 -- by the phase
-pub tick-in : (s : Sender) (m : List ℕ) {a : Told} {p : Phase} → s .phase ≡ p → a ≡ tickPhase s p m
-    → a ≡ tickPhase s (s .phase) m
+pub tick-in : (s : Sender) (m : List ℕ) {a : Told} {p : Phase} → s .phase ≡ p
+    → a ≡ tickPhase s p m → a ≡ tickPhase s (s .phase) m
 tick-in s m is e = e ∙ ap (λ (p : Phase). tickPhase s p m) (sym is)
 
 -- after the window's last frame, and before it
-module _ (x : Streamed) {p : Phase} {u v : Transfer} (aging : u ≡ aged (x .transfer)) (counting : v ≡ counted u) where
+module _ (x : Streamed) {p : Phase} {u v : Transfer} (aging : u ≡ aged (x .transfer))
+    (counting : v ≡ counted u) where
   pub after-last : x .last ≤ x .next → p ≡ waitingAfter x v → p ≡ afterFrame x
   unfolding afterFrame pick
   after-last last e = cc (le-leb _ _ last)
@@ -203,7 +214,8 @@ module _ (x : Streamed) {p : Phase} {u v : Transfer} (aging : u ≡ aged (x .tra
 pub ruleset after-frame = (after-last, after-other)
 
 -- the part that is lent starts at the message's end where it would start past it
-drop-from : (m : List ℕ) (k : ℕ) (inside : Bool) → leb k (length m) ≡ inside → drop (min k (length m)) m ≡ drop k m
+drop-from : (m : List ℕ) (k : ℕ) (inside : Bool) → leb k (length m) ≡ inside
+    → drop (min k (length m)) m ≡ drop k m
 drop-from m k true e =
     let l : k ≤ length m = leb-true _ _ e in
     let same : min k (length m) ≡ k = omega arith in
@@ -220,9 +232,10 @@ part-at f number from m start e = cc (part-to-end m from, drop-from m (7 * (numb
 
 -- ---- hear
 
-pub takes : (s : Sender) (t : Transfer) (start count misses : ℕ) {a : Told} {p : Sender} {q : Phase} {last : ℕ}
-    → last ≡ windowLast start count (t .frames) → q ≡ sendingFrom t start last misses → p ≡ inPhase s q → a ≡ silently p
-    → a ≡ taking s t start count misses
+pub takes : (s : Sender) (t : Transfer) (start count misses : ℕ)
+    {a : Told} {p : Sender} {q : Phase} {last : ℕ}
+    → last ≡ windowLast start count (t .frames) → q ≡ sendingFrom t start last misses → p ≡ inPhase s q
+    → a ≡ silently p → a ≡ taking s t start count misses
 unfolding taking
 takes s t start count misses end phase next e = cc
 
@@ -241,16 +254,19 @@ module _ (s : Sender) {a : Told} {p q : Phase} (is : p ≡ q) where
   short-ack-in first e = rw is e
 
 -- the misses that a window is taken with
-pub takes-with : (s : Sender) (t : Transfer) (start count : ℕ) {a : Told} {m n : ℕ} → m ≡ n → a ≡ taking s t start count m
-    → a ≡ taking s t start count n
+pub takes-with : (s : Sender) (t : Transfer) (start count : ℕ) {a : Told} {m n : ℕ} → m ≡ n
+    → a ≡ taking s t start count m → a ≡ taking s t start count n
 takes-with s t start count same e = cc
 
-module _ (a : Told) (s : Sender) (f : Frame) (reading : Reading) (read : toldReading reading ≡ readOf f) where
+-- by the reading
+module _ (a : Told) (s : Sender) (f : Frame) (reading : Reading)
+    (read : toldReading reading ≡ readOf f) where
   pub hear-read : (parsed : Parsed) → reading ≡ Read parsed → a ≡ hearKind s f parsed → a ≡ hearOf s f
   unfolding hearOf hearRead
   hear-read parsed is e = cc
 
-  pub hear-refused : (number n : ℕ) → reading ≡ Refused n → number ≡ refusalOf (toldReading reading) → a ≡ refusing s number → a ≡ hearOf s f
+  pub hear-refused : (number n : ℕ) → reading ≡ Refused n → number ≡ refusalOf (toldReading reading)
+      → a ≡ refusing s number → a ≡ hearOf s f
   unfolding hearOf hearRead
   hear-refused number n is asked e = cc
 
@@ -258,7 +274,8 @@ pub ruleset hear-paths = (hear-read, hear-refused)
 
 -- by the kind's number
 module _ (a : Told) (s : Sender) (f : Frame) (parsed : Parsed) where
-  pub kind-ack : parsed .kind ≡ 2 → a ≡ hearAck s (s .phase) (byteOf f 0) (byteOf f 1) → a ≡ hearKind s f parsed
+  pub kind-ack : parsed .kind ≡ 2 → a ≡ hearAck s (s .phase) (byteOf f 0) (byteOf f 1)
+      → a ≡ hearKind s f parsed
   unfolding hearKind pick
   kind-ack is e = rw is e
 
@@ -266,17 +283,21 @@ module _ (a : Told) (s : Sender) (f : Frame) (parsed : Parsed) where
   unfolding hearKind pick
   kind-nack is e = rw is e
 
-  pub kind-end : (length : ℕ) → parsed .kind ≡ 4 → length ≡ wordAt f 1 2 → a ≡ hearEnd s (s .phase) (byteOf f 0) length → a ≡ hearKind s f parsed
+  pub kind-end : (length : ℕ) → parsed .kind ≡ 4 → length ≡ wordAt f 1 2
+      → a ≡ hearEnd s (s .phase) (byteOf f 0) length → a ≡ hearKind s f parsed
   unfolding hearKind pick
   kind-end length is word e = rw (is, ← word) e
 
-  pub kind-short-ack : parsed .kind ≡ 6 → a ≡ hearShortAck s (s .phase) (byteOf f 0) → a ≡ hearKind s f parsed
+  pub kind-short-ack : parsed .kind ≡ 6 → a ≡ hearShortAck s (s .phase) (byteOf f 0)
+      → a ≡ hearKind s f parsed
   unfolding hearKind pick
   kind-short-ack is e = rw is e
 
-  pub kind-other : (parsed .kind ≡ 2 → ⊥) → (parsed .kind ≡ 3 → ⊥) → (parsed .kind ≡ 4 → ⊥) → (parsed .kind ≡ 6 → ⊥) → a ≡ refusing s 7 → a ≡ hearKind s f parsed
-  unfolding hearKind pick
-  kind-other two three four six e = rw (ne-eqb (parsed .kind) 2 two, ne-eqb (parsed .kind) 3 three, ne-eqb (parsed .kind) 4 four, ne-eqb (parsed .kind) 6 six) e
+  pub kind-other : (parsed .kind ≡ 2 → ⊥) → (parsed .kind ≡ 3 → ⊥) → (parsed .kind ≡ 4 → ⊥)
+      → (parsed .kind ≡ 6 → ⊥) → a ≡ refusing s 7 → a ≡ hearKind s f parsed
+  unfolding hearKind
+  kind-other two three four six e =
+      unequal _ _ _ 2 two (unequal _ _ _ 3 three (unequal _ _ _ 4 four (unequal _ _ _ 6 six e)))
 
   pub kind-five : parsed .kind ≡ 5 → a ≡ refusing s 7 → a ≡ hearKind s f parsed
   unfolding hearKind pick

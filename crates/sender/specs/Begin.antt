@@ -18,7 +18,8 @@ use Rattle.sender.specs.declared.Transfer.{Transfer}
 abbrev pub lengthFits : List ℕ → ℕ → Bool
 lengthFits message most = within 1 (length message) most
 
--- what a begin knows of a message that goes in so many frames; age is 0, and the begin's own frame is counted
+-- what a begin knows of a message that goes in so many frames; age is 0, and the frames emitted since begin
+-- include its own
 abbrev pub begunWith : List ℕ → ℕ → Transfer
 begunWith message frames =
     record { length = length message; frames = frames; first = getD message 0 0; age = 0; emitted = 1 }

@@ -24,6 +24,7 @@ abbrev pub sendingFrom : Transfer → ℕ → ℕ → ℕ → Phase
 sendingFrom t start last misses =
     Sending (record { transfer = t; start = start; next = start; last = last; gap = 0; misses = misses })
 
+-- an LM_ACK that is taken: the window that it asks for
 unfoldable pub taking : Sender → Transfer → ℕ → ℕ → ℕ → Told
 taking s t start count misses =
     silently (inPhase s (sendingFrom t start (windowLast start count (t .frames)) misses))
@@ -32,8 +33,7 @@ taking s t start count misses =
 abbrev pub isVoid : ℕ → ℕ → Bool
 isVoid start count = eqb start 0 || eqb count 0
 
--- "LM_ACK in Opening, Sending or Waiting: s or c 0 is ignored; s > N emits NACK 4 and fails.": in this order, and then
--- what the phase does
+-- an LM_ACK, first of all: "s or c 0 is ignored; s > N emits NACK 4 and fails"; then what the phase does
 abbrev pub unlessBad : Sender → Transfer → ℕ → ℕ → Told → Told
 unlessBad s t start count otherwise =
     pick (isVoid start count) (silently s)

@@ -1,5 +1,5 @@
--- The sender's state as the rules change it. A phase or a transfer that goes on is built here from what it was, with the
--- numbers that a rule changes; the rules that enter a phase stand where they are stated.
+-- The sender's state as the rules change it. A transfer or a phase that goes on is built here from what it
+-- was and the numbers that a rule changes.
 use Prim.Native.Nat.{ℕ}
 use Rattle.frame.specs.Count.{incrementOf}
 use Rattle.sender.specs.declared.Awaited.{Awaited}

@@ -21,13 +21,13 @@ use Rattle.sender.specs.declared.Transfer.{Transfer}
 
 -- A state that no calls make may be past M, T, G or the third miss; it does what is due there.
 
--- "age grows by 1. If age = M, a long transfer emits NACK 3, a short one nothing; failed, cause 3. Otherwise:" what the
--- phase does. How the transfer fails is said for each phase.
+-- "age grows by 1. If age = M, .. failed, cause 3. Otherwise:" what the phase does. A long transfer fails with
+-- NACK 3, a short one with nothing: how is said for each phase.
 unfoldable pub unlessOver : Sender → Transfer → (Transfer → ℕ → Told) → Told → Told
 unlessOver s t fails otherwise =
     pick (leb (s .settings .limit) (incrementOf (t .age))) (fails (aged t) 3) otherwise
 
--- a count "grows by 1. At" its limit something is due; short of it the phase goes on
+-- a count "grows by 1": what is due at its limit, and what goes on short of it
 unfoldable pub atLimit : ℕ → ℕ → Told → Told → Told
 atLimit limit count due on = pick (leb limit (incrementOf count)) due on
 
@@ -145,5 +145,6 @@ lentTo (Sending x) message = eqb (length message) (x .transfer .length)
 lentTo (Waiting x) message = eqb (length message) (x .transfer .length)
 lentTo (Short x) message = eqb (length message) (x .transfer .length)
 
+-- a tick, lent a message
 unfoldable pub tickOf : Sender → List ℕ → Told
 tickOf s message = pick (lentTo (s .phase) message) (tickPhase s (s .phase) message) (refusing s 4)

@@ -58,7 +58,8 @@ emitting s f = record { next = s; emits = true; frame = f; outcome = quiet }
 
 -- the transfer is over: "The sender is then Idle"
 abbrev pub closing : Sender → Bool → Frame → Outcome → Told
-closing s emits f outcome = record { next = inPhase s Idle; emits = emits; frame = f; outcome = outcome }
+closing s emits f outcome =
+    record { next = inPhase s Idle; emits = emits; frame = f; outcome = outcome }
 
 -- "A failure that emits a NACK reports that NACK's cause"; the frames count the closing one
 abbrev pub failingWith : Sender → Transfer → ℕ → Told
