@@ -66,7 +66,23 @@ noWindow = window 0 0 0 0
 
 abbrev pub flatOf : Settings → ℕ → Transfer → Window → ℕ → ℕ → FlatSender
 flatOf settings phase t w wait misses =
-    record { gap = settings .gap; timeout = settings .timeout; limit = settings .limit; phase = phase; length = t .length; frames = t .frames; first = t .first; age = t .age; emitted = t .emitted; wait = wait; misses = misses; start = w .start; next = w .next; last = w .last; count = w .count }
+    record {
+      gap = settings .gap;
+      timeout = settings .timeout;
+      limit = settings .limit;
+      phase = phase;
+      length = t .length;
+      frames = t .frames;
+      first = t .first;
+      age = t .age;
+      emitted = t .emitted;
+      wait = wait;
+      misses = misses;
+      start = w .start;
+      next = w .next;
+      last = w .last;
+      count = w .count;
+    }
 
 -- 0 Idle, 1 Opening, 2 Sending, 3 Waiting, 4 Short
 unfoldable pub flatPhase : Settings → Phase → FlatSender
@@ -103,7 +119,15 @@ flatOutcome (failed cause ticks frames) = record { outcome = 3; number = cause; 
 
 abbrev pub answerOf : FlatSender → Told → Report → SenderAnswer
 answerOf next t r =
-    record { next = next; emits = t .emits; frame = flatFrame (t .frame); outcome = r .outcome; number = r .number; ticks = r .ticks; frames = r .frames }
+    record {
+      next = next;
+      emits = t .emits;
+      frame = flatFrame (t .frame);
+      outcome = r .outcome;
+      number = r .number;
+      ticks = r .ticks;
+      frames = r .frames;
+    }
 
 unfoldable pub flatAnswer : Told → SenderAnswer
 flatAnswer t = answerOf (flatSender (t .next)) t (flatOutcome (t .outcome))
@@ -124,9 +148,17 @@ outcomeFrom r =
     (pick (eqb (r .outcome) 2) (sent (r .ticks) (r .frames))
     (pick (eqb (r .outcome) 3) (failed (r .number) (r .ticks) (r .frames)) quiet))
 
+abbrev pub reportFrom : SenderAnswer → Report
+reportFrom a = record { outcome = a .outcome; number = a .number; ticks = a .ticks; frames = a .frames }
+
 unfoldable pub answerFrom : SenderAnswer → Told
 answerFrom a =
-    record { next = senderFrom (a .next); emits = a .emits; frame = frameFrom (a .frame); outcome = outcomeFrom (record { outcome = a .outcome; number = a .number; ticks = a .ticks; frames = a .frames }) }
+    record {
+      next = senderFrom (a .next);
+      emits = a .emits;
+      frame = frameFrom (a .frame);
+      outcome = outcomeFrom (reportFrom a);
+    }
 
 unfoldable pub madeFrom : SenderMade → result.Result Sender
 madeFrom m = pick (m .made) (result.accepted (senderFrom (m .end))) (result.refused (m .number))
