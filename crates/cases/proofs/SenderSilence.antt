@@ -9,7 +9,7 @@ use lib.Dec.{leb}
 use lib.ListN.{length}
 use Rattle.frame.specs.Result.{accepted, refused}
 use Rattle.frame.specs.Choice.{pick}
-use Rattle.frame.specs.Count.{incrementOf}
+use Rattle.frame.specs.Count.{incrementOf, within}
 use Rattle.frame.specs.Frames.{announcementOf, lmNackOf}
 use Rattle.sender.specs.Begin.{beginLong}
 use Rattle.sender.specs.Make.{idleWith, makeOf}
@@ -89,7 +89,7 @@ opening-shows s message x tick (suc ticks) lent =
 -- the numbers of a run from making on
 pub senderNumbers : ℕ → ℕ → ℕ → List ℕ
 senderNumbers timeout limit ticks =
-    pick ((leb 1 timeout && leb timeout 10000) && (leb 1 limit && leb limit 60000))
+    pick (within 1 timeout 10000 && within 1 limit 60000)
     (at 0 frame0 ++ openingNumbers timeout limit 0 0 0 1 ticks)
     (refusal 1)
 
@@ -122,5 +122,5 @@ unfolding makeOf senderNumbers
 sender-shows gap timeout limit message ticks g1 g10 low high =
     rw (le-leb 1 gap g1, le-leb gap 10 g10)
     (by-fit gap timeout limit message ticks
-    ((leb 1 timeout && leb timeout 10000) && (leb 1 limit && leb limit 60000))
+    (within 1 timeout 10000 && within 1 limit 60000)
     low high)

@@ -104,7 +104,8 @@ module _ (s : Sender) (h : Within s) where
       let l = h .settings .limit in
       (record { age = young; emitted = omega arith }, record { age = young; emitted = omega arith })
 
-  longer : (t u : Transfer) → u .length ≡ t .length → u .frames ≡ t .frames → LongWithin (s .settings) t → TransferWithin (s .settings) u
+  longer : (t u : Transfer) → u .length ≡ t .length → u .frames ≡ t .frames
+      → LongWithin (s .settings) t → TransferWithin (s .settings) u
       → LongWithin (s .settings) u
   longer t u same many w counts =
       record { counted = counts; length = rw same (w .length); frames = rw (same, many) (w .frames) }
@@ -129,7 +130,8 @@ module _ (s : Sender) (h : Within s) where
       (λ few. enters _ (longer (x .transfer) _ refl refl (w .0) (t .1), w .1, h .settings .timeout .0, few))
       (λ early. enters _ (longer (x .transfer) _ refl refl (w .0) (t .0), w .1, early, w .3)))
 
-  after : (x : Streamed) → PhaseWithin (s .settings) (Sending x) → LongWithin (s .settings) (counted (aged (x .transfer)))
+  after : (x : Streamed) → PhaseWithin (s .settings) (Sending x)
+      → LongWithin (s .settings) (counted (aged (x .transfer)))
       → PhaseWithin (s .settings) (afterFrame x)
   unfolding afterFrame
   after x w l =
@@ -144,7 +146,8 @@ module _ (s : Sender) (h : Within s) where
       over-elim Keeps s (x .transfer) _ idles
       (λ young.
       let t = older (x .transfer) (w .0 .counted) young in
-      limit-elim Keeps (s .settings .gap) (x .gap) (enters _ (after x w (longer (x .transfer) _ refl refl (w .0) (t .1))))
+      limit-elim Keeps (s .settings .gap) (x .gap)
+      (enters _ (after x w (longer (x .transfer) _ refl refl (w .0) (t .1))))
       (λ early. enters _ (longer (x .transfer) _ refl refl (w .0) (t .0), w .1, early, w .3)))
 
   ticks-short : (x : Single) (m : List ℕ) → PhaseWithin (s .settings) (Short x) → Keeps (tickShort s x m)
@@ -154,8 +157,10 @@ module _ (s : Sender) (h : Within s) where
       (λ young.
       let t = older (x .transfer) (w .0 .counted) young in
       limit-elim Keeps (s .settings .timeout) (x .wait)
-      (enters _ (record { counted = t .1; length = w .0 .length; frames = w .0 .frames }, h .settings .timeout .0))
-      (λ early. enters _ (record { counted = t .0; length = w .0 .length; frames = w .0 .frames }, early)))
+      (enters _
+      (record { counted = t .1; length = w .0 .length; frames = w .0 .frames }, h .settings .timeout .0))
+      (λ early. enters _
+      (record { counted = t .0; length = w .0 .length; frames = w .0 .frames }, early)))
 
   ticks : (p : Phase) (m : List ℕ) → PhaseWithin (s .settings) p → Keeps (tickPhase s p m)
   unfolding tickPhase
@@ -175,7 +180,9 @@ module _ (s : Sender) (h : Within s) where
   unfolding ackOpening
   acks-opening t start count l =
       bad-elim Keeps s t start count h idles
-      (λ from some within. pick-elim Keeps _ (λ one. takes t start count 0 l from some within (omega arith)) (λ other. h))
+      (λ from some within. pick-elim Keeps _
+      (λ one. takes t start count 0 l from some within (omega arith))
+      (λ other. h))
 
   acks-window : (t : Transfer) (taken misses start count : ℕ) → LongWithin (s .settings) t → misses < 3
       → Keeps (ackWindow s t taken misses start count)

@@ -9,7 +9,7 @@ use Rattle.frame.specs.Result.{Result, accepted, refused}
 use Rattle.frame.specs.declared.Parsed.{Parsed}
 use Rattle.frame.specs.declared.Frame.{Frame}
 use Rattle.sender.specs.State.{inPhase}
-use Rattle.sender.specs.Told.{Told, refusing, silently, failingWith, failing, sending}
+use Rattle.sender.specs.Told.{Told, refusing, silently, failingWith, failing, finishing}
 use Rattle.sender.specs.declared.Phase.{Phase}
 use Rattle.sender.specs.declared.Phase.the-variants.{Idle, Opening, Sending, Waiting, Short}
 use Rattle.sender.specs.declared.Sender.{Sender}
@@ -76,7 +76,7 @@ isWhole t frames length = eqb frames (t .frames) && eqb length (t .length)
 
 -- "EndofACK .. with this N and L: sent."
 unfoldable pub ifWhole : Sender → Transfer → ℕ → ℕ → Told
-ifWhole s t frames length = pick (isWhole t frames length) (sending s t) (silently s)
+ifWhole s t frames length = pick (isWhole t frames length) (finishing s t) (silently s)
 
 -- "EndofACK in Sending or Waiting", its N and L heard
 unfoldable pub hearEnd : Sender → Phase → ℕ → ℕ → Told
@@ -88,7 +88,7 @@ hearEnd s (Short x) frames length = silently s
 
 -- "SM_ACK .. with the message's first byte: sent."
 unfoldable pub ifFirst : Sender → Transfer → ℕ → Told
-ifFirst s t first = pick (eqb first (t .first)) (sending s t) (silently s)
+ifFirst s t first = pick (eqb first (t .first)) (finishing s t) (silently s)
 
 -- "SM_ACK in Short", its byte heard
 unfoldable pub hearShortAck : Sender → Phase → ℕ → Told

@@ -71,5 +71,5 @@ abbrev pub failing : Sender → Transfer → ℕ → Told
 failing s t cause = closing s false blankOf (failed cause (t .age) (t .emitted))
 
 -- "sent"
-abbrev pub sending : Sender → Transfer → Told
-sending s t = closing s false blankOf (sent (t .age) (t .emitted))
+abbrev pub finishing : Sender → Transfer → Told
+finishing s t = closing s false blankOf (sent (t .age) (t .emitted))

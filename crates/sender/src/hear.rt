@@ -155,7 +155,7 @@ impl Sender {
         ensures { λ r. ⌜ told r ≡ ifWhole self transfer frames length ⌝ }
     {
         if is_whole(transfer, frames, length) {
-            self.sending(transfer)
+            self.finishing(transfer)
         } else {
             self.silently()
         }
@@ -178,7 +178,7 @@ impl Sender {
         ensures { λ r. ⌜ told r ≡ ifFirst self transfer first ⌝ }
     {
         if first == transfer.first {
-            self.sending(transfer)
+            self.finishing(transfer)
         } else {
             self.silently()
         }

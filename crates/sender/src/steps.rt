@@ -10,7 +10,7 @@ ghost use Rattle.sender.specs.State.{
   shortWith,
   inPhase,
 };
-ghost use Rattle.sender.specs.Told.{told, refusing, silently, emitting, failingWith, failing, sending};
+ghost use Rattle.sender.specs.Told.{told, refusing, silently, emitting, failingWith, failing, finishing};
 use crate::Announced;
 use crate::Answer;
 use crate::Awaited;
@@ -192,8 +192,8 @@ impl Sender {
     }
 
     // The message has been acknowledged whole.
-    pub(crate) fn sending(self, transfer: Transfer) -> Answer
-        ensures { λ r. ⌜ told r ≡ sending self transfer ⌝ }
+    pub(crate) fn finishing(self, transfer: Transfer) -> Answer
+        ensures { λ r. ⌜ told r ≡ finishing self transfer ⌝ }
     {
         let next = self.in_phase(Phase::Idle);
         let frame = blank();

@@ -1,5 +1,5 @@
--- `sender::Sender::ack_window` meets its contract. Void numbers, a start above N and below the last start taken, in
--- the code's order, are the definition's tests.
+-- `sender::Sender::ack_window` meets its contract. Void numbers, a start above N and below the last
+-- start taken, in the code's order, are the definition's tests.
 -- Assumes nothing.
 use borrow.Author.Needs.{needs}
 use Rattle.sender.specs.Hear.{ackWindow}

@@ -1,4 +1,5 @@
--- `sender::Sender::begin` meets its contract. In each arm the phase is its variant, at which the definition computes.
+-- `sender::Sender::begin` meets its contract. In each arm the phase is its variant, at which the
+-- definition computes.
 -- Assumes nothing.
 use borrow.Author.Needs.{needs}
 use Rattle.sender.specs.Begin.{beginOf, beginPhase}

@@ -1,5 +1,5 @@
--- `sender::Sender::begin_long` meets its contract. N fits a byte, since the length is at most 1785; the frame and the
--- state are those that the callees promise.
+-- `sender::Sender::begin_long` meets its contract. N fits a byte, since the length is at most 1785;
+-- the frame and the state are those that the callees promise.
 -- Assumes nothing.
 use borrow.Author.Needs.{needs}
 use Rattle.sender.proofs.Laws.{frames-fit, begun-long}

@@ -1,4 +1,5 @@
--- `sender::Sender::failing` meets its contract. What the callees answer, put together, is the definition.
+-- `sender::Sender::failing` meets its contract. What the callees answer, put together, is the
+-- definition.
 -- Assumes nothing.
 use borrow.Author.Needs.{needs}
 use Rattle.sender.proofs.Sender.failing.Statement.{statement}

@@ -1,5 +1,5 @@
--- `sender::Sender::hear` meets its contract. A reading is its kind or its refusal's number, and the definition goes
--- by what `read` promises.
+-- `sender::Sender::hear` meets its contract. A reading is its kind or its refusal's number, and the
+-- definition goes by what `read` promises.
 -- Assumes nothing.
 use borrow.Author.Needs.{needs}
 use Rattle.sender.proofs.Laws.{hear-paths}

@@ -1,5 +1,5 @@
--- `sender::Sender::hear_kind` meets its contract. In each arm the kind is a number at which the definition computes;
--- in the last it is 5, or none of those before.
+-- `sender::Sender::hear_kind` meets its contract. In each arm the kind is a number at which the
+-- definition computes; in the last it is 5, or none of those before.
 -- Assumes nothing.
 use mathlib.Core.Logic.{⊎-elim}
 use borrow.Author.Needs.{needs}

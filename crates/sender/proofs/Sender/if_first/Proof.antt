@@ -6,8 +6,8 @@ use Rattle.sender.proofs.Laws.{tests}
 use Rattle.sender.proofs.Sender.if_first.Statement.{statement}
 use Rattle.sender.proofs.Sender.if_first.Tie as tie
 
-sending-requires : tie.Need-sending-requires
-sending-requires c κs = search needs
+finishing-requires : tie.Need-finishing-requires
+finishing-requires c κs = search needs
 
 silently-requires : tie.Need-silently-requires
 silently-requires c κs = search needs
@@ -21,4 +21,4 @@ unfolding ifFirst
 returns-2 c = search tests
 
 pub if-first-spec : {M : Type 1} → statement M
-if-first-spec = tie.close (tie.spec sending-requires silently-requires returns returns-2)
+if-first-spec = tie.close (tie.spec finishing-requires silently-requires returns returns-2)

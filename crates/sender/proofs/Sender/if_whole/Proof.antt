@@ -9,8 +9,8 @@ use Rattle.sender.proofs.Sender.if_whole.Tie as tie
 is-whole-requires : tie.Need-is-whole-requires
 is-whole-requires c κs = search needs
 
-sending-requires : tie.Need-sending-requires
-sending-requires c κs = search needs
+finishing-requires : tie.Need-finishing-requires
+finishing-requires c κs = search needs
 
 silently-requires : tie.Need-silently-requires
 silently-requires c κs = search needs
@@ -25,4 +25,4 @@ returns-2 c = search tests
 
 pub if-whole-spec : {M : Type 1} → statement M
 if-whole-spec =
-    tie.close (tie.spec is-whole-requires sending-requires silently-requires returns returns-2)
+    tie.close (tie.spec is-whole-requires finishing-requires silently-requires returns returns-2)

@@ -1,4 +1,5 @@
--- `sender::Sender::make` meets its contract. Settings that fit make the idle sender, others are refused 1.
+-- `sender::Sender::make` meets its contract. Settings that fit make the idle sender, others are
+-- refused 1.
 -- Assumes nothing.
 use borrow.Author.Needs.{needs}
 use Rattle.sender.specs.Make.{makeOf}

@@ -1,4 +1,5 @@
--- `sender::Sender::opening_on` meets its contract. What the callees answer, put together, is the definition.
+-- `sender::Sender::opening_on` meets its contract. What the callees answer, put together, is the
+-- definition.
 -- Assumes nothing.
 use borrow.Author.Needs.{needs}
 use Rattle.sender.proofs.Laws.{results}

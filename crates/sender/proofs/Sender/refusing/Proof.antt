@@ -1,4 +1,5 @@
--- `sender::Sender::refusing` meets its contract. The answer is the definition, with the frame that `blank` gives.
+-- `sender::Sender::refusing` meets its contract. The answer is the definition, with the frame that
+-- `blank` gives.
 -- Assumes nothing.
 use borrow.Author.Needs.{needs}
 use Rattle.sender.proofs.Sender.refusing.Statement.{statement}

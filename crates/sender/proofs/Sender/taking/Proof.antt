@@ -1,4 +1,5 @@
--- `sender::Sender::taking` meets its contract. The window's last number is what `window_last` promises.
+-- `sender::Sender::taking` meets its contract. The window's last number is what `window_last`
+-- promises.
 -- Assumes nothing.
 use borrow.Author.Needs.{needs}
 use Rattle.sender.proofs.Laws.{takes}

@@ -1,5 +1,5 @@
--- `sender::Sender::tick` meets its contract. The lent length is the definition's first test; then each arm's phase is
--- its variant.
+-- `sender::Sender::tick` meets its contract. The lent length is the definition's first test; then
+-- each arm's phase is its variant.
 -- Assumes nothing.
 use borrow.Author.Needs.{needs}
 use Rattle.sender.specs.Tick.{tickOf, tickPhase}

@@ -1,4 +1,5 @@
--- `sender::Sender::tick_sending` meets its contract. The tests of M and G, in the code's order, are the definition's.
+-- `sender::Sender::tick_sending` meets its contract. The tests of M and G, in the code's order, are
+-- the definition's.
 -- Assumes nothing.
 use borrow.Author.Needs.{needs}
 use Rattle.sender.specs.Tick.{tickSending}

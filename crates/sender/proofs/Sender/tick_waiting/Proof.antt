@@ -1,5 +1,5 @@
--- `sender::Sender::tick_waiting` meets its contract. The tests of M, T and the third miss, in the code's order, are
--- the definition's.
+-- `sender::Sender::tick_waiting` meets its contract. The tests of M, T and the third miss, in the
+-- code's order, are the definition's.
 -- Assumes nothing.
 use borrow.Author.Needs.{needs}
 use Rattle.sender.specs.Tick.{tickWaiting}

@@ -1,4 +1,5 @@
--- `sender::Streamed::after_frame` meets its contract. The test of the window's end is the definition's.
+-- `sender::Streamed::after_frame` meets its contract. The test of the window's end is the
+-- definition's.
 -- Assumes nothing.
 use borrow.Author.Needs.{needs}
 use Rattle.sender.proofs.Laws.{after-frame}

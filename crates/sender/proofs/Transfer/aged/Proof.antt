@@ -1,4 +1,5 @@
--- `sender::Transfer::aged` meets its contract. The age is what `increment` promises; the rest stays.
+-- `sender::Transfer::aged` meets its contract. The age is what `increment` promises; the rest
+-- stays.
 -- Assumes nothing.
 use borrow.Author.Needs.{needs}
 use Rattle.sender.proofs.Transfer.aged.Statement.{statement}

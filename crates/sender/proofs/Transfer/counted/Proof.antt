@@ -1,4 +1,5 @@
--- `sender::Transfer::counted` meets its contract. The frames emitted are what `increment` promises; the rest stays.
+-- `sender::Transfer::counted` meets its contract. The frames emitted are what `increment` promises;
+-- the rest stays.
 -- Assumes nothing.
 use borrow.Author.Needs.{needs}
 use Rattle.sender.proofs.Transfer.counted.Statement.{statement}

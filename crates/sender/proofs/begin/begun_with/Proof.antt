@@ -1,5 +1,5 @@
--- `sender::begin::begun_with` meets its contract. The length fits 16 bits by what is required, and the first byte is
--- what `first_byte` promises.
+-- `sender::begin::begun_with` meets its contract. The length fits 16 bits by what is required, and
+-- the first byte is what `first_byte` promises.
 -- Assumes nothing.
 use borrow.Author.Needs.{needs}
 use Rattle.sender.proofs.begin.begun_with.Statement.{statement}

@@ -1,5 +1,5 @@
--- `sender::tick::information_at` meets its contract. A part that starts at the smaller of 7(i−1) and the length holds
--- what the definition drops to.
+-- `sender::tick::information_at` meets its contract. A part that starts at the smaller of 7(i−1)
+-- and the length holds what the definition drops to.
 -- Assumes nothing.
 use borrow.Author.Needs.{needs}
 use Rattle.sender.proofs.Laws.{part-at}

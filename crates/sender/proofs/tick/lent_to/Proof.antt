@@ -1,4 +1,5 @@
--- `sender::tick::lent_to` meets its contract. In each arm the phase is its variant, at which the definition computes.
+-- `sender::tick::lent_to` meets its contract. In each arm the phase is its variant, at which the
+-- definition computes.
 -- Assumes nothing.
 use borrow.Author.Needs.{needs}
 use Rattle.sender.specs.Tick.{lentTo}
