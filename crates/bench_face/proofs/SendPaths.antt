@@ -9,15 +9,16 @@ use Rattle.frame.specs.Result.{Result}
 use Rattle.frame.specs.Choice.{pick}
 use Rattle.frame.specs.declared.Frame.{Frame}
 use Rattle.bench_face.specs.Frames.{frameFrom, flatFrame}
-use Rattle.bench_face.specs.Send.{transferFrom, phaseFrom, senderFrom, window, noTransfer, flatOf, flatPhase, flatSender, flatOutcome, flatAnswer, noSender, flatMade}
+use Rattle.bench_face.specs.Send.{transferFrom, openingFrom, sendingFrom, waitingFrom, shortFrom, phaseFrom, senderFrom, window, noTransfer, flatOf, flatPhase, flatSender, flatOutcome, flatAnswer, noSender, flatMade}
 use Rattle.bench_face.specs.declared.frames.FlatFrame.{FlatFrame}
 use Rattle.bench_face.specs.declared.send.FlatSender.{FlatSender}
 use Rattle.bench_face.specs.declared.send.Report.{Report}
 use Rattle.bench_face.specs.declared.send.SenderAnswer.{SenderAnswer}
 use Rattle.bench_face.specs.declared.send.SenderMade.{SenderMade}
 use Rattle.bench_face.specs.declared.send.Window.{Window}
-use Rattle.sender.specs.Begin.{makeOf, beginOf, postOf}
+use Rattle.sender.specs.Begin.{beginOf, postOf}
 use Rattle.sender.specs.Hear.{hearOf}
+use Rattle.sender.specs.Make.{makeOf}
 use Rattle.sender.specs.Tick.{tickOf}
 use Rattle.sender.specs.Told.{toldMade, toldOutcome, Told, told}
 use Rattle.sender.specs.declared.Announced.{Announced}
@@ -38,22 +39,19 @@ use Rattle.bench_face.proofs.Numbers.{test}
 -- ---- reading, by the phase's number
 
 module _ (s : FlatSender) (t : Transfer) (known : t ≡ transferFrom s) where
-  pub reads-opening : s .phase ≡ 1
-      → Opening (record { transfer = t; wait = s .wait; misses = s .misses }) ≡ phaseFrom s
+  pub reads-opening : s .phase ≡ 1 → openingFrom s t ≡ phaseFrom s
   unfolding phaseFrom pick
   reads-opening e = cc (test 1 e)
 
-  pub reads-sending : s .phase ≡ 2
-      → Sending (record { transfer = t; start = s .start; next = s .next; last = s .last; gap = s .count; misses = s .misses }) ≡ phaseFrom s
+  pub reads-sending : s .phase ≡ 2 → sendingFrom s t ≡ phaseFrom s
   unfolding phaseFrom pick
   reads-sending e = cc (test 1 e, test 2 e)
 
-  pub reads-waiting : s .phase ≡ 3
-      → Waiting (record { transfer = t; start = s .start; last = s .last; wait = s .wait; misses = s .misses }) ≡ phaseFrom s
+  pub reads-waiting : s .phase ≡ 3 → waitingFrom s t ≡ phaseFrom s
   unfolding phaseFrom pick
   reads-waiting e = cc (test 1 e, test 2 e, test 3 e)
 
-  pub reads-short : s .phase ≡ 4 → Short (record { transfer = t; wait = s .wait }) ≡ phaseFrom s
+  pub reads-short : s .phase ≡ 4 → shortFrom s t ≡ phaseFrom s
   unfolding phaseFrom pick
   reads-short e = cc (test 1 e, test 2 e, test 3 e, test 4 e)
 

@@ -24,17 +24,29 @@ abbrev pub transferFrom : FlatSender → Transfer
 transferFrom s =
     record { length = s .length; frames = s .frames; first = s .first; age = s .age; emitted = s .emitted }
 
+-- each phase with its transfer, of the fields that it has
+abbrev pub openingFrom : FlatSender → Transfer → Phase
+openingFrom s t = Opening (record { transfer = t; wait = s .wait; misses = s .misses })
+
+abbrev pub sendingFrom : FlatSender → Transfer → Phase
+sendingFrom s t =
+    Sending
+    (record { transfer = t; start = s .start; next = s .next; last = s .last; gap = s .count; misses = s .misses })
+
+abbrev pub waitingFrom : FlatSender → Transfer → Phase
+waitingFrom s t =
+    Waiting (record { transfer = t; start = s .start; last = s .last; wait = s .wait; misses = s .misses })
+
+abbrev pub shortFrom : FlatSender → Transfer → Phase
+shortFrom s t = Short (record { transfer = t; wait = s .wait })
+
 -- 1 Opening, 2 Sending, 3 Waiting, 4 Short; every other number is read as Idle
 unfoldable pub phaseFrom : FlatSender → Phase
 phaseFrom s =
-    pick (eqb (s .phase) 1) (Opening (record { transfer = transferFrom s; wait = s .wait; misses = s .misses }))
-    (pick (eqb (s .phase) 2)
-    (Sending
-    (record { transfer = transferFrom s; start = s .start; next = s .next; last = s .last; gap = s .count; misses = s .misses }))
-    (pick (eqb (s .phase) 3)
-    (Waiting
-    (record { transfer = transferFrom s; start = s .start; last = s .last; wait = s .wait; misses = s .misses }))
-    (pick (eqb (s .phase) 4) (Short (record { transfer = transferFrom s; wait = s .wait })) Idle)))
+    pick (eqb (s .phase) 1) (openingFrom s (transferFrom s))
+    (pick (eqb (s .phase) 2) (sendingFrom s (transferFrom s))
+    (pick (eqb (s .phase) 3) (waitingFrom s (transferFrom s))
+    (pick (eqb (s .phase) 4) (shortFrom s (transferFrom s)) Idle)))
 
 abbrev pub senderFrom : FlatSender → Sender
 senderFrom s =
@@ -54,7 +66,23 @@ noWindow = window 0 0 0 0
 
 abbrev pub flatOf : Settings → ℕ → Transfer → Window → ℕ → ℕ → FlatSender
 flatOf settings phase t w wait misses =
-    record { gap = settings .gap; timeout = settings .timeout; limit = settings .limit; phase = phase; length = t .length; frames = t .frames; first = t .first; age = t .age; emitted = t .emitted; wait = wait; misses = misses; start = w .start; next = w .next; last = w .last; count = w .count }
+    record {
+      gap = settings .gap;
+      timeout = settings .timeout;
+      limit = settings .limit;
+      phase = phase;
+      length = t .length;
+      frames = t .frames;
+      first = t .first;
+      age = t .age;
+      emitted = t .emitted;
+      wait = wait;
+      misses = misses;
+      start = w .start;
+      next = w .next;
+      last = w .last;
+      count = w .count;
+    }
 
 -- 0 Idle, 1 Opening, 2 Sending, 3 Waiting, 4 Short
 unfoldable pub flatPhase : Settings → Phase → FlatSender
@@ -91,7 +119,15 @@ flatOutcome (failed cause ticks frames) = record { outcome = 3; number = cause; 
 
 abbrev pub answerOf : FlatSender → Told → Report → SenderAnswer
 answerOf next t r =
-    record { next = next; emits = t .emits; frame = flatFrame (t .frame); outcome = r .outcome; number = r .number; ticks = r .ticks; frames = r .frames }
+    record {
+      next = next;
+      emits = t .emits;
+      frame = flatFrame (t .frame);
+      outcome = r .outcome;
+      number = r .number;
+      ticks = r .ticks;
+      frames = r .frames;
+    }
 
 unfoldable pub flatAnswer : Told → SenderAnswer
 flatAnswer t = answerOf (flatSender (t .next)) t (flatOutcome (t .outcome))
@@ -112,9 +148,17 @@ outcomeFrom r =
     (pick (eqb (r .outcome) 2) (sent (r .ticks) (r .frames))
     (pick (eqb (r .outcome) 3) (failed (r .number) (r .ticks) (r .frames)) quiet))
 
+abbrev pub reportFrom : SenderAnswer → Report
+reportFrom a = record { outcome = a .outcome; number = a .number; ticks = a .ticks; frames = a .frames }
+
 unfoldable pub answerFrom : SenderAnswer → Told
 answerFrom a =
-    record { next = senderFrom (a .next); emits = a .emits; frame = frameFrom (a .frame); outcome = outcomeFrom (record { outcome = a .outcome; number = a .number; ticks = a .ticks; frames = a .frames }) }
+    record {
+      next = senderFrom (a .next);
+      emits = a .emits;
+      frame = frameFrom (a .frame);
+      outcome = outcomeFrom (reportFrom a);
+    }
 
 unfoldable pub madeFrom : SenderMade → result.Result Sender
 madeFrom m = pick (m .made) (result.accepted (senderFrom (m .end))) (result.refused (m .number))

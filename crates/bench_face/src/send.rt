@@ -14,8 +14,9 @@ ghost use Rattle.bench_face.specs.Send.{
   noSender,
   flatMade,
 };
-ghost use Rattle.sender.specs.Begin.{makeOf, beginOf, postOf};
+ghost use Rattle.sender.specs.Begin.{beginOf, postOf};
 ghost use Rattle.sender.specs.Hear.{hearOf};
+ghost use Rattle.sender.specs.Make.{makeOf};
 ghost use Rattle.sender.specs.Tick.{tickOf};
 ghost use Rattle.sender.specs.Told.{toldMade, toldOutcome, told};
 use crate::frames::FlatFrame;

@@ -1,14 +1,14 @@
 -- What a sender shows at an LM_ACK in a long transfer depends on N, the start and the count alone.
 -- Assumes nothing.
 use mathlib.Core.Path.{_≡_, refl}
-use mathlib.Core.Bool.{Bool, true, false, _||_}
+use mathlib.Core.Bool.{Bool, true, false}
 use mathlib.Core.List.{List, []}
 use Prim.Native.Nat.{ℕ}
 use lib.Dec.{eqb, ltb}
 use Rattle.frame.specs.Choice.{pick}
 use Rattle.frame.specs.Frames.{lmAckOf, lmNackOf}
 use Rattle.frame.specs.Reading.{namedOf, allFiller, readOf}
-use Rattle.sender.specs.Hear.{hearOf, hearRead, hearKind, hearAck, ackOpening, ackWindow, taking}
+use Rattle.sender.specs.Hear.{hearOf, hearRead, hearKind, hearAck, isVoid, ackOpening, ackWindow, taking}
 use Rattle.sender.specs.Told.{Told, silently, failingWith}
 use Rattle.sender.specs.declared.Phase.{Phase}
 use Rattle.sender.specs.declared.Sender.{Sender}
@@ -19,7 +19,7 @@ use Rattle.cases.specs.Row.{nack}
 
 -- the numbers that it shows
 pub ackNumbers : ℕ → ℕ → ℕ → List ℕ
-ackNumbers frames start count = pick (eqb start 0 || eqb count 0) [] (pick (ltb frames start) (nack 4) [])
+ackNumbers frames start count = pick (isVoid start count) [] (pick (ltb frames start) (nack 4) [])
 
 -- an LM_ACK that is ignored, or one that is taken, shows nothing; so only the tests for a bad one are seen
 by-tests : (s : Sender) (t : Transfer) (taken ignored : Told) (zero above which : Bool)
@@ -37,7 +37,7 @@ in-window : (s : Sender) (t : Transfer) (last misses start count : ℕ)
     → shownHearing (ackWindow s t last misses start count) ≡ ackNumbers (t .frames) start count
 unfolding ackWindow taking ackNumbers unlessRefused pick
 in-window s t last misses start count =
-    by-tests s t _ _ (eqb start 0 || eqb count 0) (ltb (t .frames) start) (ltb start last) refl refl
+    by-tests s t _ _ (isVoid start count) (ltb (t .frames) start) (ltb start last) refl refl
 
 by-phase : (s : Sender) {p : Phase} {t : Transfer}
     → Long p t
@@ -45,7 +45,7 @@ by-phase : (s : Sender) {p : Phase} {t : Transfer}
     → shownHearing (hearAck s p start count) ≡ ackNumbers (t .frames) start count
 unfolding hearAck ackOpening taking ackNumbers unlessRefused pick
 by-phase s (opening x) start count =
-    by-tests s (x .transfer) _ _ (eqb start 0 || eqb count 0) (ltb (x .transfer .frames) start) (eqb start 1) refl refl
+    by-tests s (x .transfer) _ _ (isVoid start count) (ltb (x .transfer .frames) start) (eqb start 1) refl refl
 by-phase s (sending x) start count = in-window s (x .transfer) (x .start) (x .misses) start count
 by-phase s (waiting x) start count = in-window s (x .transfer) (x .start) (x .misses) start count
 

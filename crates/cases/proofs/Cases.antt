@@ -12,6 +12,7 @@ use Rattle.frame.specs.Frames.{announcementOf, smRmOf, lmAckOf, lmNackOf}
 use Rattle.frame.specs.Reading.{namedOf, allFiller, readOf}
 use Rattle.sender.specs.Begin as sender-begin
 use Rattle.sender.specs.Hear as sender-hear
+use Rattle.sender.specs.Make as sender-make
 use Rattle.sender.specs.Tick as sender-tick
 use Rattle.sender.specs.declared.Phase.the-variants.{Idle}
 use Rattle.sender.specs.declared.Sender.{Sender}
@@ -39,9 +40,9 @@ unfolding
     pick frameCountOf incrementOf
     announcementOf smRmOf lmAckOf lmNackOf
     namedOf allFiller readOf
-    sender-begin.makeOf sender-begin.beginOf sender-begin.beginPhase sender-begin.beginIdle sender-begin.beginShort sender-begin.beginLong
+    sender-make.makeOf sender-begin.beginOf sender-begin.beginPhase sender-begin.beginIdle sender-begin.beginShort sender-begin.beginLong
     sender-hear.hearOf sender-hear.hearRead sender-hear.hearKind sender-hear.hearAck sender-hear.ackOpening
-    sender-tick.tickOf sender-tick.tickPhase sender-tick.tickOpening
+    sender-tick.tickOf sender-tick.lentTo sender-tick.tickPhase sender-tick.tickOpening sender-tick.unlessOver sender-tick.atLimit sender-tick.unlessThird
     receiver-hear.hearOf receiver-hear.hearRead receiver-hear.hearKind receiver-hear.hearNumbered
     receiver-hear.hearAnnouncement receiver-hear.announceIdle
     receiver-making.makeOf receiver-tick.tickOf receiver-tick.tickPhase receiver-tick.tickOpen

@@ -9,8 +9,9 @@ use lib.ListN.{length, length-replicate}
 use Rattle.frame.specs.Choice.{pick}
 use Rattle.frame.specs.Count.{frameCountOf}
 use Rattle.frame.specs.Frames.{lmAckOf}
-use Rattle.sender.specs.Begin.{makeOf, beginLong}
+use Rattle.sender.specs.Begin.{beginLong}
 use Rattle.sender.specs.Hear.{hearOf}
+use Rattle.sender.specs.Make.{makeOf}
 use Rattle.sender.specs.Told.{Told}
 use Rattle.identifier.specs.Answer.{joinOf}
 use Rattle.identifier.specs.declared.Parts.{Parts}

@@ -9,11 +9,12 @@ use lib.Dec.{leb}
 use lib.ListN.{length}
 use Rattle.frame.specs.Result.{accepted, refused}
 use Rattle.frame.specs.Choice.{pick}
-use Rattle.frame.specs.Count.{incrementOf}
+use Rattle.frame.specs.Count.{incrementOf, within}
 use Rattle.frame.specs.Frames.{announcementOf, lmNackOf}
-use Rattle.sender.specs.Begin.{makeOf, beginLong}
-use Rattle.sender.specs.State.{aged, counted, inPhase}
-use Rattle.sender.specs.Tick.{tickOf, tickPhase, tickOpening}
+use Rattle.sender.specs.Begin.{beginLong}
+use Rattle.sender.specs.Make.{idleWith, makeOf}
+use Rattle.sender.specs.State.{aged, inPhase}
+use Rattle.sender.specs.Tick.{unlessOver, atLimit, unlessThird, tickOpening, tickPhase, lentTo, tickOf}
 use Rattle.sender.specs.Told.{Told, failingWith}
 use Rattle.sender.specs.declared.Announced.{Announced}
 use Rattle.sender.specs.declared.Phase.the-variants.{Idle, Opening}
@@ -35,7 +36,7 @@ openingNumbers timeout limit age wait misses tick (suc ticks) =
 
 -- an Idle sender shows nothing
 idle-shows : (s : Sender) (message : List ℕ) (tick ticks : ℕ) → senderTicks (inPhase s Idle) message tick ticks ≡ []
-unfolding senderTicks tickOf tickPhase pick
+unfolding senderTicks tickOf lentTo tickPhase pick
 idle-shows s message tick zero = refl
 idle-shows s message tick (suc ticks) = idle-shows s message (suc tick) ticks
 
@@ -66,14 +67,14 @@ by-tests s t message tick ticks again waits frames silence false false third ha 
 tick-lent : (s : Sender) (message : List ℕ) (x : Announced)
     → length message ≡ x .transfer .length
     → tickOf (inPhase s (Opening x)) message ≡ tickOpening (inPhase s (Opening x)) x
-unfolding tickOf tickPhase pick
+unfolding tickOf lentTo tickPhase pick
 tick-lent s message x lent = rw (eq-eqb (length message) (x .transfer .length) lent)
 
 opening-shows : (s : Sender) (message : List ℕ) (x : Announced) (tick ticks : ℕ)
     → length message ≡ x .transfer .length
     → senderTicks (inPhase s (Opening x)) message tick ticks
     ≡ openingNumbers (s .settings .timeout) (s .settings .limit) (x .transfer .age) (x .wait) (x .misses) tick ticks
-unfolding senderTicks openingNumbers after tickOpening announcementOf pick
+unfolding senderTicks openingNumbers after tickOpening unlessOver atLimit unlessThird announcementOf pick
 opening-shows s message x tick zero lent = refl
 opening-shows s message x tick (suc ticks) lent =
     ap (λ t. after t message tick ticks) (tick-lent s message x lent)
@@ -82,17 +83,13 @@ opening-shows s message x tick (suc ticks) lent =
     (leb (s .settings .timeout) (incrementOf (x .wait)))
     (leb 3 (incrementOf (x .misses)))
     (ap {B = List ℕ} (λ rest. at tick frame0 ++ rest)
-    (opening-shows s message
-    (record { transfer = counted (aged (x .transfer)); wait = 0; misses = incrementOf (x .misses) })
-    (suc tick) ticks lent))
-    (opening-shows s message
-    (record { transfer = aged (x .transfer); wait = incrementOf (x .wait); misses = x .misses })
-    (suc tick) ticks lent)
+    (opening-shows s message _ (suc tick) ticks lent))
+    (opening-shows s message _ (suc tick) ticks lent)
 
 -- the numbers of a run from making on
 pub senderNumbers : ℕ → ℕ → ℕ → List ℕ
 senderNumbers timeout limit ticks =
-    pick ((leb 1 timeout && leb timeout 10000) && (leb 1 limit && leb limit 60000))
+    pick (within 1 timeout 10000 && within 1 limit 60000)
     (at 0 frame0 ++ openingNumbers timeout limit 0 0 0 1 ticks)
     (refusal 1)
 
@@ -109,11 +106,7 @@ alone-shows s message ticks idle low high =
 by-fit : (gap timeout limit : ℕ) (message : List ℕ) (ticks : ℕ) (fit : Bool)
     → 9 ≤ length message
     → length message ≤ 1785
-    → ofSender
-    (pick fit
-    (accepted (record { settings = record { gap = gap; timeout = timeout; limit = limit }; phase = Idle }))
-    (refused 1))
-    (λ s. senderInSilence s message ticks)
+    → ofSender (pick fit (accepted (idleWith gap timeout limit)) (refused 1)) (λ s. senderInSilence s message ticks)
     ≡ pick fit (at 0 frame0 ++ openingNumbers timeout limit 0 0 0 1 ticks) (refusal 1)
 unfolding ofSender pick
 by-fit gap timeout limit message ticks true low high = alone-shows _ message ticks refl low high
@@ -129,5 +122,5 @@ unfolding makeOf senderNumbers
 sender-shows gap timeout limit message ticks g1 g10 low high =
     rw (le-leb 1 gap g1, le-leb gap 10 g10)
     (by-fit gap timeout limit message ticks
-    ((leb 1 timeout && leb timeout 10000) && (leb 1 limit && leb limit 60000))
+    (within 1 timeout 10000 && within 1 limit 60000)
     low high)

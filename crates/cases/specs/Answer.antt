@@ -10,6 +10,7 @@ use Rattle.frame.specs.Frames.{byteOf, announcementOf, lmAckOf}
 use Rattle.frame.specs.declared.Frame.{Frame}
 use Rattle.sender.specs.Begin as sender-begin
 use Rattle.sender.specs.Hear as sender-hear
+use Rattle.sender.specs.Make as sender-make
 use Rattle.sender.specs.Tick as sender-tick
 use Rattle.sender.specs.Told as sender
 use Rattle.sender.specs.declared.Sender.{Sender}
@@ -99,12 +100,12 @@ zeros length = replicate length 0
 -- `Claim` says the same of all that a question leaves open; proofs/General.antt shows that it makes no difference.
 unfoldable pub answerOf : Question → List ℕ
 answerOf (begun length) =
-    ofSender (sender-begin.makeOf 1 10 100) (λ s. shownBegin (sender-begin.beginOf s (zeros length)))
+    ofSender (sender-make.makeOf 1 10 100) (λ s. shownBegin (sender-begin.beginOf s (zeros length)))
 answerOf (acknowledged frames start count) =
-    ofSender (sender-begin.makeOf 1 10 100)
+    ofSender (sender-make.makeOf 1 10 100)
     (λ s. shownHearing (sender-hear.hearOf (sender-begin.beginOf s (zeros (7 * frames)) .next) (lmAckOf start count)))
 answerOf (senderSilence timeout limit ticks) =
-    ofSender (sender-begin.makeOf 1 timeout limit) (λ s. senderInSilence s (zeros 9) ticks)
+    ofSender (sender-make.makeOf 1 timeout limit) (λ s. senderInSilence s (zeros 9) ticks)
 answerOf (receiverSilence timeout frames ticks) =
     ofReceiver (receiver-making.makeOf timeout 255 1785) (λ r. receiverInSilence r frames (7 * frames) (zeros 1785) ticks)
 answerOf (joined p pf ps sa) =

@@ -7,6 +7,7 @@ use Rattle.frame.specs.Count.{frameCountOf}
 use Rattle.frame.specs.Frames.{lmAckOf}
 use Rattle.sender.specs.Begin as sender-begin
 use Rattle.sender.specs.Hear as sender-hear
+use Rattle.sender.specs.Make as sender-make
 use Rattle.sender.specs.declared.Announced.{Announced}
 use Rattle.sender.specs.declared.Awaited.{Awaited}
 use Rattle.sender.specs.declared.Phase.{Phase}
@@ -51,7 +52,7 @@ Claim (senderSilence timeout limit ticks) answer =
     → gap ≤ 10
     → 9 ≤ length message
     → length message ≤ 1785
-    → ofSender (sender-begin.makeOf gap timeout limit) (λ s. senderInSilence s message ticks) ≡ answer
+    → ofSender (sender-make.makeOf gap timeout limit) (λ s. senderInSilence s message ticks) ≡ answer
 Claim (receiverSilence timeout frames ticks) answer =
     (window capacity l : ℕ) (buffer : List ℕ)
     → 1 ≤ window

@@ -30,7 +30,7 @@ unfolding
     fillTo blankOf announcementOf informationOf lmAckOf endOfAckOf
     namedOf allFiller readOf
     sender-begin.beginOf sender-begin.beginPhase sender-begin.beginIdle sender-begin.beginLong
-    sender-tick.tickOf sender-tick.tickPhase sender-tick.tickSending sender-tick.afterFrame
+    sender-tick.tickOf sender-tick.lentTo sender-tick.tickPhase sender-tick.tickSending sender-tick.unlessOver sender-tick.atLimit sender-tick.afterFrame
     sender-hear.hearOf sender-hear.hearRead sender-hear.hearKind sender-hear.hearAck sender-hear.ackOpening sender-hear.taking sender-hear.hearEnd sender-hear.ifWhole
     receiver-hear.hearOf receiver-hear.hearRead receiver-hear.hearKind receiver-hear.hearNumbered receiver-hear.hearAnnouncement receiver-hear.announceIdle receiver-hear.hearInformation receiver-hear.informationOpen receiver-hear.stored receiver-hear.storing
     receiver-window.windowOf

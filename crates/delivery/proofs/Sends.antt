@@ -1,21 +1,21 @@
 -- What the sender does in a transfer: at a tick it goes on, with a frame of the transfer or none, or fails; at a frame
 -- heard it goes on, takes up a window, or finishes.
-use Prim.Native.Nat.{ℕ, _+_, _-_, _≤_, _<_, min}
-use mathlib.Core.Bool.{Bool, true, false, _||_}
+use Prim.Native.Nat.{ℕ, _+_, _≤_, _<_}
+use mathlib.Core.Bool.{Bool, true, false}
 use mathlib.Core.List.{List}
 use mathlib.Core.Path.{_≡_, refl, ap, ap₂, _∙_, subst⁻¹}
 use native.Mathlib.Omega.{arith}
-use borrow.Author.Tests.{leb-false, ltb-false, eqb-false}
-use lib.Dec.{eqb, leb, ltb}
+use borrow.Author.Tests.{leb-false}
 use lib.ListN.{length}
 use Rattle.frame.specs.Choice.{pick}
 use Rattle.frame.specs.Count.{incrementOf}
 use Rattle.frame.specs.Frames.{wordAt, announcementOf, lmAckOf, lmNackOf, endOfAckOf, smAckOf}
 use Rattle.frame.specs.Reading.{readOf, namedOf, allFiller}
 use Rattle.frame.specs.declared.Frame.{Frame}
-use Rattle.sender.specs.Hear.{hearOf, hearRead, hearKind, hearAck, hearNack, hearEnd, hearShortAck, ackOpening, ackWindow, taking, ifWhole}
+use Rattle.sender.proofs.Choices.{limit-elim, tick-elim, over-elim, timeout-elim, bad-elim, hear-elim}
+use Rattle.sender.specs.Hear.{hearOf, hearRead, hearKind, hearAck, hearNack, hearEnd, hearShortAck, ackOpening, ackWindow, windowLast, taking, ifWhole, ifFirst}
 use Rattle.sender.specs.State.{aged, counted}
-use Rattle.sender.specs.Tick.{tickOf, tickPhase, tickOpening, tickSending, tickWaiting, tickShort, afterFrame}
+use Rattle.sender.specs.Tick.{tickOf, lentTo, tickPhase, tickOpening, tickSending, tickWaiting, tickShort, afterFrame}
 use Rattle.sender.specs.Told.{Told, quiet, refused, sent, failed, refusing}
 use Rattle.sender.specs.declared.Announced.{Announced}
 use Rattle.sender.specs.declared.Awaited.{Awaited}
@@ -26,8 +26,7 @@ use Rattle.sender.specs.declared.Settings.{Settings}
 use Rattle.sender.specs.declared.Single.{Single}
 use Rattle.sender.specs.declared.Streamed.{Streamed}
 use Rattle.sender.specs.declared.Transfer.{Transfer}
-use Rattle.frame.proofs.Choice.{pick-elim, read-elim}
-use Rattle.frame.proofs.Choice.{neither-left, neither-right}
+use Rattle.frame.proofs.Choice.{pick-elim}
 use Rattle.frame.proofs.Laws.{increment-is}
 use Rattle.delivery.proofs.Stages.{senderIn, framesOf, announces, carries, Adds, announcement, information, Keeps, Moving, opening, sending, waiting, Lone, lone, Repeats, repeats}
 use Rattle.delivery.specs.Seen.{taken}
@@ -36,25 +35,19 @@ use Rattle.delivery.specs.Seen.{taken}
 abbrev Taken : Told → Type 0
 Taken a = taken (a .outcome) ≡ true
 
-opening-taken : (s : Sender) (x : Announced) → Taken (tickOpening s x)
-unfolding tickOpening
-opening-taken s x =
-    pick-elim Taken _ (λ _. refl)
-    (λ _. pick-elim Taken _ (λ _. pick-elim Taken _ (λ _. refl) (λ _. refl)) (λ _. refl))
-
-sending-taken : (s : Sender) (x : Streamed) (m : List ℕ) → Taken (tickSending s x m)
-unfolding tickSending
-sending-taken s x m = pick-elim Taken _ (λ _. refl) (λ _. pick-elim Taken _ (λ _. refl) (λ _. refl))
-
-waiting-taken : (s : Sender) (x : Awaited) (m : List ℕ) → Taken (tickWaiting s x m)
-unfolding tickWaiting
-waiting-taken s x m =
-    pick-elim Taken _ (λ _. refl)
-    (λ _. pick-elim Taken _ (λ _. pick-elim Taken _ (λ _. refl) (λ _. refl)) (λ _. refl))
-
-short-taken : (s : Sender) (x : Single) (m : List ℕ) → Taken (tickShort s x m)
-unfolding tickShort
-short-taken s x m = pick-elim Taken _ (λ _. refl) (λ _. pick-elim Taken _ (λ _. refl) (λ _. refl))
+tick-taken : (s : Sender) (p : Phase) (m : List ℕ) → Taken (tickPhase s p m)
+unfolding tickPhase tickOpening tickSending tickWaiting tickShort
+tick-taken s Idle m = refl
+tick-taken s (Opening x) m =
+    over-elim Taken s (x .transfer) _ refl
+    (λ _. timeout-elim Taken s (x .transfer) (x .wait) (x .misses) refl (λ _. refl) (λ _. refl))
+tick-taken s (Sending x) m =
+    over-elim Taken s (x .transfer) _ refl (λ _. limit-elim Taken (s .settings .gap) (x .gap) refl (λ _. refl))
+tick-taken s (Waiting x) m =
+    over-elim Taken s (x .transfer) _ refl
+    (λ _. timeout-elim Taken s (x .transfer) (x .wait) (x .misses) refl (λ _. refl) (λ _. refl))
+tick-taken s (Short x) m =
+    over-elim Taken s (x .transfer) _ refl (λ _. limit-elim Taken (s .settings .timeout) (x .wait) refl (λ _. refl))
 
 -- What a tick tells of a transfer of which n ticks had passed: S says what holds of the phase after so many ticks, A which
 -- frames go out.
@@ -75,15 +68,21 @@ pub data Ticks (st : Settings) (S : ℕ → Phase → Type 0) (A : Frame → Typ
       → Ticks st S A n (record { next = senderIn st p; emits = true; frame = f; outcome = quiet })
 
 -- a tick is refused, or it is lent the begun message m
-lent : {st : Settings} {S : ℕ → Phase → Type 0} {A : Frame → Type 0} {n : ℕ} (p : Phase) {m : List ℕ} (b : Bool) (answer : List ℕ → Told) (l : List ℕ)
+lent : {st : Settings} {S : ℕ → Phase → Type 0} {A : Frame → Type 0} {n : ℕ} (p : Phase) {m : List ℕ} (l : List ℕ)
     → S n p
-    → ((k : List ℕ) → Taken (answer k))
-    → Ticks st S A n (answer m)
-    → (Taken (pick b (answer l) (refusing (senderIn st p) 4)) → l ≡ m)
-    → Ticks st S A n (pick b (answer l) (refusing (senderIn st p) 4))
-unfolding pick
-lent {st} {S} {A} {n} p true answer l v u k c = subst⁻¹ (λ (j : List ℕ). Ticks st S A n (answer j)) (c (u l)) k
-lent p false answer l v u k c = kept v
+    → Ticks st S A n (tickPhase (senderIn st p) p m)
+    → (Taken (tickOf (senderIn st p) l) → l ≡ m)
+    → Ticks st S A n (tickOf (senderIn st p) l)
+unfolding tickOf pick
+lent {st} {S} {A} {n} p {m} l v k = go (lentTo p l)
+  where
+    told : Bool → Told
+    told b = pick b (tickPhase (senderIn st p) p l) (refusing (senderIn st p) 4)
+
+    go : (b : Bool) → (Taken (told b) → l ≡ m) → Ticks st S A n (told b)
+    go true c =
+        subst⁻¹ (λ (j : List ℕ). Ticks st S A n (tickPhase (senderIn st p) p j)) (c (tick-taken (senderIn st p) p l)) k
+    go false c = kept v
 
 module _ (st : Settings) (small : st .limit ≤ 60000) (m : List ℕ) (n : ℕ) (young : n < st .limit) where
   -- the age grows by 1
@@ -97,18 +96,18 @@ module _ (st : Settings) (small : st .limit ≤ 60000) (m : List ℕ) (n : ℕ) 
   older-counted t k = record { long = k .long; many = k .many; old = grows t k }
 
   -- short of M after this tick
-  in-time : (t : Transfer) → Keeps m t n → leb (st .limit) (incrementOf (t .age)) ≡ false → n + 1 < st .limit
-  in-time t k e = let h = leb-false (st .limit) (incrementOf (t .age)) e in let g = grows t k in omega arith
+  in-time : (t : Transfer) → Keeps m t n → incrementOf (t .age) < st .limit → n + 1 < st .limit
+  in-time t k early = let g = grows t k in omega arith
 
   tick-opening : (x : Announced) → Keeps m (x .transfer) n → Ticks st (λ k. Moving m k true) (Adds m true) n (tickOpening (senderIn st (Opening x)) x)
   unfolding tickOpening
   tick-opening x k =
       let P = Ticks st (λ k. Moving m k true) (Adds m true) n in
+      let s = senderIn st (Opening x) in
       let t = x .transfer in
-      pick-elim P _ (λ late. over)
-      (λ early. pick-elim P _
-      (λ due. pick-elim P _ (λ third. over)
-      (λ more. adds (in-time t k early) (opening (older-counted t k)) (announcement (announces (ap₂ announcementOf (k .many) (k .long))))))
+      over-elim P s t _ over
+      (λ early. timeout-elim P s t (x .wait) (x .misses) over
+      (λ few. adds (in-time t k early) (opening (older-counted t k)) (announcement (announces (ap₂ announcementOf (k .many) (k .long)))))
       (λ soon. waits (in-time t k early) (opening (older t k))))
 
   -- the window's next frame has gone out
@@ -127,9 +126,9 @@ module _ (st : Settings) (small : st .limit ≤ 60000) (m : List ℕ) (n : ℕ) 
   tick-sending x k low mid high =
       let P = Ticks st (λ k. Moving m k false) (Adds m false) n in
       let t = x .transfer in
-      pick-elim P _ (λ late. over)
-      (λ early. pick-elim P _
-      (λ due. adds (in-time t k early) (after-frame x k low mid high) (information (carries (x .next) low (omega arith))))
+      over-elim P (senderIn st (Sending x)) t _ over
+      (λ early. limit-elim P (st .gap) (x .gap)
+      (adds (in-time t k early) (after-frame x k low mid high) (information (carries (x .next) low (omega arith))))
       (λ soon. waits (in-time t k early) (sending (older t k) low mid high)))
 
   tick-waiting : (x : Awaited) → Keeps m (x .transfer) n → 1 ≤ x .last → x .last ≤ framesOf m
@@ -137,23 +136,21 @@ module _ (st : Settings) (small : st .limit ≤ 60000) (m : List ℕ) (n : ℕ) 
   unfolding tickWaiting
   tick-waiting x k low high =
       let P = Ticks st (λ k. Moving m k false) (Adds m false) n in
+      let s = senderIn st (Waiting x) in
       let t = x .transfer in
-      pick-elim P _ (λ late. over)
-      (λ early. pick-elim P _
-      (λ due. pick-elim P _ (λ third. over)
-      (λ more. adds (in-time t k early) (waiting (older-counted t k) low high) (information (carries (x .last) low high))))
+      over-elim P s t _ over
+      (λ early. timeout-elim P s t (x .wait) (x .misses) over
+      (λ few. adds (in-time t k early) (waiting (older-counted t k) low high) (information (carries (x .last) low high)))
       (λ soon. waits (in-time t k early) (waiting (older t k) low high)))
 
   pub long-tick : {isOpening : Bool} {p : Phase} → Moving m n isOpening p → (l : List ℕ)
       → (taken (tickOf (senderIn st p) l .outcome) ≡ true → l ≡ m)
       → Ticks st (λ k. Moving m k isOpening) (Adds m isOpening) n (tickOf (senderIn st p) l)
-  unfolding tickOf tickPhase
-  long-tick (opening {x} k) l c =
-      lent (Opening x) _ (λ j. tickOpening (senderIn st (Opening x)) x) l (opening k) (λ j. opening-taken (senderIn st (Opening x)) x) (tick-opening x k) c
+  unfolding tickPhase
+  long-tick (opening {x} k) l c = lent (Opening x) l (opening k) (tick-opening x k) c
   long-tick (sending {x} k low mid high) l c =
-      lent (Sending x) _ (tickSending (senderIn st (Sending x)) x) l (sending k low mid high) (sending-taken (senderIn st (Sending x)) x) (tick-sending x k low mid high) c
-  long-tick (waiting {x} k low high) l c =
-      lent (Waiting x) _ (tickWaiting (senderIn st (Waiting x)) x) l (waiting k low high) (waiting-taken (senderIn st (Waiting x)) x) (tick-waiting x k low high) c
+      lent (Sending x) l (sending k low mid high) (tick-sending x k low mid high) c
+  long-tick (waiting {x} k low high) l c = lent (Waiting x) l (waiting k low high) (tick-waiting x k low high) c
 
   -- ---- a short transfer
 
@@ -163,18 +160,16 @@ module _ (st : Settings) (small : st .limit ≤ 60000) (m : List ℕ) (n : ℕ) 
   tick-single x whole old =
       let P = Ticks st (Lone m) (Repeats m) n in
       let older : incrementOf (x .transfer .age) ≡ n + 1 = ap incrementOf old ∙ increment-is n (omega arith) in
-      pick-elim P _ (λ late. over)
+      over-elim P (senderIn st (Short x)) (x .transfer) _ over
       (λ early.
-      let h = leb-false (st .limit) (incrementOf (x .transfer .age)) early in
       let time : n + 1 < st .limit = omega arith in
-      pick-elim P _ (λ due. adds time (lone whole older) repeats) (λ soon. waits time (lone whole older)))
+      limit-elim P (st .timeout) (x .wait) (adds time (lone whole older) repeats) (λ soon. waits time (lone whole older)))
 
   pub short-tick : {p : Phase} → Lone m n p → (l : List ℕ)
       → (taken (tickOf (senderIn st p) l .outcome) ≡ true → l ≡ m)
       → Ticks st (Lone m) (Repeats m) n (tickOf (senderIn st p) l)
-  unfolding tickOf tickPhase
-  short-tick (lone {x} whole old) l c =
-      lent (Short x) _ (tickShort (senderIn st (Short x)) x) l (lone whole old) (short-taken (senderIn st (Short x)) x) (tick-single x whole old) c
+  unfolding tickPhase
+  short-tick (lone {x} whole old) l c = lent (Short x) l (lone whole old) (tick-single x whole old) c
 
 -- ---- hearing
 
@@ -216,18 +211,15 @@ module _ (st : Settings) (m : List ℕ) (n : ℕ) where
   -- the window that an LM_ACK grants lies within 1 to N
   takes-window : {isOpening : Bool} (p : Phase) (t : Transfer) (start count misses : ℕ)
       → Keeps m t n
-      → (eqb start 0 || eqb count 0) ≡ false
-      → ltb (t .frames) start ≡ false
+      → 1 ≤ start
+      → 1 ≤ count
+      → start ≤ t .frames
       → Hears st (Acked m n isOpening) ⊥ (taking (senderIn st p) t start count misses)
   unfolding taking
-  takes-window p t start count misses k some inside =
-      let a = eqb-false start 0 (neither-left (eqb start 0) (eqb count 0) some) in
-      let c = eqb-false count 0 (neither-right (eqb start 0) (eqb count 0) some) in
-      let h = ltb-false (t .frames) start inside in
+  takes-window p t start count misses k low some inside =
       let g = k .many in
-      let low : 1 ≤ start = omega (arith, a) in
-      let mid : start ≤ min (start + count - 1) (t .frames) = omega (arith, a, c) in
-      let high : min (start + count - 1) (t .frames) ≤ framesOf m = omega arith in
+      let mid : start ≤ windowLast start count (t .frames) = omega arith in
+      let high : windowLast start count (t .frames) ≤ framesOf m = omega arith in
       stays (windowed (sending k low mid high))
 
   window-ack : (p : Phase) → Moving m n false p → (t : Transfer) (start misses s c : ℕ) → Keeps m t n
@@ -235,19 +227,19 @@ module _ (st : Settings) (m : List ℕ) (n : ℕ) where
   unfolding ackWindow
   window-ack p v t start misses s c k =
       let P = Hears st (Acked m n false) ⊥ in
-      pick-elim P _ (λ zero. stays (same v))
-      (λ some. pick-elim P _ (λ above. over)
-      (λ inside. pick-elim P _ (λ old. stays (same v)) (λ new. takes-window p t s c _ k some inside)))
+      bad-elim P (senderIn st p) t s c (stays (same v)) over
+      (λ low some inside. pick-elim P _ (λ old. stays (same v)) (λ new. takes-window p t s c _ k low some inside))
 
   pub long-ack : {isOpening : Bool} {p : Phase} → Moving m n isOpening p → (start count : ℕ)
       → Hears st (Acked m n isOpening) ⊥ (hearOf (senderIn st p) (lmAckOf start count))
   unfolding hearAck ackOpening
   long-ack (opening {x} k) start count =
       let P = Hears st (Acked m n true) ⊥ in
+      let v = same (opening k) in
       rw hears-ack
-      (pick-elim P _ (λ zero. stays (same (opening k)))
-      (λ some. pick-elim P _ (λ above. over)
-      (λ inside. pick-elim P _ (λ first. takes-window (Opening x) (x .transfer) start count 0 k some inside) (λ later. stays (same (opening k))))))
+      (bad-elim P (senderIn st (Opening x)) (x .transfer) start count (stays v) over
+      (λ low some inside.
+      pick-elim P _ (λ first. takes-window (Opening x) (x .transfer) start count 0 k low some inside) (λ later. stays v)))
   long-ack (sending {x} k low mid high) start count =
       rw hears-ack (window-ack (Sending x) (sending k low mid high) (x .transfer) (x .start) (x .misses) start count k)
   long-ack (waiting {x} k low high) start count =
@@ -277,7 +269,7 @@ module _ (st : Settings) (m : List ℕ) (n : ℕ) where
 
   -- SM_ACK: sent, or ignored
   pub short-end : {p : Phase} → Lone m n p → (first : ℕ) → Hears st (Lone m n) Unit (hearOf (senderIn st p) (smAckOf first))
-  unfolding hearShortAck
+  unfolding hearShortAck ifFirst
   short-end (lone whole old) first =
       rw hears-short (pick-elim (Hears st (Lone m n) Unit) _ (λ _. finishes tt) (λ _. stays (lone whole old)))
 
@@ -288,14 +280,9 @@ pub data Rests (st : Settings) : Told → Type 0 where
   refuses : {f : Frame} {number : ℕ} → Rests st (record { next = senderIn st Idle; emits = false; frame = f; outcome = refused number })
 
 pub idle-tick : (st : Settings) (l : List ℕ) → Rests st (tickOf (senderIn st Idle) l)
-unfolding tickOf tickPhase
-idle-tick st l = ignores
+unfolding tickPhase
+idle-tick st l = tick-elim (Rests st) (senderIn st Idle) l refuses ignores
 
 pub idle-hear : (st : Settings) (f : Frame) → Rests st (hearOf (senderIn st Idle) f)
-unfolding hearOf hearRead hearKind hearAck hearNack hearEnd hearShortAck
-idle-hear st f =
-    let P = Rests st in
-    read-elim (λ j. P (hearRead (senderIn st Idle) f j)) f
-    (pick-elim P _ (λ _. ignores)
-    (λ _. pick-elim P _ (λ _. ignores) (λ _. pick-elim P _ (λ _. ignores) (λ _. pick-elim P _ (λ _. ignores) (λ _. refuses)))))
-    refuses
+unfolding hearAck hearNack hearEnd hearShortAck
+idle-hear st f = hear-elim (Rests st) (senderIn st Idle) f (λ _. refuses) ignores ignores ignores ignores

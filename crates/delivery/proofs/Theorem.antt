@@ -16,7 +16,7 @@ use Rattle.receiver.specs.Told as receiver
 use Rattle.receiver.specs.declared.Phase.the-variants as at
 use Rattle.receiver.specs.declared.Receiver.{Receiver}
 use Rattle.receiver.specs.declared.Settings as receiver-settings
-use Rattle.sender.specs.Begin as sender-making
+use Rattle.sender.specs.Make as sender-making
 use Rattle.sender.specs.Told as sender
 use Rattle.sender.specs.declared.Phase.the-variants.{Idle}
 use Rattle.sender.specs.declared.Sender.{Sender}

@@ -11,7 +11,7 @@ use Rattle.frame.specs.Frames.{blankOf}
 use Rattle.receiver.specs.Make as receiver-making
 use Rattle.receiver.specs.Told as receiver
 use Rattle.receiver.specs.declared.Receiver.{Receiver}
-use Rattle.sender.specs.Begin as sender-making
+use Rattle.sender.specs.Make as sender-making
 use Rattle.sender.specs.Told as sender
 use Rattle.sender.specs.declared.Sender.{Sender}
 use Rattle.delivery.specs.Demand3.{Conditions, Promise, fresh}

@@ -19,7 +19,7 @@ use Rattle.frame.specs.Frames.{fillTo}
 use Rattle.receiver.specs.Make as receiver-making
 use Rattle.receiver.specs.Told as receiver
 use Rattle.receiver.specs.declared.Receiver.{Receiver}
-use Rattle.sender.specs.Begin as sender-making
+use Rattle.sender.specs.Make as sender-making
 use Rattle.sender.specs.Told as sender
 use Rattle.sender.specs.declared.Sender.{Sender}
 use Rattle.delivery.specs.Seen.{taken, Begun, Opened, begunIn, openedIn, idle, listened, Sort, begins, ticksSender, ticksReceiver, other, sortOf}

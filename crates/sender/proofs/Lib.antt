@@ -1,3 +1,4 @@
 pub mod Laws
 pub mod Told
+pub mod Choices
 pub mod Reachable

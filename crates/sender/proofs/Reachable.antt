@@ -4,23 +4,23 @@
 -- Assumes nothing.
 use Prim.Native.Nat.{ℕ, _+_, _-_, _≤_, _<_, min}
 use mathlib.Core.Path.{_≡_, refl, subst}
-use mathlib.Core.Bool.{Bool, true, false, _||_, and-eq-true-iff, true≢false}
+use mathlib.Core.Bool.{Bool, true, false, and-eq-true-iff}
 use mathlib.Core.List.{List}
 use native.Mathlib.Omega.{arith}
-use borrow.Author.Tests.{leb-true, leb-false, ltb-false, eqb-true, eqb-false, le-leb, lt-leb}
+use borrow.Author.Tests.{leb-true, leb-false, eqb-true, eqb-false, le-leb, lt-leb}
 use lib.Dec.{eqb, leb}
 use lib.ListN.{length}
-use Rattle.frame.specs.Result.{Result, accepted, refused}
+use Rattle.frame.specs.Result.{accepted}
 use Rattle.frame.proofs.Choice.{pick-elim}
 use Rattle.frame.specs.Count.{frameCountOf, incrementOf}
-use Rattle.frame.specs.Reading.{readOf}
-use Rattle.frame.specs.declared.Parsed.{Parsed}
 use Rattle.frame.specs.declared.Frame.{Frame}
-use Rattle.sender.specs.Begin.{settingsFit, makeOf, beginLong, beginShort, beginIdle, beginPhase, beginOf, postOf}
-use Rattle.sender.specs.Hear.{taking, unlessBad, ackOpening, ackWindow, hearAck, hearNack, ifWhole, hearEnd, hearShortAck, hearKind, hearRead, hearOf}
+use Rattle.sender.proofs.Choices.{limit-elim, begin-elim, tick-elim, over-elim, timeout-elim, bad-elim, hear-elim}
+use Rattle.sender.specs.Begin.{beginLong, beginShort, beginOf, postOf}
+use Rattle.sender.specs.Hear.{taking, ackOpening, ackWindow, hearAck, hearNack, ifWhole, hearEnd, ifFirst, hearShortAck, hearOf}
+use Rattle.sender.specs.Make.{settingsFit, idleWith, makeOf}
 use Rattle.sender.specs.Reachable.{Reachable, fresh, begun, ticked, heard, posted, SettingsWithin, TransferWithin, LongWithin, PhaseWithin, Within, Counts, OfTransfer, OfWait, OfGap, OfMisses, Exact}
 use Rattle.sender.specs.State.{aged, counted, inPhase}
-use Rattle.sender.specs.Tick.{tickOpening, afterFrame, tickSending, tickWaiting, tickShort, tickPhase, tickOf}
+use Rattle.sender.specs.Tick.{tickOpening, afterFrame, tickSending, tickWaiting, tickShort, tickPhase}
 use Rattle.sender.specs.Told.{Told}
 use Rattle.sender.specs.declared.Announced.{Announced}
 use Rattle.sender.specs.declared.Awaited.{Awaited}
@@ -31,10 +31,6 @@ use Rattle.sender.specs.declared.Settings.{Settings}
 use Rattle.sender.specs.declared.Single.{Single}
 use Rattle.sender.specs.declared.Streamed.{Streamed}
 use Rattle.sender.specs.declared.Transfer.{Transfer}
-
-neither : (a b : Bool) → (a || b) ≡ false → (a ≡ false) × (b ≡ false)
-neither true b e = absurd (true≢false e)
-neither false b e = (refl, e)
 
 -- the state after a call is within its limits
 abbrev Keeps : Told → Type 0
@@ -52,7 +48,7 @@ makes gap timeout limit s =
     let rest = and-eq-true-iff _ _ .0 (all .1) in
     let t = and-eq-true-iff _ _ .0 (rest .0) in
     let l = and-eq-true-iff _ _ .0 (rest .1) in
-    let same : record { settings = record { gap = gap; timeout = timeout; limit = limit }; phase = Idle } ≡ s = cc in
+    let same : idleWith gap timeout limit ≡ s = cc in
     subst Within same
     (record {
       settings = record {
@@ -93,19 +89,8 @@ module _ (s : Sender) (h : Within s) where
         h .settings .timeout .0,
       )
 
-  begins : (p : Phase) (m : List ℕ) → Keeps (beginPhase s p m)
-  unfolding beginPhase beginIdle
-  begins Idle m =
-      pick-elim Keeps _
-      (λ fits.
-      let both = and-eq-true-iff _ _ .0 fits in
-      pick-elim Keeps _ (λ few. begins-short m (leb-true _ _ (both .0)) (leb-true _ _ few))
-      (λ many. begins-long m (leb-false _ _ many) (leb-true _ _ (both .1))))
-      (λ unfit. h)
-  begins (Opening x) m = h
-  begins (Sending x) m = h
-  begins (Waiting x) m = h
-  begins (Short x) m = h
+  begins : (m : List ℕ) → Keeps (beginOf s m)
+  begins m = begin-elim Keeps s m (λ _. h) (begins-short m) (begins-long m)
 
   posts : (m : List ℕ) → Keeps (postOf s m)
   unfolding postOf
@@ -119,7 +104,8 @@ module _ (s : Sender) (h : Within s) where
       let l = h .settings .limit in
       (record { age = young; emitted = omega arith }, record { age = young; emitted = omega arith })
 
-  longer : (t u : Transfer) → u .length ≡ t .length → u .frames ≡ t .frames → LongWithin (s .settings) t → TransferWithin (s .settings) u
+  longer : (t u : Transfer) → u .length ≡ t .length → u .frames ≡ t .frames
+      → LongWithin (s .settings) t → TransferWithin (s .settings) u
       → LongWithin (s .settings) u
   longer t u same many w counts =
       record { counted = counts; length = rw same (w .length); frames = rw (same, many) (w .frames) }
@@ -127,26 +113,25 @@ module _ (s : Sender) (h : Within s) where
   ticks-opening : (x : Announced) → PhaseWithin (s .settings) (Opening x) → Keeps (tickOpening s x)
   unfolding tickOpening
   ticks-opening x w =
-      pick-elim Keeps _ (λ over. idles)
-      (λ on.
-      let t = older (x .transfer) (w .0 .counted) (leb-false _ _ on) in
-      pick-elim Keeps _
-      (λ due. pick-elim Keeps _ (λ third. idles)
-      (λ again. enters _ (longer (x .transfer) _ refl refl (w .0) (t .1), h .settings .timeout .0, leb-false _ _ again)))
-      (λ early. enters _ (longer (x .transfer) _ refl refl (w .0) (t .0), leb-false _ _ early, w .2)))
+      over-elim Keeps s (x .transfer) _ idles
+      (λ young.
+      let t = older (x .transfer) (w .0 .counted) young in
+      timeout-elim Keeps s (x .transfer) (x .wait) (x .misses) idles
+      (λ few. enters _ (longer (x .transfer) _ refl refl (w .0) (t .1), h .settings .timeout .0, few))
+      (λ early. enters _ (longer (x .transfer) _ refl refl (w .0) (t .0), early, w .2)))
 
   ticks-waiting : (x : Awaited) (m : List ℕ) → PhaseWithin (s .settings) (Waiting x) → Keeps (tickWaiting s x m)
   unfolding tickWaiting
   ticks-waiting x m w =
-      pick-elim Keeps _ (λ over. idles)
-      (λ on.
-      let t = older (x .transfer) (w .0 .counted) (leb-false _ _ on) in
-      pick-elim Keeps _
-      (λ due. pick-elim Keeps _ (λ third. idles)
-      (λ again. enters _ (longer (x .transfer) _ refl refl (w .0) (t .1), w .1, h .settings .timeout .0, leb-false _ _ again)))
-      (λ early. enters _ (longer (x .transfer) _ refl refl (w .0) (t .0), w .1, leb-false _ _ early, w .3)))
+      over-elim Keeps s (x .transfer) _ idles
+      (λ young.
+      let t = older (x .transfer) (w .0 .counted) young in
+      timeout-elim Keeps s (x .transfer) (x .wait) (x .misses) idles
+      (λ few. enters _ (longer (x .transfer) _ refl refl (w .0) (t .1), w .1, h .settings .timeout .0, few))
+      (λ early. enters _ (longer (x .transfer) _ refl refl (w .0) (t .0), w .1, early, w .3)))
 
-  after : (x : Streamed) → PhaseWithin (s .settings) (Sending x) → LongWithin (s .settings) (counted (aged (x .transfer)))
+  after : (x : Streamed) → PhaseWithin (s .settings) (Sending x)
+      → LongWithin (s .settings) (counted (aged (x .transfer)))
       → PhaseWithin (s .settings) (afterFrame x)
   unfolding afterFrame
   after x w l =
@@ -158,32 +143,32 @@ module _ (s : Sender) (h : Within s) where
   ticks-sending : (x : Streamed) (m : List ℕ) → PhaseWithin (s .settings) (Sending x) → Keeps (tickSending s x m)
   unfolding tickSending
   ticks-sending x m w =
-      pick-elim Keeps _ (λ over. idles)
-      (λ on.
-      let t = older (x .transfer) (w .0 .counted) (leb-false _ _ on) in
-      pick-elim Keeps _
-      (λ due. enters _ (after x w (longer (x .transfer) _ refl refl (w .0) (t .1))))
-      (λ early. enters _ (longer (x .transfer) _ refl refl (w .0) (t .0), w .1, leb-false _ _ early, w .3)))
+      over-elim Keeps s (x .transfer) _ idles
+      (λ young.
+      let t = older (x .transfer) (w .0 .counted) young in
+      limit-elim Keeps (s .settings .gap) (x .gap)
+      (enters _ (after x w (longer (x .transfer) _ refl refl (w .0) (t .1))))
+      (λ early. enters _ (longer (x .transfer) _ refl refl (w .0) (t .0), w .1, early, w .3)))
 
   ticks-short : (x : Single) (m : List ℕ) → PhaseWithin (s .settings) (Short x) → Keeps (tickShort s x m)
   unfolding tickShort
   ticks-short x m w =
-      pick-elim Keeps _ (λ over. idles)
-      (λ on.
-      let t = older (x .transfer) (w .0 .counted) (leb-false _ _ on) in
-      pick-elim Keeps _
-      (λ due. enters _
+      over-elim Keeps s (x .transfer) _ idles
+      (λ young.
+      let t = older (x .transfer) (w .0 .counted) young in
+      limit-elim Keeps (s .settings .timeout) (x .wait)
+      (enters _
       (record { counted = t .1; length = w .0 .length; frames = w .0 .frames }, h .settings .timeout .0))
       (λ early. enters _
-      (record { counted = t .0; length = w .0 .length; frames = w .0 .frames }, leb-false _ _ early)))
+      (record { counted = t .0; length = w .0 .length; frames = w .0 .frames }, early)))
 
   ticks : (p : Phase) (m : List ℕ) → PhaseWithin (s .settings) p → Keeps (tickPhase s p m)
   unfolding tickPhase
   ticks Idle m w = h
-  ticks (Opening x) m w = pick-elim Keeps _ (λ lent. ticks-opening x w) (λ other. h)
-  ticks (Sending x) m w = pick-elim Keeps _ (λ lent. ticks-sending x m w) (λ other. h)
-  ticks (Waiting x) m w = pick-elim Keeps _ (λ lent. ticks-waiting x m w) (λ other. h)
-  ticks (Short x) m w = pick-elim Keeps _ (λ lent. ticks-short x m w) (λ other. h)
+  ticks (Opening x) m w = ticks-opening x w
+  ticks (Sending x) m w = ticks-sending x m w
+  ticks (Waiting x) m w = ticks-waiting x m w
+  ticks (Short x) m w = ticks-short x m w
 
   -- a window from 1 to N
   takes : (t : Transfer) (start count misses : ℕ) → LongWithin (s .settings) t → 1 ≤ start → 1 ≤ count → start ≤ t .frames → misses < 3
@@ -191,28 +176,19 @@ module _ (s : Sender) (h : Within s) where
   unfolding taking
   takes t start count misses l from some within few = enters _ (l, omega arith, h .settings .gap .0, few)
 
-  -- what an LM_ACK with sound numbers does, if that keeps the limits
-  sound : (t : Transfer) (start count : ℕ) (heeded : Told) → (1 ≤ start → 1 ≤ count → start ≤ t .frames → Keeps heeded)
-      → Keeps (unlessBad s t start count heeded)
-  sound t start count heeded k =
-      pick-elim Keeps _ (λ void. h)
-      (λ sound.
-      let n = neither _ _ sound in
-      let a : start ≡ 0 → ⊥ = eqb-false _ _ (n .0) in
-      let b : count ≡ 0 → ⊥ = eqb-false _ _ (n .1) in
-      pick-elim Keeps _ (λ above. idles) (λ within. k (omega arith) (omega arith) (ltb-false _ _ within)))
-
   acks-opening : (t : Transfer) (start count : ℕ) → LongWithin (s .settings) t → Keeps (ackOpening s t start count)
   unfolding ackOpening
   acks-opening t start count l =
-      sound t start count _
-      (λ from some within. pick-elim Keeps _ (λ one. takes t start count 0 l from some within (omega arith)) (λ other. h))
+      bad-elim Keeps s t start count h idles
+      (λ from some within. pick-elim Keeps _
+      (λ one. takes t start count 0 l from some within (omega arith))
+      (λ other. h))
 
   acks-window : (t : Transfer) (taken misses start count : ℕ) → LongWithin (s .settings) t → misses < 3
       → Keeps (ackWindow s t taken misses start count)
   unfolding ackWindow
   acks-window t taken misses start count l few =
-      sound t start count _
+      bad-elim Keeps s t start count h idles
       (λ from some within. pick-elim Keeps _ (λ below. h)
       (λ on. takes t start count _ l from some within
       (pick-elim (λ n. n < 3) (eqb start taken) (λ same. few) (λ other. omega arith))))
@@ -242,29 +218,27 @@ module _ (s : Sender) (h : Within s) where
   ends (Short x) frames length = h
 
   short-acks : (p : Phase) (first : ℕ) → Keeps (hearShortAck s p first)
-  unfolding hearShortAck
+  unfolding hearShortAck ifFirst
   short-acks Idle first = h
   short-acks (Opening x) first = h
   short-acks (Sending x) first = h
   short-acks (Waiting x) first = h
   short-acks (Short x) first = pick-elim Keeps _ (λ same. idles) (λ other. h)
 
-  hears : (f : Frame) (j : Result Parsed) → Keeps (hearRead s f j)
-  unfolding hearRead hearKind
-  hears f (accepted kind) =
-      pick-elim Keeps _ (λ ack. acks (s .phase) _ _ (h .phase))
-      (λ _. pick-elim Keeps _ (λ nack. nacks (s .phase))
-      (λ _. pick-elim Keeps _ (λ end. ends (s .phase) _ _) (λ _. pick-elim Keeps _ (λ short. short-acks (s .phase) _) (λ other. h))))
-  hears f (refused number) = h
+  hears : (f : Frame) → Keeps (hearOf s f)
+  hears f =
+      let p = s .phase in
+      hear-elim Keeps s f (λ _. h) (acks p _ _ (h .phase)) (nacks p) (ends p _ _) (short-acks p _)
 
 -- ---- the theorems
 
 pub reachable-within : {s : Sender} → Reachable s → Within s
-unfolding beginOf tickOf hearOf
 reachable-within (fresh {s = s} gap timeout limit e) = makes gap timeout limit s e
-reachable-within (begun {s = s} message r) = begins s (reachable-within r) (s .phase) message
-reachable-within (ticked {s = s} message r) = let h = reachable-within r in ticks s h (s .phase) message (h .phase)
-reachable-within (heard {s = s} f r) = hears s (reachable-within r) f (readOf f)
+reachable-within (begun {s = s} message r) = begins s (reachable-within r) message
+reachable-within (ticked {s = s} message r) =
+    let h = reachable-within r in
+    tick-elim Keeps s message h (ticks s h (s .phase) message (h .phase))
+reachable-within (heard {s = s} f r) = hears s (reachable-within r) f
 reachable-within (posted {s = s} message r) = posts s (reachable-within r) message
 
 -- a count below its limit

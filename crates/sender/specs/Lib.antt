@@ -1,7 +1,7 @@
 pub mod State
 pub mod Told
+pub mod Make
 pub mod Begin
 pub mod Tick
 pub mod Hear
-pub mod Parts
 pub mod Reachable

@@ -7,8 +7,9 @@ use lib.Dec.{eqb, leb}
 use Rattle.frame.specs.Result.{accepted}
 use Rattle.frame.specs.Count.{frameCountOf, incrementOf}
 use Rattle.frame.specs.declared.Frame.{Frame}
-use Rattle.sender.specs.Begin.{makeOf, beginOf, postOf}
+use Rattle.sender.specs.Begin.{beginOf, postOf}
 use Rattle.sender.specs.Hear.{hearOf}
+use Rattle.sender.specs.Make.{makeOf}
 use Rattle.sender.specs.Tick.{tickOf}
 use Rattle.sender.specs.declared.Phase.{Phase}
 use Rattle.sender.specs.declared.Phase.the-variants.{Idle, Opening, Sending, Waiting, Short}

@@ -1,5 +1,6 @@
 -- Document 01, The sender: Tick.
 use Prim.Native.Nat.{ℕ, _+_}
+use mathlib.Core.Bool.{Bool, true}
 use mathlib.Core.List.{List}
 use lib.Dec.{eqb, leb}
 use lib.ListN.{length}
@@ -7,7 +8,7 @@ use Rattle.frame.specs.Choice.{pick}
 use Rattle.frame.specs.Count.{incrementOf}
 use Rattle.frame.specs.Frames.{announcementOf, informationOf, partFrom, smRmOf}
 use Rattle.frame.specs.declared.Frame.{Frame}
-use Rattle.sender.specs.State.{aged, counted, inPhase}
+use Rattle.sender.specs.State.{aged, counted, openingWith, sendingWith, waitingWith, shortWith, inPhase}
 use Rattle.sender.specs.Told.{Told, refusing, silently, emitting, failingWith, failing}
 use Rattle.sender.specs.declared.Announced.{Announced}
 use Rattle.sender.specs.declared.Awaited.{Awaited}
@@ -18,89 +19,132 @@ use Rattle.sender.specs.declared.Single.{Single}
 use Rattle.sender.specs.declared.Streamed.{Streamed}
 use Rattle.sender.specs.declared.Transfer.{Transfer}
 
--- "age grows by 1. If age = M, a long transfer emits NACK 3 ..; failed, cause 3. Otherwise": what the phase does. A state
--- that no calls make may be past M; it fails too.
-abbrev pub unlessOver : Sender → Transfer → Told → Told → Told
-unlessOver s t over otherwise = pick (leb (s .settings .limit) (incrementOf (t .age))) over otherwise
+-- A state that no calls make may be past M, T, G or the third miss; it does what is due there.
 
--- "Opening and Waiting: wait grows by 1. At T, wait is 0 and misses grows by 1; at the third miss NACK 2 and failed;
--- before it," what goes out again; short of T, what waits on
+-- "age grows by 1. If age = M, .. failed, cause 3. Otherwise:" what the phase does. A long transfer fails with
+-- NACK 3, a short one with nothing: how is said for each phase.
+unfoldable pub unlessOver : Sender → Transfer → (Transfer → ℕ → Told) → Told → Told
+unlessOver s t fails otherwise =
+    pick (leb (s .settings .limit) (incrementOf (t .age))) (fails (aged t) 3) otherwise
+
+-- a count "grows by 1": what is due at its limit, and what goes on short of it
+unfoldable pub atLimit : ℕ → ℕ → Told → Told → Told
+atLimit limit count due on = pick (leb limit (incrementOf count)) due on
+
+-- "misses grows by 1; at the third miss NACK 2 and failed; before it," something goes out again
+unfoldable pub unlessThird : Sender → Transfer → ℕ → Told → Told
+unlessThird s t misses again = pick (leb 3 (incrementOf misses)) (failingWith s (aged t) 2) again
+
+-- "Opening and Waiting: wait grows by 1. At T," a miss
 abbrev pub atTimeout : Sender → Transfer → ℕ → ℕ → Told → Told → Told
-atTimeout s t wait misses again waits =
-    pick (leb (s .settings .timeout) (incrementOf wait))
-    (pick (leb 3 (incrementOf misses)) (failingWith s (aged t) 2) again)
-    waits
+atTimeout s t wait misses again on =
+    atLimit (s .settings .timeout) wait (unlessThird s t misses again) on
 
--- "frame 0 again (Opening)"
+-- ---- Opening
+
+-- short of T: "wait grows by 1"
+abbrev pub openingOn : Sender → Announced → Told
+openingOn s x =
+    silently (inPhase s (openingWith (aged (x .transfer)) (incrementOf (x .wait)) (x .misses)))
+
+-- "wait is 0 and misses grows by 1; .. frame 0 again (Opening)"
+abbrev pub openingAgain : Sender → Announced → Told
+openingAgain s x =
+    emitting (inPhase s (openingWith (counted (aged (x .transfer))) 0 (incrementOf (x .misses))))
+    (announcementOf (x .transfer .frames) (x .transfer .length))
+
+-- "Opening ..: wait grows by 1. At T, .. frame 0 again"
 unfoldable pub tickOpening : Sender → Announced → Told
 tickOpening s x =
-    unlessOver s (x .transfer) (failingWith s (aged (x .transfer)) 3)
-    (atTimeout s (x .transfer) (x .wait) (x .misses)
-    (emitting
-    (inPhase s
-    (Opening (record { transfer = counted (aged (x .transfer)); wait = 0; misses = incrementOf (x .misses) })))
-    (announcementOf (x .transfer .frames) (x .transfer .length)))
-    (silently
-    (inPhase s (Opening (record { transfer = aged (x .transfer); wait = incrementOf (x .wait); misses = x .misses })))))
+    unlessOver s (x .transfer) (failingWith s)
+    (atTimeout s (x .transfer) (x .wait) (x .misses) (openingAgain s x) (openingOn s x))
+
+-- ---- Sending
 
 -- "information .. Number i from 1 carries message bytes 7(i−1) onward": frame i of the lent message
 abbrev pub informationAt : ℕ → List ℕ → Frame
 informationAt number message = informationOf number (partFrom number message)
 
--- Sending, at G, "the next frame goes out; after the window's last, Waiting with wait 0"
+-- "after the window's last, Waiting with wait 0"
+abbrev pub waitingAfter : Streamed → Transfer → Phase
+waitingAfter x t =
+    Waiting (record { transfer = t; start = x .start; last = x .last; wait = 0; misses = x .misses })
+
+-- "At G it is 0 and the next frame goes out": the phase then
 unfoldable pub afterFrame : Streamed → Phase
 afterFrame x =
-    pick (leb (x .last) (x .next))
-    (Waiting
-    (record { transfer = counted (aged (x .transfer)); start = x .start; last = x .last; wait = 0; misses = x .misses }))
-    (Sending
-    (record { transfer = counted (aged (x .transfer)); start = x .start; next = x .next + 1; last = x .last; gap = 0; misses = x .misses }))
+    pick (leb (x .last) (x .next)) (waitingAfter x (counted (aged (x .transfer))))
+    (sendingWith x (counted (aged (x .transfer))) (x .next + 1) 0)
 
--- "Sending: gap count grows by 1. At G it is 0 and the next frame goes out"
+-- "the next frame goes out"
+abbrev pub sendingNext : Sender → Streamed → List ℕ → Told
+sendingNext s x message = emitting (inPhase s (afterFrame x)) (informationAt (x .next) message)
+
+-- short of G: "gap count grows by 1"
+abbrev pub sendingOn : Sender → Streamed → Told
+sendingOn s x =
+    silently (inPhase s (sendingWith x (aged (x .transfer)) (x .next) (incrementOf (x .gap))))
+
+-- "Sending: gap count grows by 1. At G .. the next frame goes out"
 unfoldable pub tickSending : Sender → Streamed → List ℕ → Told
 tickSending s x message =
-    unlessOver s (x .transfer) (failingWith s (aged (x .transfer)) 3)
-    (pick (leb (s .settings .gap) (incrementOf (x .gap)))
-    (emitting (inPhase s (afterFrame x)) (informationAt (x .next) message))
-    (silently
-    (inPhase s
-    (Sending
-    (record { transfer = aged (x .transfer); start = x .start; next = x .next; last = x .last; gap = incrementOf (x .gap); misses = x .misses })))))
+    unlessOver s (x .transfer) (failingWith s)
+    (atLimit (s .settings .gap) (x .gap) (sendingNext s x message) (sendingOn s x))
 
--- "or the window's last frame (Waiting)"
+-- ---- Waiting
+
+-- short of T: "wait grows by 1"
+abbrev pub waitingOn : Sender → Awaited → Told
+waitingOn s x =
+    silently (inPhase s (waitingWith x (aged (x .transfer)) (incrementOf (x .wait)) (x .misses)))
+
+-- "wait is 0 and misses grows by 1; .. the window's last frame (Waiting)"
+abbrev pub waitingAgain : Sender → Awaited → List ℕ → Told
+waitingAgain s x message =
+    emitting (inPhase s (waitingWith x (counted (aged (x .transfer))) 0 (incrementOf (x .misses))))
+    (informationAt (x .last) message)
+
+-- "Waiting: wait grows by 1. At T, .. the window's last frame"
 unfoldable pub tickWaiting : Sender → Awaited → List ℕ → Told
 tickWaiting s x message =
-    unlessOver s (x .transfer) (failingWith s (aged (x .transfer)) 3)
-    (atTimeout s (x .transfer) (x .wait) (x .misses)
-    (emitting
-    (inPhase s
-    (Waiting
-    (record { transfer = counted (aged (x .transfer)); start = x .start; last = x .last; wait = 0; misses = incrementOf (x .misses) })))
-    (informationAt (x .last) message))
-    (silently
-    (inPhase s
-    (Waiting
-    (record { transfer = aged (x .transfer); start = x .start; last = x .last; wait = incrementOf (x .wait); misses = x .misses })))))
+    unlessOver s (x .transfer) (failingWith s)
+    (atTimeout s (x .transfer) (x .wait) (x .misses) (waitingAgain s x message) (waitingOn s x))
 
--- "Short: wait grows by 1. At T, wait is 0 and SM_RM goes again."; "a short one nothing; failed, cause 3"
+-- ---- Short
+
+-- short of T: "wait grows by 1"
+abbrev pub shortOn : Sender → Single → Told
+shortOn s x = silently (inPhase s (shortWith (aged (x .transfer)) (incrementOf (x .wait))))
+
+-- "wait is 0 and SM_RM goes again."
+abbrev pub shortAgain : Sender → Single → List ℕ → Told
+shortAgain s x message =
+    emitting (inPhase s (shortWith (counted (aged (x .transfer))) 0)) (smRmOf message)
+
+-- "Short: wait grows by 1. At T, .. SM_RM goes again."
 unfoldable pub tickShort : Sender → Single → List ℕ → Told
 tickShort s x message =
-    unlessOver s (x .transfer) (failing s (aged (x .transfer)) 3)
-    (pick (leb (s .settings .timeout) (incrementOf (x .wait)))
-    (emitting (inPhase s (Short (record { transfer = counted (aged (x .transfer)); wait = 0 }))) (smRmOf message))
-    (silently (inPhase s (Short (record { transfer = aged (x .transfer); wait = incrementOf (x .wait) })))))
+    unlessOver s (x .transfer) (failing s)
+    (atLimit (s .settings .timeout) (x .wait) (shortAgain s x message) (shortOn s x))
 
--- refusals: "sender tick, not Idle: 4 lent length is not the begun one"
-abbrev pub ifLent : Sender → Transfer → List ℕ → Told → Told
-ifLent s t message answer = pick (eqb (length message) (t .length)) answer (refusing s 4)
+-- ---- a tick
 
 -- "Tick (Idle: nothing)"
 unfoldable pub tickPhase : Sender → Phase → List ℕ → Told
 tickPhase s Idle message = silently s
-tickPhase s (Opening x) message = ifLent s (x .transfer) message (tickOpening s x)
-tickPhase s (Sending x) message = ifLent s (x .transfer) message (tickSending s x message)
-tickPhase s (Waiting x) message = ifLent s (x .transfer) message (tickWaiting s x message)
-tickPhase s (Short x) message = ifLent s (x .transfer) message (tickShort s x message)
+tickPhase s (Opening x) message = tickOpening s x
+tickPhase s (Sending x) message = tickSending s x message
+tickPhase s (Waiting x) message = tickWaiting s x message
+tickPhase s (Short x) message = tickShort s x message
 
+-- what is not refused: "sender tick, not Idle: 4 lent length is not the begun one"
+unfoldable pub lentTo : Phase → List ℕ → Bool
+lentTo Idle message = true
+lentTo (Opening x) message = eqb (length message) (x .transfer .length)
+lentTo (Sending x) message = eqb (length message) (x .transfer .length)
+lentTo (Waiting x) message = eqb (length message) (x .transfer .length)
+lentTo (Short x) message = eqb (length message) (x .transfer .length)
+
+-- a tick, lent a message
 unfoldable pub tickOf : Sender → List ℕ → Told
-tickOf s message = tickPhase s (s .phase) message
+tickOf s message = pick (lentTo (s .phase) message) (tickPhase s (s .phase) message) (refusing s 4)

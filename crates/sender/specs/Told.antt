@@ -56,16 +56,20 @@ silently s = record { next = s; emits = false; frame = blankOf; outcome = quiet 
 abbrev pub emitting : Sender → Frame → Told
 emitting s f = record { next = s; emits = true; frame = f; outcome = quiet }
 
--- "A failure that emits a NACK reports that NACK's cause"; the frames count the closing one; "The sender is then Idle"
+-- the transfer is over: "The sender is then Idle"
+abbrev pub closing : Sender → Bool → Frame → Outcome → Told
+closing s emits f outcome =
+    record { next = inPhase s Idle; emits = emits; frame = f; outcome = outcome }
+
+-- "A failure that emits a NACK reports that NACK's cause"; the frames count the closing one
 abbrev pub failingWith : Sender → Transfer → ℕ → Told
 failingWith s t cause =
-    record { next = inPhase s Idle; emits = true; frame = lmNackOf cause; outcome = failed cause (t .age) (counted t .emitted) }
+    closing s true (lmNackOf cause) (failed cause (t .age) (counted t .emitted))
 
 -- a failure that emits nothing
 abbrev pub failing : Sender → Transfer → ℕ → Told
-failing s t cause =
-    record { next = inPhase s Idle; emits = false; frame = blankOf; outcome = failed cause (t .age) (t .emitted) }
+failing s t cause = closing s false blankOf (failed cause (t .age) (t .emitted))
 
--- "sent": the sender is then Idle
-abbrev pub sending : Sender → Transfer → Told
-sending s t = record { next = inPhase s Idle; emits = false; frame = blankOf; outcome = sent (t .age) (t .emitted) }
+-- "sent"
+abbrev pub finishing : Sender → Transfer → Told
+finishing s t = closing s false blankOf (sent (t .age) (t .emitted))

@@ -1,12 +1,9 @@
-// Making a sender, beginning a transfer, posting a message.
+// Beginning a transfer, posting a message.
 ghost use mathlib.Core.Path.{_≡_};
-ghost use mathlib.Core.Bool.{_&&_};
 ghost use Prim.Native.Nat.{_≤_};
-ghost use lib.Dec.{leb};
 ghost use lib.ListN.{length, getD};
 ghost use Rattle.sender.specs.Begin.{
-  settingsFit,
-  makeOf,
+  lengthFits,
   begunWith,
   beginLong,
   beginShort,
@@ -14,25 +11,21 @@ ghost use Rattle.sender.specs.Begin.{
   beginOf,
   postOf,
 };
-ghost use Rattle.sender.specs.Told.{told, toldMade};
-use crate::Announced;
+ghost use Rattle.sender.specs.Told.{told};
 use crate::Answer;
-use crate::Made;
 use crate::Phase;
 use crate::Sender;
-use crate::Settings;
-use crate::Single;
 use crate::Transfer;
 use frame::build::announcement;
 use frame::build::sm_rm;
 use frame::build::sm_urm;
 use frame::count::frame_count;
-use frame::count::within;
 
-fn settings_fit(gap: u16, timeout: u16, limit: u16) -> bool
-    ensures { λ r. ⌜ r ≡ settingsFit gap timeout limit ⌝ }
+// The length is 1 to the most that goes.
+fn length_fits(message: &[u8], most: usize) -> bool
+    ensures { λ r. ⌜ r ≡ lengthFits (now (message .entry)) most ⌝ }
 {
-    within(1, gap, 10) && (within(1, timeout, 10000) && within(1, limit, 60000))
+    (1 <= message.len()) & (message.len() <= most)
 }
 
 // The first byte; 0 where there is none.
@@ -58,24 +51,6 @@ fn begun_with(message: &[u8], frames: u8) -> Transfer
 }
 
 impl Sender {
-    // An idle sender with these settings; refused 1 where one is outside its limits.
-    pub fn make(gap: u16, timeout: u16, limit: u16) -> Made
-        ensures { λ r. ⌜ toldMade r ≡ makeOf gap timeout limit ⌝ }
-    {
-        if settings_fit(gap, timeout, limit) {
-            Made::End(Sender {
-                settings: Settings {
-                    gap,
-                    timeout,
-                    limit,
-                },
-                phase: Phase::Idle,
-            })
-        } else {
-            Made::Refused(1)
-        }
-    }
-
     fn begin_long(self, message: &[u8]) -> Answer
         requires { ⌜ length (now message) ≤ 1785 ⌝ }
         ensures { λ r. ⌜ told r ≡ beginLong self (now (message .entry)) ⌝ }
@@ -84,12 +59,7 @@ impl Sender {
         let frames = frame_count(length) as u8;
         let transfer = begun_with(message, frames);
         let frame = announcement(frames, length);
-        self.in_phase(Phase::Opening(Announced {
-                transfer,
-                wait: 0,
-                misses: 0,
-            }))
-            .emitting(frame)
+        self.in_phase(transfer.opening_with(0, 0)).emitting(frame)
     }
 
     fn begin_short(self, message: &[u8]) -> Answer
@@ -98,18 +68,21 @@ impl Sender {
     {
         let transfer = begun_with(message, 1);
         let frame = sm_rm(message);
-        self.in_phase(Phase::Short(Single { transfer, wait: 0 }))
-            .emitting(frame)
+        self.in_phase(transfer.short_with(0)).emitting(frame)
     }
 
     // Short to 8, long to 1785.
     fn begin_idle(self, message: &[u8]) -> Answer
         ensures { λ r. ⌜ told r ≡ beginIdle self (now (message .entry)) ⌝ }
     {
-        match message.len() {
-            1..=8 => self.begin_short(message),
-            9..=1785 => self.begin_long(message),
-            _ => self.refusing(2),
+        if length_fits(message, 1785) {
+            if message.len() <= 8 {
+                self.begin_short(message)
+            } else {
+                self.begin_long(message)
+            }
+        } else {
+            self.refusing(2)
         }
     }
 
@@ -131,12 +104,11 @@ impl Sender {
     pub fn post(self, message: &[u8]) -> Answer
         ensures { λ r. ⌜ told r ≡ postOf self (now (message .entry)) ⌝ }
     {
-        match message.len() {
-            1..=8 => {
-                let frame = sm_urm(message);
-                self.emitting(frame)
-            }
-            _ => self.refusing(2),
+        if length_fits(message, 8) {
+            let frame = sm_urm(message);
+            self.emitting(frame)
+        } else {
+            self.refusing(2)
         }
     }
 }

@@ -1,21 +1,23 @@
 // What the sender does with a frame that it hears.
 ghost use mathlib.Core.Path.{_≡_};
-ghost use mathlib.Core.Bool.{_||_, _&&_};
-ghost use Prim.Native.Nat.{_+_, _-_, min};
-ghost use lib.Dec.{eqb};
 ghost use Rattle.sender.specs.Hear.{
+  windowLast,
+  sendingFrom,
   taking,
+  isVoid,
   ackOpening,
+  missesAt,
   ackWindow,
   hearAck,
   hearNack,
+  isWhole,
   ifWhole,
   hearEnd,
+  ifFirst,
   hearShortAck,
   hearKind,
   hearOf,
 };
-ghost use Rattle.sender.specs.Parts.{ifFirst};
 ghost use Rattle.sender.specs.Told.{told};
 use crate::Answer;
 use crate::Phase;
@@ -31,7 +33,7 @@ use frame::read::refusal;
 
 // The window's last number: the smaller of start + count − 1 and N.
 fn window_last(start: u8, count: u8, frames: u8) -> u8
-    ensures { λ r. ⌜ r ≡ min (start + count - 1) frames ⌝ }
+    ensures { λ r. ⌜ r ≡ windowLast start count frames ⌝ }
 {
     let past = start as u16 + count as u16;
     if past == 0 {
@@ -45,17 +47,40 @@ fn window_last(start: u8, count: u8, frames: u8) -> u8
 }
 
 // An LM_ACK that is ignored for its numbers alone.
-fn void(start: u8, count: u8) -> bool
-    ensures { λ r. ⌜ r ≡ (eqb start 0 || eqb count 0) ⌝ }
+fn is_void(start: u8, count: u8) -> bool
+    ensures { λ r. ⌜ r ≡ isVoid start count ⌝ }
 {
-    start == 0 || count == 0
+    (start == 0) | (count == 0)
+}
+
+// The misses stay where the start is the last one taken.
+fn misses_at(start: u8, taken: u8, misses: u16) -> u16
+    ensures { λ r. ⌜ r ≡ missesAt start taken misses ⌝ }
+{
+    if start == taken { misses } else { 0 }
 }
 
 // An EndofACK names the N and L of the transfer.
 fn is_whole(transfer: Transfer, frames: u8, length: u16) -> bool
-    ensures { λ r. ⌜ r ≡ (eqb frames (transfer .frames) && eqb length (transfer .length)) ⌝ }
+    ensures { λ r. ⌜ r ≡ isWhole transfer frames length ⌝ }
 {
-    frames == transfer.frames && length == transfer.length
+    (frames == transfer.frames) & (length == transfer.length)
+}
+
+impl Transfer {
+    // Sending, from the first frame of a window to its last.
+    fn sending_from(self, start: u8, last: u8, misses: u16) -> Phase
+        ensures { λ r. ⌜ r ≡ sendingFrom self start last misses ⌝ }
+    {
+        Phase::Sending(Streamed {
+            transfer: self,
+            start,
+            next: start,
+            last,
+            gap: 0,
+            misses,
+        })
+    }
 }
 
 impl Sender {
@@ -64,21 +89,14 @@ impl Sender {
         ensures { λ r. ⌜ told r ≡ taking self transfer start count misses ⌝ }
     {
         let last = window_last(start, count, transfer.frames);
-        self.in_phase(Phase::Sending(Streamed {
-                transfer,
-                start,
-                next: start,
-                last,
-                gap: 0,
-                misses,
-            }))
+        self.in_phase(transfer.sending_from(start, last, misses))
             .silently()
     }
 
     fn ack_opening(self, transfer: Transfer, start: u8, count: u8) -> Answer
         ensures { λ r. ⌜ told r ≡ ackOpening self transfer start count ⌝ }
     {
-        if void(start, count) {
+        if is_void(start, count) {
             return self.silently();
         }
         if transfer.frames < start {
@@ -91,11 +109,11 @@ impl Sender {
         }
     }
 
-    // `taken` is the last start taken: below it nothing happens, at it the misses stay.
+    // `taken` is the last start taken.
     fn ack_window(self, transfer: Transfer, taken: u8, misses: u16, start: u8, count: u8) -> Answer
         ensures { λ r. ⌜ told r ≡ ackWindow self transfer taken misses start count ⌝ }
     {
-        if void(start, count) {
+        if is_void(start, count) {
             return self.silently();
         }
         if transfer.frames < start {
@@ -104,11 +122,8 @@ impl Sender {
         if start < taken {
             return self.silently();
         }
-        if start == taken {
-            self.taking(transfer, start, count, misses)
-        } else {
-            self.taking(transfer, start, count, 0)
-        }
+        let misses = misses_at(start, taken, misses);
+        self.taking(transfer, start, count, misses)
     }
 
     fn hear_ack(self, phase: Phase, start: u8, count: u8) -> Answer
@@ -140,7 +155,7 @@ impl Sender {
         ensures { λ r. ⌜ told r ≡ ifWhole self transfer frames length ⌝ }
     {
         if is_whole(transfer, frames, length) {
-            self.sending(transfer)
+            self.finishing(transfer)
         } else {
             self.silently()
         }
@@ -163,7 +178,7 @@ impl Sender {
         ensures { λ r. ⌜ told r ≡ ifFirst self transfer first ⌝ }
     {
         if first == transfer.first {
-            self.sending(transfer)
+            self.finishing(transfer)
         } else {
             self.silently()
         }

@@ -1,6 +1,7 @@
 // The sending end: its settings, its state and its answers. State goes in and out by value.
 mod begin;
 mod hear;
+mod make;
 mod steps;
 mod tick;
 

@@ -1,11 +1,24 @@
 // The steps that the calls share: the changed state, and the answer of each kind.
 ghost use mathlib.Core.Path.{_≡_};
-ghost use Rattle.sender.specs.State.{aged, counted, inPhase};
-ghost use Rattle.sender.specs.Told.{told, refusing, silently, emitting, failingWith, failing, sending};
+ghost use Rattle.sender.specs.State.{
+  transferWith,
+  aged,
+  counted,
+  openingWith,
+  sendingWith,
+  waitingWith,
+  shortWith,
+  inPhase,
+};
+ghost use Rattle.sender.specs.Told.{told, refusing, silently, emitting, failingWith, failing, finishing};
+use crate::Announced;
 use crate::Answer;
+use crate::Awaited;
 use crate::Outcome;
 use crate::Phase;
 use crate::Sender;
+use crate::Single;
+use crate::Streamed;
 use crate::Transfer;
 use frame::Frame;
 use frame::build::blank;
@@ -13,18 +26,25 @@ use frame::build::lm_nack;
 use frame::count::increment;
 
 impl Transfer {
-    // One tick more.
-    pub(crate) fn aged(self) -> Transfer
-        ensures { λ r. ⌜ r ≡ aged self ⌝ }
+    // The transfer with other counts.
+    fn transfer_with(self, age: u16, emitted: u16) -> Transfer
+        ensures { λ r. ⌜ r ≡ transferWith self age emitted ⌝ }
     {
-        let age = increment(self.age);
         Transfer {
             length: self.length,
             frames: self.frames,
             first: self.first,
             age,
-            emitted: self.emitted,
+            emitted,
         }
+    }
+
+    // One tick more.
+    pub(crate) fn aged(self) -> Transfer
+        ensures { λ r. ⌜ r ≡ aged self ⌝ }
+    {
+        let age = increment(self.age);
+        self.transfer_with(age, self.emitted)
     }
 
     // One frame more.
@@ -32,13 +52,59 @@ impl Transfer {
         ensures { λ r. ⌜ r ≡ counted self ⌝ }
     {
         let emitted = increment(self.emitted);
-        Transfer {
-            length: self.length,
-            frames: self.frames,
-            first: self.first,
-            age: self.age,
-            emitted,
-        }
+        self.transfer_with(self.age, emitted)
+    }
+
+    // Opening: a transfer with its wait and misses.
+    pub(crate) fn opening_with(self, wait: u16, misses: u16) -> Phase
+        ensures { λ r. ⌜ r ≡ openingWith self wait misses ⌝ }
+    {
+        Phase::Opening(Announced {
+            transfer: self,
+            wait,
+            misses,
+        })
+    }
+
+    // Short: a transfer with its wait.
+    pub(crate) fn short_with(self, wait: u16) -> Phase
+        ensures { λ r. ⌜ r ≡ shortWith self wait ⌝ }
+    {
+        Phase::Short(Single {
+            transfer: self,
+            wait,
+        })
+    }
+}
+
+impl Streamed {
+    // Sending: the same window, at another frame or gap count.
+    pub(crate) fn sending_with(self, transfer: Transfer, next: u8, gap: u16) -> Phase
+        ensures { λ r. ⌜ r ≡ sendingWith self transfer next gap ⌝ }
+    {
+        Phase::Sending(Streamed {
+            transfer,
+            start: self.start,
+            next,
+            last: self.last,
+            gap,
+            misses: self.misses,
+        })
+    }
+}
+
+impl Awaited {
+    // Waiting: the same window, with another wait or other misses.
+    pub(crate) fn waiting_with(self, transfer: Transfer, wait: u16, misses: u16) -> Phase
+        ensures { λ r. ⌜ r ≡ waitingWith self transfer wait misses ⌝ }
+    {
+        Phase::Waiting(Awaited {
+            transfer,
+            start: self.start,
+            last: self.last,
+            wait,
+            misses,
+        })
     }
 }
 
@@ -126,8 +192,8 @@ impl Sender {
     }
 
     // The message has been acknowledged whole.
-    pub(crate) fn sending(self, transfer: Transfer) -> Answer
-        ensures { λ r. ⌜ told r ≡ sending self transfer ⌝ }
+    pub(crate) fn finishing(self, transfer: Transfer) -> Answer
+        ensures { λ r. ⌜ told r ≡ finishing self transfer ⌝ }
     {
         let next = self.in_phase(Phase::Idle);
         let frame = blank();

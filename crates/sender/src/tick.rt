@@ -2,15 +2,24 @@
 ghost use mathlib.Core.Path.{_≡_};
 ghost use Prim.Native.Nat.{_-_, _*_, min};
 ghost use Rattle.sender.specs.Tick.{
-  informationAt,
+  openingOn,
+  openingAgain,
   tickOpening,
+  informationAt,
+  waitingAfter,
   afterFrame,
+  sendingNext,
+  sendingOn,
   tickSending,
+  waitingOn,
+  waitingAgain,
   tickWaiting,
+  shortOn,
+  shortAgain,
   tickShort,
+  lentTo,
   tickOf,
 };
-ghost use Rattle.sender.specs.Parts.{openingAgain, sendingNext, waitingAgain, shortAgain, lentTo};
 ghost use Rattle.sender.specs.Told.{told};
 use crate::Announced;
 use crate::Answer;
@@ -45,28 +54,30 @@ fn information_at(number: u8, message: &[u8]) -> Frame
     information(number, &message[from..])
 }
 
-// The phase after the next frame of the window has gone out.
-fn after_frame(x: Streamed) -> Phase
-    ensures { λ r. ⌜ r ≡ afterFrame x ⌝ }
-{
-    let transfer = x.transfer.aged().counted();
-    if x.last <= x.next {
+impl Streamed {
+    // The window has gone out.
+    fn waiting_after(self, transfer: Transfer) -> Phase
+        ensures { λ r. ⌜ r ≡ waitingAfter self transfer ⌝ }
+    {
         Phase::Waiting(Awaited {
             transfer,
-            start: x.start,
-            last: x.last,
+            start: self.start,
+            last: self.last,
             wait: 0,
-            misses: x.misses,
+            misses: self.misses,
         })
-    } else {
-        Phase::Sending(Streamed {
-            transfer,
-            start: x.start,
-            next: x.next + 1,
-            last: x.last,
-            gap: 0,
-            misses: x.misses,
-        })
+    }
+
+    // The phase after the next frame of the window has gone out.
+    fn after_frame(self) -> Phase
+        ensures { λ r. ⌜ r ≡ afterFrame self ⌝ }
+    {
+        let transfer = self.transfer.aged().counted();
+        if self.last <= self.next {
+            self.waiting_after(transfer)
+        } else {
+            self.sending_with(transfer, self.next + 1, 0)
+        }
     }
 }
 
@@ -84,18 +95,21 @@ fn lent_to(phase: Phase, message: &[u8]) -> bool
 }
 
 impl Sender {
-    // The announcement goes out again.
-    fn opening_again(self, transfer: Transfer, misses: u16) -> Answer
-        ensures { λ r. ⌜ told r ≡ openingAgain self transfer misses ⌝ }
+    fn opening_on(self, x: Announced) -> Answer
+        ensures { λ r. ⌜ told r ≡ openingOn self x ⌝ }
     {
-        let frame = announcement(transfer.frames, transfer.length);
-        let transfer = transfer.counted();
-        self.in_phase(Phase::Opening(Announced {
-                transfer,
-                wait: 0,
-                misses,
-            }))
-            .emitting(frame)
+        let phase = x.transfer.aged().opening_with(increment(x.wait), x.misses);
+        self.in_phase(phase).silently()
+    }
+
+    // The announcement goes out again.
+    fn opening_again(self, x: Announced) -> Answer
+        ensures { λ r. ⌜ told r ≡ openingAgain self x ⌝ }
+    {
+        let frame = announcement(x.transfer.frames, x.transfer.length);
+        let transfer = x.transfer.aged().counted();
+        let phase = transfer.opening_with(0, increment(x.misses));
+        self.in_phase(phase).emitting(frame)
     }
 
     fn tick_opening(self, x: Announced) -> Answer
@@ -105,20 +119,13 @@ impl Sender {
         if self.settings.limit <= transfer.age {
             return self.failing_with(transfer, 3);
         }
-        let wait = increment(x.wait);
-        if wait < self.settings.timeout {
-            return self.in_phase(Phase::Opening(Announced {
-                    transfer,
-                    wait,
-                    misses: x.misses,
-                }))
-                .silently();
+        if increment(x.wait) < self.settings.timeout {
+            return self.opening_on(x);
         }
-        let misses = increment(x.misses);
-        if 3 <= misses {
+        if 3 <= increment(x.misses) {
             return self.failing_with(transfer, 2);
         }
-        self.opening_again(transfer, misses)
+        self.opening_again(x)
     }
 
     // The next frame of the window goes out.
@@ -126,7 +133,15 @@ impl Sender {
         ensures { λ r. ⌜ told r ≡ sendingNext self x (now (message .entry)) ⌝ }
     {
         let frame = information_at(x.next, message);
-        self.in_phase(after_frame(x)).emitting(frame)
+        self.in_phase(x.after_frame()).emitting(frame)
+    }
+
+    fn sending_on(self, x: Streamed) -> Answer
+        ensures { λ r. ⌜ told r ≡ sendingOn self x ⌝ }
+    {
+        let transfer = x.transfer.aged();
+        let phase = x.sending_with(transfer, x.next, increment(x.gap));
+        self.in_phase(phase).silently()
     }
 
     fn tick_sending(self, x: Streamed, message: &[u8]) -> Answer
@@ -136,35 +151,28 @@ impl Sender {
         if self.settings.limit <= transfer.age {
             return self.failing_with(transfer, 3);
         }
-        let gap = increment(x.gap);
-        if self.settings.gap <= gap {
+        if self.settings.gap <= increment(x.gap) {
             return self.sending_next(x, message);
         }
-        self.in_phase(Phase::Sending(Streamed {
-                transfer,
-                start: x.start,
-                next: x.next,
-                last: x.last,
-                gap,
-                misses: x.misses,
-            }))
-            .silently()
+        self.sending_on(x)
+    }
+
+    fn waiting_on(self, x: Awaited) -> Answer
+        ensures { λ r. ⌜ told r ≡ waitingOn self x ⌝ }
+    {
+        let transfer = x.transfer.aged();
+        let phase = x.waiting_with(transfer, increment(x.wait), x.misses);
+        self.in_phase(phase).silently()
     }
 
     // The window's last frame goes out again.
-    fn waiting_again(self, x: Awaited, transfer: Transfer, misses: u16, message: &[u8]) -> Answer
-        ensures { λ r. ⌜ told r ≡ waitingAgain self x transfer misses (now (message .entry)) ⌝ }
+    fn waiting_again(self, x: Awaited, message: &[u8]) -> Answer
+        ensures { λ r. ⌜ told r ≡ waitingAgain self x (now (message .entry)) ⌝ }
     {
         let frame = information_at(x.last, message);
-        let transfer = transfer.counted();
-        self.in_phase(Phase::Waiting(Awaited {
-                transfer,
-                start: x.start,
-                last: x.last,
-                wait: 0,
-                misses,
-            }))
-            .emitting(frame)
+        let transfer = x.transfer.aged().counted();
+        let phase = x.waiting_with(transfer, 0, increment(x.misses));
+        self.in_phase(phase).emitting(frame)
     }
 
     fn tick_waiting(self, x: Awaited, message: &[u8]) -> Answer
@@ -174,32 +182,29 @@ impl Sender {
         if self.settings.limit <= transfer.age {
             return self.failing_with(transfer, 3);
         }
-        let wait = increment(x.wait);
-        if wait < self.settings.timeout {
-            return self.in_phase(Phase::Waiting(Awaited {
-                    transfer,
-                    start: x.start,
-                    last: x.last,
-                    wait,
-                    misses: x.misses,
-                }))
-                .silently();
+        if increment(x.wait) < self.settings.timeout {
+            return self.waiting_on(x);
         }
-        let misses = increment(x.misses);
-        if 3 <= misses {
+        if 3 <= increment(x.misses) {
             return self.failing_with(transfer, 2);
         }
-        self.waiting_again(x, transfer, misses, message)
+        self.waiting_again(x, message)
+    }
+
+    fn short_on(self, x: Single) -> Answer
+        ensures { λ r. ⌜ told r ≡ shortOn self x ⌝ }
+    {
+        let phase = x.transfer.aged().short_with(increment(x.wait));
+        self.in_phase(phase).silently()
     }
 
     // SM_RM goes out again.
-    fn short_again(self, transfer: Transfer, message: &[u8]) -> Answer
-        ensures { λ r. ⌜ told r ≡ shortAgain self transfer (now (message .entry)) ⌝ }
+    fn short_again(self, x: Single, message: &[u8]) -> Answer
+        ensures { λ r. ⌜ told r ≡ shortAgain self x (now (message .entry)) ⌝ }
     {
         let frame = sm_rm(message);
-        let transfer = transfer.counted();
-        self.in_phase(Phase::Short(Single { transfer, wait: 0 }))
-            .emitting(frame)
+        let transfer = x.transfer.aged().counted();
+        self.in_phase(transfer.short_with(0)).emitting(frame)
     }
 
     fn tick_short(self, x: Single, message: &[u8]) -> Answer
@@ -209,12 +214,10 @@ impl Sender {
         if self.settings.limit <= transfer.age {
             return self.failing(transfer, 3);
         }
-        let wait = increment(x.wait);
-        if self.settings.timeout <= wait {
-            return self.short_again(transfer, message);
+        if self.settings.timeout <= increment(x.wait) {
+            return self.short_again(x, message);
         }
-        self.in_phase(Phase::Short(Single { transfer, wait }))
-            .silently()
+        self.short_on(x)
     }
 
     // A tick, lent the message that was begun. Refused 4 where its length is another.

@@ -5,11 +5,9 @@ use Prim.Native.Nat.{ℕ, suc}
 use mathlib.Core.List.{List}
 use mathlib.Core.Path.{_≡_, refl, ap}
 use lib.ListN.{length}
-use Rattle.frame.proofs.Choice.{pick-elim, read-elim}
+use Rattle.frame.proofs.Choice.{pick-elim}
 use Rattle.frame.proofs.Laws.{length-fill}
 use Rattle.frame.specs.Frames.{blankOf, announcementOf, informationOf, lmAckOf, lmNackOf, endOfAckOf, smRmOf, smAckOf}
-use Rattle.frame.specs.Result.{Result}
-use Rattle.frame.specs.declared.Parsed.{Parsed}
 use Rattle.frame.specs.declared.Frame.{Frame}
 use Rattle.receiver.proofs.View.{Ticks, rests, waits, retries, expires, tick-does, nacks, opens, again, ended, above, delivers, asks, goes-on, Hears, refuses, ignores, announced, informed, closes, short, short-only, hear-does}
 use Rattle.receiver.specs.Hear as hearing
@@ -18,9 +16,9 @@ use Rattle.receiver.specs.Told as receiver
 use Rattle.receiver.specs.declared.Phase as receiver-phase
 use Rattle.receiver.specs.declared.Receiver.{Receiver}
 use Rattle.receiver.specs.declared.Settings.{Settings}
-use Rattle.sender.specs.Begin.{beginLong, beginShort, beginIdle, beginPhase, beginOf}
-use Rattle.sender.specs.Hear as sender-hear
-use Rattle.sender.specs.Hear.{taking, ackOpening, ackWindow, hearAck, hearNack, ifWhole, hearEnd, hearShortAck, hearKind, hearRead, hearOf}
+use Rattle.sender.proofs.Choices.{limit-elim, begin-elim, tick-elim, over-elim, timeout-elim, bad-elim, hear-elim}
+use Rattle.sender.specs.Begin.{beginLong, beginShort, beginOf}
+use Rattle.sender.specs.Hear.{taking, ackOpening, ackWindow, hearAck, hearNack, ifWhole, hearEnd, ifFirst, hearShortAck, hearOf}
 use Rattle.sender.specs.Tick.{tickOpening, tickSending, tickWaiting, tickShort, tickPhase, tickOf}
 use Rattle.sender.specs.Told as sender
 use Rattle.sender.specs.declared.Phase.{Phase}
@@ -34,55 +32,39 @@ abbrev pub Eight : sender.Told → Type 0
 Eight t = length (t .frame .bytes) ≡ 8
 
 pub begin-eight : (s : Sender) (m : List ℕ) → Eight (beginOf s m)
-unfolding beginOf beginPhase beginIdle beginLong beginShort announcementOf smRmOf blankOf
-begin-eight s m = go (s .phase)
-  where
-    go : (q : Phase) → Eight (beginPhase s q m)
-    go Idle = pick-elim Eight _ (λ _. pick-elim Eight _ (λ _. length-fill 8 m) (λ _. refl)) (λ _. refl)
-    go (Opening x) = refl
-    go (Sending x) = refl
-    go (Waiting x) = refl
-    go (Short x) = refl
+unfolding beginLong beginShort announcementOf smRmOf blankOf
+begin-eight s m = begin-elim Eight s m (λ _. refl) (λ _. λ _. length-fill 8 m) (λ _. λ _. refl)
 
 pub tick-eight : (s : Sender) (m : List ℕ) → Eight (tickOf s m)
-unfolding tickOf tickPhase tickOpening tickSending tickWaiting tickShort announcementOf informationOf lmNackOf smRmOf blankOf
-tick-eight s m = go (s .phase)
+unfolding tickPhase tickOpening tickSending tickWaiting tickShort announcementOf informationOf lmNackOf smRmOf blankOf
+tick-eight s m = tick-elim Eight s m refl (go (s .phase))
   where
     go : (q : Phase) → Eight (tickPhase s q m)
     go Idle = refl
     go (Opening x) =
-        pick-elim Eight _
-        (λ _. pick-elim Eight _ (λ _. refl) (λ _. pick-elim Eight _ (λ _. pick-elim Eight _ (λ _. refl) (λ _. refl)) (λ _. refl)))
-        (λ _. refl)
+        over-elim Eight s (x .transfer) _ refl
+        (λ _. timeout-elim Eight s (x .transfer) (x .wait) (x .misses) refl (λ _. refl) (λ _. refl))
     go (Sending x) =
-        pick-elim Eight _
-        (λ _. pick-elim Eight _ (λ _. refl) (λ _. pick-elim Eight _ (λ _. ap suc (length-fill 7 _)) (λ _. refl))) (λ _. refl)
+        over-elim Eight s (x .transfer) _ refl
+        (λ _. limit-elim Eight (s .settings .gap) (x .gap) (ap suc (length-fill 7 _)) (λ _. refl))
     go (Waiting x) =
-        pick-elim Eight _
-        (λ _.
-        pick-elim Eight _ (λ _. refl)
-        (λ _. pick-elim Eight _ (λ _. pick-elim Eight _ (λ _. refl) (λ _. ap suc (length-fill 7 _))) (λ _. refl)))
-        (λ _. refl)
+        over-elim Eight s (x .transfer) _ refl
+        (λ _. timeout-elim Eight s (x .transfer) (x .wait) (x .misses) refl (λ _. ap suc (length-fill 7 _)) (λ _. refl))
     go (Short x) =
-        pick-elim Eight _
-        (λ _. pick-elim Eight _ (λ _. refl) (λ _. pick-elim Eight _ (λ _. length-fill 8 m) (λ _. refl))) (λ _. refl)
+        over-elim Eight s (x .transfer) _ refl
+        (λ _. limit-elim Eight (s .settings .timeout) (x .wait) (length-fill 8 m) (λ _. refl))
 
 -- a hearing answers with the blank frame or with LM_NACK 4
-bad-eight : (s : Sender) (t : Transfer) (start count : ℕ) (otherwise : sender.Told) → Eight otherwise
-    → Eight (sender-hear.unlessBad s t start count otherwise)
-unfolding lmNackOf blankOf
-bad-eight s t start count otherwise e = pick-elim Eight _ (λ _. refl) (λ _. pick-elim Eight _ (λ _. refl) (λ _. e))
-
 window-eight : (s : Sender) (t : Transfer) (taken misses start count : ℕ) → Eight (ackWindow s t taken misses start count)
-unfolding ackWindow taking blankOf
+unfolding ackWindow taking lmNackOf blankOf
 window-eight s t taken misses start count =
-    bad-eight s t start count _ (pick-elim Eight _ (λ _. refl) (λ _. refl))
+    bad-elim Eight s t start count refl refl (λ _. λ _. λ _. pick-elim Eight _ (λ _. refl) (λ _. refl))
 
 ack-eight : (s : Sender) (q : Phase) (start count : ℕ) → Eight (hearAck s q start count)
-unfolding hearAck ackOpening taking blankOf
+unfolding hearAck ackOpening taking lmNackOf blankOf
 ack-eight s Idle start count = refl
 ack-eight s (Opening x) start count =
-    bad-eight s (x .transfer) start count _ (pick-elim Eight _ (λ _. refl) (λ _. refl))
+    bad-elim Eight s (x .transfer) start count refl refl (λ _. λ _. λ _. pick-elim Eight _ (λ _. refl) (λ _. refl))
 ack-eight s (Sending x) start count = window-eight s (x .transfer) (x .start) (x .misses) start count
 ack-eight s (Waiting x) start count = window-eight s (x .transfer) (x .start) (x .misses) start count
 ack-eight s (Short x) start count = refl
@@ -104,7 +86,7 @@ end-eight s (Waiting x) frames l = pick-elim Eight _ (λ _. refl) (λ _. refl)
 end-eight s (Short x) frames l = refl
 
 short-ack-eight : (s : Sender) (q : Phase) (first : ℕ) → Eight (hearShortAck s q first)
-unfolding hearShortAck blankOf
+unfolding hearShortAck ifFirst blankOf
 short-ack-eight s Idle first = refl
 short-ack-eight s (Opening x) first = refl
 short-ack-eight s (Sending x) first = refl
@@ -112,14 +94,10 @@ short-ack-eight s (Waiting x) first = refl
 short-ack-eight s (Short x) first = pick-elim Eight _ (λ _. refl) (λ _. refl)
 
 pub hear-eight : (s : Sender) (f : Frame) → Eight (hearOf s f)
-unfolding hearOf hearRead hearKind blankOf
+unfolding blankOf
 hear-eight s f =
-    read-elim (λ (j : Result Parsed). Eight (hearRead s f j)) f
-    (pick-elim Eight _ (λ _. ack-eight s (s .phase) _ _)
-    (λ _. pick-elim Eight _ (λ _. nack-eight s (s .phase))
-    (λ _. pick-elim Eight _ (λ _. end-eight s (s .phase) _ _)
-    (λ _. pick-elim Eight _ (λ _. short-ack-eight s (s .phase) _) (λ _. refl)))))
-    refl
+    let q = s .phase in
+    hear-elim Eight s f (λ _. refl) (ack-eight s q _ _) (nack-eight s q) (end-eight s q _ _) (short-ack-eight s q _)
 
 -- ---- the receiver: its frame, and the bytes of a short delivery
 

@@ -11,7 +11,7 @@ use Rattle.receiver.specs.Told as receiver
 use Rattle.receiver.specs.declared.Made as receiver-enum
 use Rattle.receiver.specs.declared.Made.the-variants as receiver-made
 use Rattle.receiver.specs.declared.Receiver.{Receiver}
-use Rattle.sender.specs.Begin as sender-making
+use Rattle.sender.specs.Make as sender-making
 use Rattle.sender.specs.Begin.{beginOf}
 use Rattle.sender.specs.Told as sender
 use Rattle.sender.specs.declared.Answer.{Answer}

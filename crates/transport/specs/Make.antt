@@ -6,7 +6,8 @@ use Rattle.line.specs.Ring.{emptyOf}
 use Rattle.receiver.specs.Make as receiver-making
 use Rattle.receiver.specs.Told as receiver
 use Rattle.receiver.specs.declared.Receiver.{Receiver}
-use Rattle.sender.specs.Begin as sender-making
+use Rattle.sender.specs.Begin.{beginOf}
+use Rattle.sender.specs.Make as sender-making
 use Rattle.sender.specs.Told as sender
 use Rattle.sender.specs.declared.Sender.{Sender}
 use Rattle.transport.specs.declared.Ends.{Ends}
@@ -37,7 +38,7 @@ madeBegin (sender.failed cause ticks frames) s r = made (endsOf s r)
 unfoldable pub madeEnds : List ℕ → Result Sender → Result Receiver → Made
 madeEnds message (refused number) r = unmade number
 madeEnds message (accepted s) (refused number) = unmade number
-madeEnds message (accepted s) (accepted r) = madeBegin (sender-making.beginOf s message .outcome) s r
+madeEnds message (accepted s) (accepted r) = madeBegin (beginOf s message .outcome) s r
 
 -- "settings (G byte, sender T, M, receiver T words, C byte, K word)"; "after that settings outside their limits are 1, a
 -- message of bad length 2"

@@ -1,7 +1,8 @@
--- `sender::Sender::begin_short` meets its contract. The frame and the state are those that the callees promise.
+-- `sender::Sender::begin_short` meets its contract. What the callees answer, put together, is the
+-- definition.
 -- Assumes nothing.
 use borrow.Author.Needs.{needs}
-use Rattle.sender.proofs.Laws.{begin-paths}
+use Rattle.sender.proofs.Laws.{begun-short}
 use Rattle.sender.proofs.Sender.begin_short.Statement.{statement}
 use Rattle.sender.proofs.Sender.begin_short.Tie as tie
 
@@ -9,18 +10,27 @@ begun-with-requires : tie.Need-begun-with-requires
 begun-with-requires c κs = search needs
 
 sm-rm-requires : tie.Need-sm-rm-requires
-sm-rm-requires c κs = tt
+sm-rm-requires c κs = search needs
+
+short-with-requires : tie.Need-short-with-requires
+short-with-requires c κs = search needs
 
 in-phase-requires : tie.Need-in-phase-requires
-in-phase-requires c κs = tt
+in-phase-requires c κs = search needs
 
 emitting-requires : tie.Need-emitting-requires
-emitting-requires c κs = tt
+emitting-requires c κs = search needs
 
 returns : tie.Need-returns
-returns c = search begin-paths
+returns c = search begun-short
 
 pub begin-short-spec : {M : Type 1} → statement M
 begin-short-spec =
     tie.close
-    (tie.spec begun-with-requires sm-rm-requires in-phase-requires emitting-requires returns)
+    (tie.spec
+    begun-with-requires
+    sm-rm-requires
+    short-with-requires
+    in-phase-requires
+    emitting-requires
+    returns)

@@ -1,17 +1,18 @@
--- `sender::Sender::failing` meets its contract. The state and the frame are those that `in_phase` and `blank`
--- promise.
+-- `sender::Sender::failing` meets its contract. What the callees answer, put together, is the
+-- definition.
 -- Assumes nothing.
+use borrow.Author.Needs.{needs}
 use Rattle.sender.proofs.Sender.failing.Statement.{statement}
 use Rattle.sender.proofs.Sender.failing.Tie as tie
 
 in-phase-requires : tie.Need-in-phase-requires
-in-phase-requires c κs = tt
+in-phase-requires c κs = search needs
 
 blank-requires : tie.Need-blank-requires
-blank-requires c κs = tt
+blank-requires c κs = search needs
 
 returns : tie.Need-returns
-returns c = rw (c .before .in-phase .ensures, c .blank .ensures)
+returns c = cc
 
 pub failing-spec : {M : Type 1} → statement M
 failing-spec = tie.close (tie.spec in-phase-requires blank-requires returns)

@@ -1,20 +1,22 @@
--- `sender::Sender::failing_with` meets its contract. The state, the frame and the counts are those that `in_phase`,
--- `lm_nack` and `counted` promise.
+-- `sender::Sender::failing_with` meets its contract. What the callees answer, put together, is the
+-- definition.
 -- Assumes nothing.
+use borrow.Author.Needs.{needs}
+use Rattle.sender.proofs.Laws.{fails-with}
 use Rattle.sender.proofs.Sender.failing_with.Statement.{statement}
 use Rattle.sender.proofs.Sender.failing_with.Tie as tie
 
 in-phase-requires : tie.Need-in-phase-requires
-in-phase-requires c κs = tt
+in-phase-requires c κs = search needs
 
 lm-nack-requires : tie.Need-lm-nack-requires
-lm-nack-requires c κs = tt
+lm-nack-requires c κs = search needs
 
 counted-requires : tie.Need-counted-requires
-counted-requires c κs = tt
+counted-requires c κs = search needs
 
 returns : tie.Need-returns
-returns c = rw (c .before .before .in-phase .ensures, c .before .lm-nack .ensures, c .counted .ensures)
+returns c = search fails-with
 
 pub failing-with-spec : {M : Type 1} → statement M
 failing-with-spec =

@@ -1,60 +1,61 @@
--- `sender::Sender::hear_end` meets its contract. In each arm the phase is its variant, at which the definition
--- computes.
+-- `sender::Sender::hear_end` meets its contract. In each arm the phase is its variant, at which the
+-- definition computes.
 -- Assumes nothing.
+use borrow.Author.Needs.{needs}
 use Rattle.sender.specs.Hear.{hearEnd}
-use Rattle.sender.proofs.Laws.{at-with-two}
+use Rattle.sender.proofs.Laws.{end-in}
 use Rattle.sender.proofs.Sender.hear_end.Statement.{statement}
 use Rattle.sender.proofs.Sender.hear_end.Tie as tie
 
 enum-told : tie.Need-enum-told
-enum-told c = c .match .keys1
+enum-told c = search needs
 
 silently-requires : tie.Need-silently-requires
-silently-requires c κs = tt
+silently-requires c κs = search needs
 
 enum-told-2 : tie.Need-enum-told-2
-enum-told-2 c = c .match .keys2
+enum-told-2 c = search needs
 
 silently-requires-2 : tie.Need-silently-requires-2
-silently-requires-2 c κs = tt
+silently-requires-2 c κs = search needs
 
 enum-known-phase : tie.Need-enum-known-phase
-enum-known-phase c = c .match .keys3
+enum-known-phase c = search needs
 
 if-whole-requires : tie.Need-if-whole-requires
-if-whole-requires c κs = tt
+if-whole-requires c κs = search needs
 
 enum-known-phase-2 : tie.Need-enum-known-phase-2
-enum-known-phase-2 c = c .match .keys4
+enum-known-phase-2 c = search needs
 
 if-whole-requires-2 : tie.Need-if-whole-requires-2
-if-whole-requires-2 c κs = tt
+if-whole-requires-2 c κs = search needs
 
 enum-told-3 : tie.Need-enum-told-3
-enum-told-3 c = c .match .keys5
+enum-told-3 c = search needs
 
 silently-requires-3 : tie.Need-silently-requires-3
-silently-requires-3 c κs = tt
+silently-requires-3 c κs = search needs
 
 returns : tie.Need-returns
 unfolding hearEnd
-returns c = at-with-two (hearEnd _) (c .before .enum-told .given .1) (c .silently .ensures)
+returns c = search end-in
 
 returns-2 : tie.Need-returns-2
 unfolding hearEnd
-returns-2 c = at-with-two (hearEnd _) (c .before .enum-told2 .given .1) (c .silently2 .ensures)
+returns-2 c = search end-in
 
 returns-3 : tie.Need-returns-3
 unfolding hearEnd
-returns-3 c = at-with-two (hearEnd _) (c .before .before .phase .given .1) (c .if-whole .ensures)
+returns-3 c = search end-in
 
 returns-4 : tie.Need-returns-4
 unfolding hearEnd
-returns-4 c = at-with-two (hearEnd _) (c .before .before .phase2 .given .1) (c .if-whole2 .ensures)
+returns-4 c = search end-in
 
 returns-5 : tie.Need-returns-5
 unfolding hearEnd
-returns-5 c = at-with-two (hearEnd _) (c .before .enum-told3 .given .1) (c .silently3 .ensures)
+returns-5 c = search end-in
 
 pub hear-end-spec : {M : Type 1} → statement M
 hear-end-spec =

@@ -1,9 +1,9 @@
--- `sender::Sender::hear_kind` meets its contract. In each arm the kind is a number at which the definition computes;
--- in the last it is 5, or none of those before.
+-- `sender::Sender::hear_kind` meets its contract. In each arm the kind is a number at which the
+-- definition computes; in the last it is 5, or none of those before.
 -- Assumes nothing.
+use mathlib.Core.Logic.{⊎-elim}
 use borrow.Author.Needs.{needs}
 use Rattle.sender.proofs.Laws.{kind-paths}
-use mathlib.Core.Logic.{⊎-elim}
 use Rattle.sender.proofs.Sender.hear_kind.Statement.{statement}
 use Rattle.sender.proofs.Sender.hear_kind.Tie as tie
 
@@ -14,10 +14,10 @@ array-read-hear-ack-2 : tie.Need-array-read-hear-ack-2
 array-read-hear-ack-2 c = search needs
 
 hear-ack-requires : tie.Need-hear-ack-requires
-hear-ack-requires c κs = tt
+hear-ack-requires c κs = search needs
 
 hear-nack-requires : tie.Need-hear-nack-requires
-hear-nack-requires c κs = tt
+hear-nack-requires c κs = search needs
 
 array-read-word : tie.Need-array-read-word
 array-read-word c = search needs
@@ -26,22 +26,22 @@ array-read-word-2 : tie.Need-array-read-word-2
 array-read-word-2 c = search needs
 
 word-requires : tie.Need-word-requires
-word-requires c κs = tt
+word-requires c κs = search needs
 
 array-read-hear-end : tie.Need-array-read-hear-end
 array-read-hear-end c = search needs
 
 hear-end-requires : tie.Need-hear-end-requires
-hear-end-requires c κs = tt
+hear-end-requires c κs = search needs
 
 array-read-hear-short-ack : tie.Need-array-read-hear-short-ack
 array-read-hear-short-ack c = search needs
 
 hear-short-ack-requires : tie.Need-hear-short-ack-requires
-hear-short-ack-requires c κs = tt
+hear-short-ack-requires c κs = search needs
 
 refusing-requires : tie.Need-refusing-requires
-refusing-requires c κs = tt
+refusing-requires c κs = search needs
 
 returns : tie.Need-returns
 returns c = search kind-paths

@@ -1,61 +1,61 @@
--- `sender::Sender::hear_short_ack` meets its contract. In each arm the phase is its variant, at which the definition
--- computes.
+-- `sender::Sender::hear_short_ack` meets its contract. In each arm the phase is its variant, at
+-- which the definition computes.
 -- Assumes nothing.
+use borrow.Author.Needs.{needs}
 use Rattle.sender.specs.Hear.{hearShortAck}
-use Rattle.sender.specs.Parts.{ifFirst}
-use Rattle.sender.proofs.Laws.{at-with}
+use Rattle.sender.proofs.Laws.{short-ack-in}
 use Rattle.sender.proofs.Sender.hear_short_ack.Statement.{statement}
 use Rattle.sender.proofs.Sender.hear_short_ack.Tie as tie
 
 enum-told : tie.Need-enum-told
-enum-told c = c .match .keys1
+enum-told c = search needs
 
 silently-requires : tie.Need-silently-requires
-silently-requires c κs = tt
+silently-requires c κs = search needs
 
 enum-told-2 : tie.Need-enum-told-2
-enum-told-2 c = c .match .keys2
+enum-told-2 c = search needs
 
 silently-requires-2 : tie.Need-silently-requires-2
-silently-requires-2 c κs = tt
+silently-requires-2 c κs = search needs
 
 enum-told-3 : tie.Need-enum-told-3
-enum-told-3 c = c .match .keys3
+enum-told-3 c = search needs
 
 silently-requires-3 : tie.Need-silently-requires-3
-silently-requires-3 c κs = tt
+silently-requires-3 c κs = search needs
 
 enum-told-4 : tie.Need-enum-told-4
-enum-told-4 c = c .match .keys4
+enum-told-4 c = search needs
 
 silently-requires-4 : tie.Need-silently-requires-4
-silently-requires-4 c κs = tt
+silently-requires-4 c κs = search needs
 
 enum-known-phase : tie.Need-enum-known-phase
-enum-known-phase c = c .match .keys5
+enum-known-phase c = search needs
 
 if-first-requires : tie.Need-if-first-requires
-if-first-requires c κs = tt
+if-first-requires c κs = search needs
 
 returns : tie.Need-returns
 unfolding hearShortAck
-returns c = at-with (hearShortAck _) (c .before .enum-told .given .1) (c .silently .ensures)
+returns c = search short-ack-in
 
 returns-2 : tie.Need-returns-2
 unfolding hearShortAck
-returns-2 c = at-with (hearShortAck _) (c .before .enum-told2 .given .1) (c .silently2 .ensures)
+returns-2 c = search short-ack-in
 
 returns-3 : tie.Need-returns-3
 unfolding hearShortAck
-returns-3 c = at-with (hearShortAck _) (c .before .enum-told3 .given .1) (c .silently3 .ensures)
+returns-3 c = search short-ack-in
 
 returns-4 : tie.Need-returns-4
 unfolding hearShortAck
-returns-4 c = at-with (hearShortAck _) (c .before .enum-told4 .given .1) (c .silently4 .ensures)
+returns-4 c = search short-ack-in
 
 returns-5 : tie.Need-returns-5
-unfolding hearShortAck ifFirst
-returns-5 c = at-with (hearShortAck _) (c .before .before .phase .given .1) (c .if-first .ensures)
+unfolding hearShortAck
+returns-5 c = search short-ack-in
 
 pub hear-short-ack-spec : {M : Type 1} → statement M
 hear-short-ack-spec =

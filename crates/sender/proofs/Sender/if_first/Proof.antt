@@ -1,20 +1,24 @@
 -- `sender::Sender::if_first` meets its contract. The test of the first byte is the definition's.
 -- Assumes nothing.
-use Rattle.sender.proofs.Laws.{sent-paths}
+use borrow.Author.Needs.{needs}
+use Rattle.sender.specs.Hear.{ifFirst}
+use Rattle.sender.proofs.Laws.{tests}
 use Rattle.sender.proofs.Sender.if_first.Statement.{statement}
 use Rattle.sender.proofs.Sender.if_first.Tie as tie
 
-sending-requires : tie.Need-sending-requires
-sending-requires c κs = tt
+finishing-requires : tie.Need-finishing-requires
+finishing-requires c κs = search needs
 
 silently-requires : tie.Need-silently-requires
-silently-requires c κs = tt
+silently-requires c κs = search needs
 
 returns : tie.Need-returns
-returns c = search sent-paths
+unfolding ifFirst
+returns c = search tests
 
 returns-2 : tie.Need-returns-2
-returns-2 c = search sent-paths
+unfolding ifFirst
+returns-2 c = search tests
 
 pub if-first-spec : {M : Type 1} → statement M
-if-first-spec = tie.close (tie.spec sending-requires silently-requires returns returns-2)
+if-first-spec = tie.close (tie.spec finishing-requires silently-requires returns returns-2)

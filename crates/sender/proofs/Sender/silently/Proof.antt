@@ -1,13 +1,15 @@
--- `sender::Sender::silently` meets its contract. The frame is the blank one that `blank` promises.
+-- `sender::Sender::silently` meets its contract. The answer is the definition, with the frame that
+-- `blank` gives.
 -- Assumes nothing.
+use borrow.Author.Needs.{needs}
 use Rattle.sender.proofs.Sender.silently.Statement.{statement}
 use Rattle.sender.proofs.Sender.silently.Tie as tie
 
 blank-requires : tie.Need-blank-requires
-blank-requires c κs = tt
+blank-requires c κs = search needs
 
 returns : tie.Need-returns
-returns c = rw (c .blank .ensures)
+returns c = cc
 
 pub silently-spec : {M : Type 1} → statement M
 silently-spec = tie.close (tie.spec blank-requires returns)

@@ -1,45 +1,48 @@
--- `sender::Sender::tick_opening` meets its contract. The tests of M, T and the third miss, in the code's order, are
--- the definition's.
+-- `sender::Sender::tick_opening` meets its contract. The tests of M, T and the third miss, in the
+-- code's order, are the definition's.
 -- Assumes nothing.
-use Rattle.sender.proofs.Laws.{pacing-paths}
+use borrow.Author.Needs.{needs}
+use Rattle.sender.specs.Tick.{tickOpening}
+use Rattle.sender.proofs.Laws.{ticks}
 use Rattle.sender.proofs.Sender.tick_opening.Statement.{statement}
 use Rattle.sender.proofs.Sender.tick_opening.Tie as tie
 
 aged-requires : tie.Need-aged-requires
-aged-requires c κs = tt
+aged-requires c κs = search needs
 
 failing-with-requires : tie.Need-failing-with-requires
-failing-with-requires c κs = tt
+failing-with-requires c κs = search needs
 
 returns : tie.Need-returns
-returns c = search pacing-paths
+unfolding tickOpening
+returns c = search ticks
 
 increment-requires : tie.Need-increment-requires
-increment-requires c κs = tt
+increment-requires c κs = search needs
 
-in-phase-requires : tie.Need-in-phase-requires
-in-phase-requires c κs = tt
-
-silently-requires : tie.Need-silently-requires
-silently-requires c κs = tt
+opening-on-requires : tie.Need-opening-on-requires
+opening-on-requires c κs = search needs
 
 returns-2 : tie.Need-returns-2
-returns-2 c = search pacing-paths
+unfolding tickOpening
+returns-2 c = search ticks
 
 increment-requires-2 : tie.Need-increment-requires-2
-increment-requires-2 c κs = tt
+increment-requires-2 c κs = search needs
 
 failing-with-requires-2 : tie.Need-failing-with-requires-2
-failing-with-requires-2 c κs = tt
+failing-with-requires-2 c κs = search needs
 
 returns-3 : tie.Need-returns-3
-returns-3 c = search pacing-paths
+unfolding tickOpening
+returns-3 c = search ticks
 
 opening-again-requires : tie.Need-opening-again-requires
-opening-again-requires c κs = tt
+opening-again-requires c κs = search needs
 
 returns-4 : tie.Need-returns-4
-returns-4 c = search pacing-paths
+unfolding tickOpening
+returns-4 c = search ticks
 
 pub tick-opening-spec : {M : Type 1} → statement M
 tick-opening-spec =
@@ -49,8 +52,7 @@ tick-opening-spec =
     failing-with-requires
     returns
     increment-requires
-    in-phase-requires
-    silently-requires
+    opening-on-requires
     returns-2
     increment-requires-2
     failing-with-requires-2

@@ -1,35 +1,38 @@
--- `sender::Sender::tick_short` meets its contract. The tests of M and T, in the code's order, are the definition's.
+-- `sender::Sender::tick_short` meets its contract. The tests of M and T, in the code's order, are
+-- the definition's.
 -- Assumes nothing.
-use Rattle.sender.proofs.Laws.{pacing-paths}
+use borrow.Author.Needs.{needs}
+use Rattle.sender.specs.Tick.{tickShort}
+use Rattle.sender.proofs.Laws.{ticks}
 use Rattle.sender.proofs.Sender.tick_short.Statement.{statement}
 use Rattle.sender.proofs.Sender.tick_short.Tie as tie
 
 aged-requires : tie.Need-aged-requires
-aged-requires c κs = tt
+aged-requires c κs = search needs
 
 failing-requires : tie.Need-failing-requires
-failing-requires c κs = tt
+failing-requires c κs = search needs
 
 returns : tie.Need-returns
-returns c = search pacing-paths
+unfolding tickShort
+returns c = search ticks
 
 increment-requires : tie.Need-increment-requires
-increment-requires c κs = tt
+increment-requires c κs = search needs
 
 short-again-requires : tie.Need-short-again-requires
-short-again-requires c κs = tt
+short-again-requires c κs = search needs
 
 returns-2 : tie.Need-returns-2
-returns-2 c = search pacing-paths
+unfolding tickShort
+returns-2 c = search ticks
 
-in-phase-requires : tie.Need-in-phase-requires
-in-phase-requires c κs = tt
-
-silently-requires : tie.Need-silently-requires
-silently-requires c κs = tt
+short-on-requires : tie.Need-short-on-requires
+short-on-requires c κs = search needs
 
 returns-3 : tie.Need-returns-3
-returns-3 c = search pacing-paths
+unfolding tickShort
+returns-3 c = search ticks
 
 pub tick-short-spec : {M : Type 1} → statement M
 tick-short-spec =
@@ -41,6 +44,5 @@ tick-short-spec =
     increment-requires
     short-again-requires
     returns-2
-    in-phase-requires
-    silently-requires
+    short-on-requires
     returns-3)

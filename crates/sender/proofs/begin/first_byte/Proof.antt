@@ -1,4 +1,5 @@
--- `sender::begin::first_byte` meets its contract. A message with a byte has it at place 0; one with none has 0 there.
+-- `sender::begin::first_byte` meets its contract. A message with a byte has it at place 0; one with
+-- none has 0 there.
 -- Assumes nothing.
 use borrow.Author.Needs.{needs}
 use Rattle.sender.proofs.Laws.{no-first}
