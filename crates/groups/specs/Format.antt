@@ -12,7 +12,7 @@ use Rattle.groups.specs.declared.Row.{Row}
 use Rattle.groups.specs.declared.Width.{Width}
 use Rattle.groups.specs.declared.Width.the-variants.{None, Byte, Word}
 
--- the kinds of a row's four places, and a group's four values, as lists
+-- the kinds of a row's four fields, and a group's four values, as lists
 abbrev pub kindsOf : Row → List Kind
 kindsOf x = kindAt (x .first) ∷ kindAt (x .second) ∷ kindAt (x .third) ∷ kindAt (x .fourth) ∷ []
 
@@ -38,6 +38,10 @@ allAllowed [] vs = true
 allAllowed (k ∷ ks) [] = true
 allAllowed (k ∷ ks) (v ∷ vs) = allowed k v && allAllowed ks vs
 
+-- a row allows the values that the kinds of its fields do: what reading and writing judge by
+unfoldable pub rowAllows : Row → List ℕ → Bool
+rowAllows x vs = allAllowed (kindsOf x) vs
+
 -- the value of a field at the front of some bytes, and of fields one after the other
 abbrev pub valueOf : Width → List ℕ → ℕ
 valueOf None s = 0
@@ -61,7 +65,14 @@ fieldsOf (k ∷ ks) (v ∷ vs) = bytesOf (k .width) v ++ fieldsOf ks vs
 
 -- the group of a code and four values
 abbrev pub groupOf : ℕ → List ℕ → Group
-groupOf code vs = record { code = code; first = getD vs 0 0; second = getD vs 1 0; third = getD vs 2 0; fourth = getD vs 3 0 }
+groupOf code vs =
+    record {
+      code = code;
+      first = getD vs 0 0;
+      second = getD vs 1 0;
+      third = getD vs 2 0;
+      fourth = getD vs 3 0;
+    }
 
 -- the group in eight bytes, whose fields start after the code, and the eight bytes of a group
 unfoldable pub groupFrom : ℕ → List Kind → List ℕ → Group
