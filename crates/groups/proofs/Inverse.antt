@@ -1,8 +1,8 @@
--- Writing and reading undo each other, for every row of a table at once and every table that is fit. A field's bytes give its value back, and its
--- value its bytes, by the three widths; fields one after the other, by the list of their kinds; and the tests of the two
--- tables say that a row's fields fill its length and that what a kind allows fits its width.
+-- Writing and reading undo each other, by every row at once of every table that is fit. A field's bytes give its value
+-- back, and its value its bytes, by the three widths; fields one after the other, by the list of their kinds; and the test of
+-- the table says that a row's fields fill its length and that what their kinds allow fits their widths.
 -- Assumes nothing.
-use Prim.Native.Nat.{ℕ, zero, suc, _+_, _-_, _*_, _/_, _%_, _≤_, _<_}
+use Prim.Native.Nat.{ℕ, zero, suc, _+_, _-_, _%_, _≤_, _<_}
 use mathlib.Core.Path.{_≡_, refl, sym, ap, _∙_, subst}
 use mathlib.Core.Bool.{Bool, true, false}
 use mathlib.Core.List.{List, [], _∷_, _++_, append-assoc}
@@ -11,15 +11,16 @@ use borrow.Author.Tests.{eq-eqb, eqb-true}
 use lib.Dec.{eqb}
 use lib.ListN.{length, getD, take, drop, replicate, length-append, length-drop, length-replicate, take-append-drop}
 use lib.Seq.{drop-at, drop-drop, getD-drop, take-add, drop-cons}
-use Rattle.frame.specs.Result.{Result, accepted, refused}
-use Rattle.groups.specs.Answer.{toldFinding, toldReading, toldWriting}
 use Rattle.frame.proofs.Inverse.{filled}
+use Rattle.frame.proofs.Laws.{word-low, word-high}
 use Rattle.frame.specs.Choice.{pick}
 use Rattle.frame.specs.Reading.{allFiller}
+use Rattle.frame.specs.Result.{Result, accepted, refused}
+use Rattle.groups.specs.Answer.{toldFinding, toldReading, toldWriting}
 use Rattle.groups.specs.Format.{sizeOf, sizesOf, kindsOf, values, rowAllows, valueOf, valuesOf, bytesOf, fieldsOf, groupOf, groupFrom, bytesFor}
-use Rattle.groups.specs.Reading.{judged, readRow, readBy, readIn, readOf}
+use Rattle.groups.specs.Reading.{judged, readRow, readBy, readIn}
 use Rattle.groups.specs.Table.{rows, findIn}
-use Rattle.groups.specs.Writing.{Outcome, outcome, writeRow, writeBy, writeIn, writeOf}
+use Rattle.groups.specs.Writing.{Outcome, outcome, writeRow, writeBy, writeIn}
 use Rattle.groups.specs.declared.Finding.{Finding}
 use Rattle.groups.specs.declared.Finding.the-variants as findings
 use Rattle.groups.specs.declared.Group.{Group}
@@ -58,13 +59,6 @@ untoldWriting (refused n) = writings.Refused n
 pub told-writing-whole : (r : Writing) → untoldWriting (toldWriting r) ≡ r
 told-writing-whole writings.Done = refl
 told-writing-whole (writings.Refused n) = refl
-
--- The two bytes of a word are those that it was made of.
-word-low : (low high : ℕ) → low < 256 → (low + 256 * high) % 256 ≡ low
-word-low low high l = omega arith
-
-word-high : (low high : ℕ) → low < 256 → high < 256 → (low + 256 * high) / 256 % 256 ≡ high
-word-high low high l h = omega arith
 
 -- A field: its bytes give the value back, whatever follows them,
 value-back : (w : Width) (v : ℕ) (s : List ℕ) → v < room w → valueOf w (bytesOf w v ++ s) ≡ v
@@ -118,16 +112,18 @@ filler-passes zero = refl
 filler-passes (suc n) = filler-passes n
 
 -- What passes a test that else refuses has passed it.
-gave : {A : Type 0} (test : Bool) (a : Result A) (n : ℕ) (b : A) → pick test a (refused n) ≡ accepted b → (test ≡ true) × (a ≡ accepted b)
+gave : {A : Type 0} (test : Bool) (a : Result A) (n : ℕ) (b : A) → pick test a (refused n) ≡ accepted b
+    → (test ≡ true) × (a ≡ accepted b)
 unfolding pick
 gave true a n b h = (refl, h)
 gave false a n b h = (cc, cc)
 
-did : (test : Bool) (o : Outcome) (n : ℕ) (s t : List ℕ) → pick test o (outcome (refused n) s) ≡ outcome (accepted tt) t
-    → (test ≡ true) × (o ≡ outcome (accepted tt) t)
+did : (test : Bool) (o : Outcome) (n : ℕ) (s t : List ℕ)
+    → pick test o (outcome (refused n) s) ≡ outcome (accepted tt) t → (test ≡ true) × (o ≡ outcome (accepted tt) t)
 unfolding pick
 did true o n s t h = (refl, h)
-did false o n s t h = absurd (let a = ap (λ (o : Outcome). o .answer) h in let z : _≡_ {A = ℕ} 0 1 = cc in omega arith)
+did false o n s t h =
+    absurd (let a = ap (λ (o : Outcome). o .answer) h in let z : _≡_ {A = ℕ} 0 1 = cc in omega arith)
 
 -- Past a row's own length are the bytes past its code and its fields.
 at-length : (n l : ℕ) → 1 + n ≡ l → (s : List ℕ) → drop l s ≡ drop n (drop 1 s)
@@ -208,9 +204,11 @@ module _ (table : List Row) (fit : Fits table) where
       let fields : List ℕ = fieldsOf ks (values g) in
       let size : length fields ≡ sizesOf ks = fields-length ks (values g) refl in
       let rest : List ℕ = replicate (7 - sizesOf ks) 255 in
-      let long : length (fields ++ rest) ≡ 7 = rw (length-append fields rest, size, length-replicate {A = ℕ} (7 - sizesOf ks) 255) (omega (arith, row .small)) in
+      let long : length (fields ++ rest) ≡ 7 =
+      rw (length-append fields rest, size, length-replicate {A = ℕ} (7 - sizesOf ks) 255) (omega (arith, row .small)) in
       let after : drop (x .length) (g .code ∷ fields ++ rest) ≡ rest =
-      at-length (sizesOf ks) (x .length) (row .filled) (g .code ∷ fields ++ rest) ∙ drop-at fields rest (sizesOf ks) size in
+      at-length (sizesOf ks) (x .length) (row .filled) (g .code ∷ fields ++ rest)
+      ∙ drop-at fields rest (sizesOf ks) size in
       record {
         row = x;
         eight = ap suc long;
@@ -220,15 +218,10 @@ module _ (table : List Row) (fit : Fits table) where
         fine = fine;
       }
 
-  -- WRITING AND THEN READING RESTORES EACH FIELD: what is written is read as the group that it was, of every row.
-  pub read-written-in : (g : Group) (s t : List ℕ) → writeIn table g s ≡ outcome (accepted tt) t → readIn table t ≡ accepted g
-  read-written-in g s t h =
-      let w = write-parts g s t h in
-      subst (λ (u : List ℕ). readIn table u ≡ accepted g) (w .bytes) (read-whole _ g (bytes-read g (w .row) (w .found) (w .fine)))
-
   -- The bytes of the values that a row's kinds find in eight bytes are those bytes.
-  read-bytes : (s : List ℕ) (x : Row) → length s ≡ 8 → ((n : ℕ) → getD s n 0 < 256) → findIn (getD s 0 0) table ≡ accepted x
-      → allFiller (drop (x .length) s) ≡ true → bytesFor (getD s 0 0) (kindsOf x) (valuesOf (kindsOf x) (drop 1 s)) ≡ s
+  read-bytes : (s : List ℕ) (x : Row) → length s ≡ 8 → ((n : ℕ) → getD s n 0 < 256)
+      → findIn (getD s 0 0) table ≡ accepted x → allFiller (drop (x .length) s) ≡ true
+      → bytesFor (getD s 0 0) (kindsOf x) (valuesOf (kindsOf x) (drop 1 s)) ≡ s
   unfolding bytesFor
   read-bytes s x eight bytes found filler =
       let ks : List Kind = kindsOf x in
@@ -236,7 +229,8 @@ module _ (table : List Row) (fit : Fits table) where
       let r : List ℕ = drop 1 s in
       let long : length r ≡ 7 = simp length-drop (omega arith) in
       let each : (n : ℕ) → getD r n 0 < 256 = λ n. rw getD-drop (bytes (1 + n)) in
-      let fields : fieldsOf ks (valuesOf ks r) ≡ take (sizesOf ks) r = fields-back ks r (omega (arith, row .small)) each in
+      let fields : fieldsOf ks (valuesOf ks r) ≡ take (sizesOf ks) r =
+      fields-back ks r (omega (arith, row .small)) each in
       let after : drop (x .length) s ≡ drop (sizesOf ks) r = at-length (sizesOf ks) (x .length) (row .filled) s in
       let left : length (drop (sizesOf ks) r) ≡ 7 - sizesOf ks = rw (length-drop (sizesOf ks) r, long) in
       let rest : drop (sizesOf ks) r ≡ replicate (7 - sizesOf ks) 255 =
@@ -244,27 +238,39 @@ module _ (table : List Row) (fit : Fits table) where
       let cut : getD s 0 0 ∷ r ≡ s = sym (drop-cons s 0 0 (omega arith)) in
       rw (fields, ← rest, take-append-drop (sizesOf ks) r) cut
 
-  -- READING AND THEN WRITING RESTORES THE EIGHT BYTES: a group that is read is written as the bytes that it came from.
-  pub written-read-in : (s : List ℕ) (g : Group) → ((n : ℕ) → getD s n 0 < 256) → readIn table s ≡ accepted g → (t : List ℕ) → length t ≡ 8
-      → writeIn table g t ≡ outcome (accepted tt) s
+  -- The group that was read is one that was written.
+  read-wrote : (s t : List ℕ) (g : Group) → ((n : ℕ) → getD s n 0 < 256) → length t ≡ 8 → Read s g → Wrote g t s
   unfolding groupFrom
-  written-read-in s g bytes h t eight =
-      let r = read-parts s g h in
+  read-wrote s t g bytes eight r =
       let x : Row = r .row in
-      write-whole g t s
-      (subst (λ (h : Group). rowAllows x (values h) ≡ true → Wrote h t s) (r .group)
+      let wrote : (h : Group) → Type 0 = λ h. rowAllows x (values h) ≡ true → Wrote h t s in
+      subst wrote (r .group)
       (λ fine. record {
         row = x;
         eight = eight;
         found = r .found;
         fine = fine;
         bytes = read-bytes s x (r .eight) bytes (r .found) (r .filler);
-      }) (r .fine))
+      }) (r .fine)
 
--- So they do by the current table.
-pub read-written : (g : Group) (s t : List ℕ) → writeOf g s ≡ outcome (accepted tt) t → readOf t ≡ accepted g
-read-written g s t h = read-written-in rows rows-fit g s t h
+-- WRITING AND THEN READING RESTORES EACH FIELD, AND READING AND THEN WRITING THE EIGHT BYTES: what is written is read as the
+-- group that it was, and a group that is read is written as the bytes that it came from.
+pub record RoundTrips (table : List Row) : Type 0 where
+  pub read-written : (g : Group) (s t : List ℕ) → writeIn table g s ≡ outcome (accepted tt) t
+      → readIn table t ≡ accepted g
+  pub written-read : (s : List ℕ) (g : Group) → ((n : ℕ) → getD s n 0 < 256) → readIn table s ≡ accepted g
+      → (t : List ℕ) → length t ≡ 8 → writeIn table g t ≡ outcome (accepted tt) s
 
-pub written-read : (s : List ℕ) (g : Group) → ((n : ℕ) → getD s n 0 < 256) → readOf s ≡ accepted g → (t : List ℕ) → length t ≡ 8
-    → writeOf g t ≡ outcome (accepted tt) s
-written-read s g bytes h t eight = written-read-in rows rows-fit s g bytes h t eight
+pub round-trips : (table : List Row) → Fits table → RoundTrips table
+round-trips table fit =
+    record {
+      read-written = λ g s t h. let w = write-parts table fit g s t h in
+          let r = bytes-read table fit g (w .row) (w .found) (w .fine) in
+          subst (λ (u : List ℕ). readIn table u ≡ accepted g) (w .bytes) (read-whole table fit _ g r);
+      written-read = λ s g bytes h t eight.
+          write-whole table fit g t s (read-wrote table fit s t g bytes eight (read-parts table fit s g h));
+    }
+
+-- So they do by document 01's table.
+pub rows-round-trip : RoundTrips rows
+rows-round-trip = round-trips rows rows-fit

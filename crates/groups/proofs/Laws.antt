@@ -2,7 +2,7 @@
 -- Assumes nothing.
 use Prim.Native.Nat.{ℕ, zero, suc, _+_, _-_, _*_, _/_, _%_, _<_, _≤_}
 use mathlib.Core.Path.{_≡_, refl, sym, ap, _∙_}
-use mathlib.Core.Bool.{Bool, true, false, _&&_, and-true}
+use mathlib.Core.Bool.{Bool, true, false, and-true}
 use mathlib.Core.List.{List, [], _∷_, _++_, append-assoc, append-nil}
 use native.Mathlib.Omega.{arith}
 use native.Mathlib.Nat.{add-zero, sub-zero, zero-sub, suc-sub-suc}
@@ -136,7 +136,9 @@ sender-vehicle (suc n) h = refl
 zero-allowed : (v : ℕ) → eqb v 0 ≡ allowed noField v
 unfolding allowed
 zero-allowed zero = refl
-zero-allowed (suc v) = rw (le-leb 0 (suc v) (omega arith), lt-leb (suc v) 0 (omega arith), ne-eqb (suc v) 0 (λ z. omega arith))
+zero-allowed (suc v) =
+    let other : suc v ≡ 0 → ⊥ = λ z. omega arith in
+    rw (le-leb 0 (suc v) (omega arith), lt-leb (suc v) 0 (omega arith), ne-eqb (suc v) 0 other)
 
 module _ (number v w : ℕ) (found : kindFrom w ≡ kindAt number) where
   pub allows-none : w ≡ 0 → eqb v 0 ≡ allowed (kindAt number) v
@@ -171,16 +173,16 @@ module _ (x y : Row) (a b c d : ℕ) (r : x ≡ y) {one : Bool} (e : one ≡ all
 
 -- The row of a code, by its word.
 module _ (code w : ℕ) (found : rowIn w ≡ findOf code) where
-  pub find-none : w ≡ 0 → refused 9 ≡ findOf code
+  pub find-unknown : w ≡ 0 → refused 9 ≡ findOf code
   unfolding pick
-  find-none z = rw z at found
+  find-unknown z = rw z at found
 
   find-row : (w ≡ 0 → ⊥) → accepted (rowFrom w) ≡ findOf code
   unfolding pick
   find-row z = rw (ne-eqb w 0 z) at found
 
-  pub find-given : {x : Row} → (w ≡ 0 → ⊥) → x ≡ rowFrom w → accepted x ≡ findOf code
-  find-given z e = rw e (find-row z)
+  pub find-known : {x : Row} → (w ≡ 0 → ⊥) → x ≡ rowFrom w → accepted x ≡ findOf code
+  find-known z e = rw e (find-row z)
 
   -- Its fields have room in eight bytes.
   pub row-sizes : (w ≡ 0 → ⊥) → sizesOf (kindsOf (rowFrom w)) ≤ 7
@@ -198,13 +200,14 @@ module _ (s : List ℕ) where
   module _ (w : ℕ) (eight : length s ≡ 8) (found : rowIn w ≡ findOf (getD s 0 0)) where
     pub read-unknown : w ≡ 0 → refused 9 ≡ readOf s
     unfolding readIn readBy pick
-    read-unknown z = rw (eq-eqb _ _ eight, ← find-none _ w found z)
+    read-unknown z = rw (eq-eqb _ _ eight, ← find-unknown _ w found z)
 
     pub read-known : {a : Result Group} → (w ≡ 0 → ⊥) → a ≡ readRow s (getD s 0 0) (rowFrom w) → a ≡ readOf s
     unfolding readIn readBy pick
     read-known z h = rw (eq-eqb _ _ eight, ← find-row _ w found z) h
 
-  module _ (code : ℕ) (x y : Row) (filler : Bool) (r : x ≡ y) (f : filler ≡ allFiller (drop (x .length) s)) where
+  module _ (code : ℕ) (x y : Row) (filler : Bool) (r : x ≡ y)
+      (f : filler ≡ allFiller (drop (x .length) s)) where
     pub read-unfilled : filler ≡ false → refused 9 ≡ readRow s code y
     unfolding readRow pick
     read-unfilled h = rw (← r, ← f, h)
@@ -228,7 +231,7 @@ module _ (g : Group) (s : List ℕ) where
   module _ (w : ℕ) (eight : length s ≡ 8) (found : rowIn w ≡ findOf (g .code)) where
     pub write-unknown : w ≡ 0 → outcome (refused 9) s ≡ writeOf g s
     unfolding writeIn writeBy pick
-    write-unknown z = rw (eq-eqb _ _ eight, ← find-none _ w found z)
+    write-unknown z = rw (eq-eqb _ _ eight, ← find-unknown _ w found z)
 
     pub write-known : {o : Outcome} → (w ≡ 0 → ⊥) → o ≡ writeRow g s (rowFrom w) → o ≡ writeOf g s
     unfolding writeIn writeBy pick
@@ -244,9 +247,9 @@ module _ (g : Group) (s : List ℕ) where
     unfolding writeRow pick
     write-value k = rw (← ef, k)
 
-pub ruleset judging = (allows-none, allows-kind, row-first, row-second, row-third, row-fourth)
+pub ruleset judging = (allows-none, allows-kind)
 
-pub ruleset finding = (find-none, find-given)
+pub ruleset finding = (find-unknown, find-known)
 
 pub ruleset reading = (read-length, read-known, read-unknown, read-unfilled, read-fine, read-value)
 

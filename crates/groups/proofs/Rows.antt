@@ -47,7 +47,8 @@ room Word = 65536
 
 -- What a kind allows fits its width if the highest value of its range and its marks do.
 abbrev kindFits : Kind → Bool
-kindFits k = ltb (k .high) (room (k .width)) && ltb (k .mark) (room (k .width)) && ltb (k .other) (room (k .width))
+kindFits k =
+    let top : ℕ = room (k .width) in ltb (k .high) top && ltb (k .mark) top && ltb (k .other) top
 
 -- A table is fit to be read and written by: the fields of each row and its code fill its length, which is at most eight, and
 -- the kinds of its fields fit their widths.
@@ -68,7 +69,8 @@ pub record Known (code : ℕ) (x : Row) : Type 0 where
   pub small : sizesOf (kindsOf x) ≤ 7
   pub fitting : every kindFits (kindsOf x) ≡ true
 
-pub known : (table : List Row) → Fits table → (code : ℕ) (x : Row) → findIn code table ≡ accepted x → Known code x
+pub known : (table : List Row) → Fits table → (code : ℕ) (x : Row) → findIn code table ≡ accepted x
+    → Known code x
 known table fit code x e =
     let at = at-code rowFits code x table fit e in
     let fill : Bool = eqb (1 + sizesOf (kindsOf x)) (x .length) in

@@ -2,7 +2,7 @@
 -- stands in them: that its words stand for it is one computed test of each table.
 -- Assumes nothing.
 use Prim.Native.Nat.{ℕ, _+_, _%_, _≤_, _<_}
-use mathlib.Core.Path.{_≡_, refl, sym, ap, _∙_}
+use mathlib.Core.Path.{_≡_, refl, ap, _∙_}
 use mathlib.Core.Bool.{Bool, true, false, _&&_, and-eq-true-iff}
 use mathlib.Core.List.{List, [], _∷_, map}
 use native.Mathlib.Omega.{arith}
@@ -23,7 +23,8 @@ module _ (key : ℕ) (ws : List ℕ) (i : ℕ) where
   unfolding wordIn pick
   word-here h e = rw (drop-cons ws i 0 h, eq-eqb _ _ e)
 
-  pub word-on : i < length ws → (getD ws i 0 % 256 ≡ key → ⊥) → wordIn key (drop i ws) ≡ wordIn key (drop (i + 1) ws)
+  pub word-on : i < length ws → (getD ws i 0 % 256 ≡ key → ⊥)
+      → wordIn key (drop i ws) ≡ wordIn key (drop (i + 1) ws)
   unfolding wordIn pick
   word-on h e = rw (add-one, drop-cons ws i 0 h, ne-eqb _ _ e)
 
@@ -43,15 +44,16 @@ unfolding pick
 row-step w v a true h e = rw (ne-eqb w 0 (λ z. omega arith))
 row-step w v a false h e = e
 
-row-found : (code : ℕ) (ws : List ℕ) → every (ltb 0) ws ≡ true → rowIn (wordIn code ws) ≡ findIn code (map rowFrom ws)
+row-found : (code : ℕ) (ws : List ℕ) → every (ltb 0) ws ≡ true
+    → rowIn (wordIn code ws) ≡ findIn code (map rowFrom ws)
 unfolding wordIn findIn rowFrom pick
 row-found code [] h = refl
 row-found code (w ∷ rest) h =
     let both = and-eq-true-iff (ltb 0 w) (every (ltb 0) rest) .0 h in
     row-step w _ _ (eqb (w % 256) code) (ltb-true _ _ (both .0)) (row-found code rest (both .1))
 
-pub row-of : {w : ℕ} (code : ℕ) (ws : List ℕ) (table : List Row) → w ≡ wordIn code ws → every (ltb 0) ws ≡ true
-    → map rowFrom ws ≡ table → rowIn w ≡ findIn code table
+pub row-of : {w : ℕ} (code : ℕ) (ws : List ℕ) (table : List Row) → w ≡ wordIn code ws
+    → every (ltb 0) ws ≡ true → map rowFrom ws ≡ table → rowIn w ≡ findIn code table
 row-of code ws table e h same = ap rowIn e ∙ row-found code ws h ∙ ap (findIn code) same
 
 -- and words of kinds as those kinds, where 0 stands for no field.
@@ -69,6 +71,6 @@ kind-found number [] = refl
 kind-found number (w ∷ rest) =
     kind-step w (wordIn number rest) (eqb (w % 256) number) ∙ rw (kind-found number rest)
 
-pub kind-of : {w : ℕ} (number : ℕ) (ws : List ℕ) (table : List Line) → w ≡ wordIn number ws → map lineFrom ws ≡ table
-    → kindFrom w ≡ kindIn number table
+pub kind-of : {w : ℕ} (number : ℕ) (ws : List ℕ) (table : List Line) → w ≡ wordIn number ws
+    → map lineFrom ws ≡ table → kindFrom w ≡ kindIn number table
 kind-of number ws table e same = ap kindFrom e ∙ kind-found number ws ∙ ap (kindIn number) same

@@ -1,10 +1,11 @@
 -- How a group stands in its bytes: the code, then its fields one after the other, then filler. Document 01: "Words of two
 -- bytes go low byte first"; Groups: "A group is read from and written to eight lent bytes, 0xFF after its own length".
-use Prim.Native.Nat.{ℕ, _+_, _-_, _*_, _/_, _%_}
+use Prim.Native.Nat.{ℕ, _+_, _-_}
 use mathlib.Core.Bool.{Bool, true, _&&_, _||_}
 use mathlib.Core.List.{List, [], _∷_, _++_}
 use lib.Dec.{eqb, leb}
 use lib.ListN.{getD, drop, replicate}
+use Rattle.frame.specs.Count.{lowByte, highByte, wordOf}
 use Rattle.groups.specs.Table.{kindAt}
 use Rattle.groups.specs.declared.Group.{Group}
 use Rattle.groups.specs.declared.Kind.{Kind}
@@ -46,7 +47,7 @@ rowAllows x vs = allAllowed (kindsOf x) vs
 abbrev pub valueOf : Width → List ℕ → ℕ
 valueOf None s = 0
 valueOf Byte s = getD s 0 0
-valueOf Word s = getD s 0 0 + 256 * getD s 1 0
+valueOf Word s = wordOf (getD s 0 0) (getD s 1 0)
 
 abbrev pub valuesOf : List Kind → List ℕ → List ℕ
 valuesOf [] s = []
@@ -55,8 +56,8 @@ valuesOf (k ∷ ks) s = valueOf (k .width) s ∷ valuesOf ks (drop (sizeOf (k .w
 -- the bytes of a value in a field, and of values in fields one after the other
 abbrev pub bytesOf : Width → ℕ → List ℕ
 bytesOf None v = []
-bytesOf Byte v = v % 256 ∷ []
-bytesOf Word v = v % 256 ∷ v / 256 % 256 ∷ []
+bytesOf Byte v = lowByte v ∷ []
+bytesOf Word v = lowByte v ∷ highByte v ∷ []
 
 abbrev pub fieldsOf : List Kind → List ℕ → List ℕ
 fieldsOf [] vs = []

@@ -4,8 +4,8 @@ ghost use Prim.Native.Nat.{_≤_};
 ghost use Rattle.groups.specs.Answer.{toldFinding};
 ghost use Rattle.groups.specs.Table.{findOf};
 ghost use Rattle.groups.specs.Format.{sizeOf};
-use table::row_from;
-use table::row_word;
+use crate::table::row_from;
+use crate::table::row_word;
 
 mod judge;
 pub mod read;

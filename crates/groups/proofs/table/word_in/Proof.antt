@@ -1,5 +1,5 @@
--- `groups::table::word_in` meets its contract. The invariant: looking through the whole table finds what looking from word i on finds. The
--- measure is what is left of the table.
+-- `groups::table::word_in` meets its contract. The invariant: looking through the whole table finds what looking from word i on
+-- finds. The measure is what is left of the table.
 -- Assumes nothing.
 use Prim.Native.Nat.{_-_}
 use mathlib.Core.Path.{_≡_, refl, _∙_, sym}
