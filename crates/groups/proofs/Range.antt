@@ -10,6 +10,7 @@ use native.Mathlib.Omega.{arith}
 use borrow.Author.Tests.{eq-eqb, le-leb, leb-true, eqb-true}
 use lib.Dec.{eqb, leb}
 use lib.ListN.{length, getD, drop}
+use Rattle.frame.proofs.Choice.{pick-elim}
 use Rattle.frame.specs.Choice.{pick}
 use Rattle.frame.specs.Reading.{allFiller}
 use Rattle.frame.specs.Result.{Result, accepted, refused}
@@ -93,7 +94,8 @@ module _ (table : List Row) where
 
   -- Writing a group whose code has a row into eight bytes: values in range are written, others are refused 10 and leave the
   -- bytes.
-  module _ (g : Group) (s : List ℕ) (x : Row) (eight : length s ≡ 8) (found : findIn (g .code) table ≡ accepted x) where
+  module _ (g : Group) (s : List ℕ) (x : Row) (eight : length s ≡ 8)
+      (found : findIn (g .code) table ≡ accepted x) where
     pub write-in-range : Takes x (values g)
         → writeIn table g s ≡ outcome (accepted tt) (bytesFor (g .code) (kindsOf x) (values g))
     unfolding writeIn writeBy writeRow pick
@@ -103,28 +105,26 @@ module _ (table : List Row) where
     unfolding writeIn writeBy writeRow pick
     write-out-of-range h = rw (eq-eqb _ _ eight, found, not-taken x (values g) h _ refl)
 
--- Every refused write leaves the bytes.
-kept : (g : Group) (s : List ℕ) (x : Row) (t : Bool) (n : ℕ) (u : List ℕ)
-    → pick t (outcome (accepted tt) (bytesFor (g .code) (kindsOf x) (values g))) (outcome (refused 10) s) ≡ outcome (refused n) u → u ≡ s
-unfolding pick
-kept g s x true n u h = absurd (let a = ap (λ (o : Outcome). o .answer) h in let z : _≡_ {A = ℕ} 0 1 = cc in omega arith)
-kept g s x false n u h = sym (ap (λ (o : Outcome). o .bytes) h)
+-- Every refused write leaves the bytes: each of its tests ends in a refusal with the bytes as they were.
+module _ (s : List ℕ) (n : ℕ) (u : List ℕ) where
+  abbrev Leaves : Outcome → Type 0
+  Leaves o = o ≡ outcome (refused n) u → u ≡ s
 
-kept-by : (g : Group) (s : List ℕ) (a : Result Row) (n : ℕ) (u : List ℕ) → writeBy g s a ≡ outcome (refused n) u → u ≡ s
-unfolding writeBy writeRow
-kept-by g s (accepted x) n u h = kept g s x _ n u h
-kept-by g s (refused m) n u h = sym (ap (λ (o : Outcome). o .bytes) h)
+  left : (m : ℕ) → Leaves (outcome (refused m) s)
+  left m h = sym (ap (λ (o : Outcome). o .bytes) h)
 
-kept-length : (g : Group) (s : List ℕ) (a : Result Row) (t : Bool) (n : ℕ) (u : List ℕ)
-    → pick t (writeBy g s a) (outcome (refused 9) s) ≡ outcome (refused n) u → u ≡ s
-unfolding pick
-kept-length g s a true n u h = kept-by g s a n u h
-kept-length g s a false n u h = sym (ap (λ (o : Outcome). o .bytes) h)
+  done : (t : List ℕ) → Leaves (outcome (accepted tt) t)
+  done t h = absurd (let a = ap (λ (o : Outcome). o .answer) h in let z : _≡_ {A = ℕ} 0 1 = cc in omega arith)
 
-pub write-refused-leaves : (table : List Row) (g : Group) (s : List ℕ) (n : ℕ) (u : List ℕ)
-    → writeIn table g s ≡ outcome (refused n) u → u ≡ s
-unfolding writeIn
-write-refused-leaves table g s n u h = kept-length g s (findIn (g .code) table) (eqb (length s) 8) n u h
+  leaves-by : (g : Group) (a : Result Row) → Leaves (writeBy g s a)
+  unfolding writeBy writeRow
+  leaves-by g (accepted x) = pick-elim Leaves (rowAllows x (values g)) (λ fine. done _) (λ value. left 10)
+  leaves-by g (refused m) = left m
+
+  pub write-refused-leaves : (table : List Row) (g : Group) → Leaves (writeIn table g s)
+  unfolding writeIn
+  write-refused-leaves table g =
+      pick-elim Leaves (eqb (length s) 8) (λ eight. leaves-by g (findIn (g .code) table)) (λ other. left 9)
 
 -- "Only the fields of 77 may be missing": a row has a field that takes a mark for missing, 0xFFFE or 0xFFFF in a word or 0xFE in
 -- a byte, just if its code is 0x77. (0xFF in a byte is also the reason "other" of 0x75.) One test of the whole table.

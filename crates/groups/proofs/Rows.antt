@@ -63,14 +63,13 @@ pub rows-fit : Fits rows
 unfolding rows kinds kindAt kindIn pick
 rows-fit = refl
 
-pub record Known (code : ℕ) (x : Row) : Type 0 where
-  pub coded : x .code ≡ code
+pub record Known (x : Row) : Type 0 where
   pub filled : 1 + sizesOf (kindsOf x) ≡ x .length
   pub small : sizesOf (kindsOf x) ≤ 7
   pub fitting : every kindFits (kindsOf x) ≡ true
 
 pub known : (table : List Row) → Fits table → (code : ℕ) (x : Row) → findIn code table ≡ accepted x
-    → Known code x
+    → Known x
 known table fit code x e =
     let at = at-code rowFits code x table fit e in
     let fill : Bool = eqb (1 + sizesOf (kindsOf x)) (x .length) in
@@ -78,7 +77,7 @@ known table fit code x e =
     let both = and-eq-true-iff fill (leb (x .length) 8) .0 (all .0) in
     let filled : 1 + sizesOf (kindsOf x) ≡ x .length = eqb-true _ _ (both .0) in
     let short : x .length ≤ 8 = leb-true _ _ (both .1) in
-    record { coded = at .1; filled = filled; small = omega arith; fitting = all .1 }
+    record { filled = filled; small = omega arith; fitting = all .1 }
 
 -- a test of three parts passes by one of them
 pub one-of : (a b c : Bool) (P : Type 0) → (a || b || c) ≡ true → (a ≡ true → P) → (b ≡ true → P) → (c ≡ true → P) → P
@@ -117,6 +116,6 @@ fit-all (k ∷ ks) (v ∷ vs) h a =
     (allowed-fits k v (fit .0) (fine .0), fit-all ks vs (fit .1) (fine .1))
 
 -- and so if a row does that is found.
-pub all-fit : {code : ℕ} (x : Row) (vs : List ℕ) → Known code x → rowAllows x vs ≡ true → Fit (kindsOf x) vs
+pub all-fit : (x : Row) (vs : List ℕ) → Known x → rowAllows x vs ≡ true → Fit (kindsOf x) vs
 unfolding rowAllows
 all-fit x vs k a = fit-all (kindsOf x) vs (k .fitting) a
