@@ -31,7 +31,7 @@ const TEMP: u64 = 9;
 const PAUSE: u64 = 10;
 
 // A kind's parts: number, width, lowest and highest value, and two marks. Where a kind has no marks, its lowest value stands
-// for them.
+// for them. A part that a line does not name is 0.
 const BYTE: u64 = 0x100;
 
 const WORD: u64 = 0x200;
@@ -44,6 +44,7 @@ const MARK: u64 = 0x100000000;
 
 const OTHER: u64 = 0x1000000000000;
 
+// The kinds of fields.
 const KINDS: [u64; 10] = [
     READY + BYTE + 1 * HIGH,
     VOLTAGE + WORD + 65000 * HIGH,
@@ -57,7 +58,7 @@ const KINDS: [u64; 10] = [
     PAUSE + BYTE + 0xAA * MARK,
 ];
 
-// A group's parts: code, length, sender, reliability, and the kinds of its fields.
+// A row's parts: code, length in bytes with the code's, sender, reliability, and the kinds of up to four fields.
 const LENGTH: u64 = 0x100;
 
 const CHARGER: u64 = 0;
@@ -76,6 +77,7 @@ const THIRD: u64 = 0x10000000000;
 
 const FOURTH: u64 = 0x1000000000000;
 
+// The groups.
 const GROUPS: [u64; 9] = [
     0x71 + 2 * LENGTH + CHARGER + UNRELIABLE + READY * FIRST,
     0x72 + 4 * LENGTH + VEHICLE + UNRELIABLE + READY * FIRST + VOLTAGE * SECOND,
@@ -83,14 +85,7 @@ const GROUPS: [u64; 9] = [
     0x74 + 5 * LENGTH + VEHICLE + UNRELIABLE + CHARGE * FIRST + MINUTES * SECOND,
     0x75 + 4 * LENGTH + CHARGER + UNRELIABLE + CURRENT * FIRST + REASON * SECOND,
     0x76 + 5 * LENGTH + CHARGER + UNRELIABLE + VOLTAGE * FIRST + CURRENT * SECOND,
-    0x77
-        + 7 * LENGTH
-        + VEHICLE
-        + UNRELIABLE
-        + CELL * FIRST
-        + CELL * SECOND
-        + TEMP * THIRD
-        + TEMP * FOURTH,
+    0x77 + 7 * LENGTH + VEHICLE + UNRELIABLE + CELL * (FIRST + SECOND) + TEMP * (THIRD + FOURTH),
     0x78 + 2 * LENGTH + CHARGER + RELIABLE + PAUSE * FIRST,
     0x79 + 2 * LENGTH + VEHICLE + RELIABLE + PAUSE * FIRST,
 ];
@@ -110,6 +105,7 @@ fn word_in(table: &[u64], key: u64) -> u64
     0
 }
 
+// A width from its part of a kind's word.
 fn width_from(number: u64) -> Width
     ensures { λ r. ⌜ r ≡ widthFrom number ⌝ }
 {
@@ -150,6 +146,7 @@ pub fn width_at(number: usize) -> Width
     kind.width
 }
 
+// A sender from its part of a row's word.
 fn sender_from(number: u64) -> Sender
     ensures { λ r. ⌜ r ≡ senderFrom number ⌝ }
 {
