@@ -81,15 +81,22 @@ kinds =
     ∷ kind pause Byte 0x00 0x00 0xAA 0x00
     ∷ []
 
+-- whether the receipt of a group is confirmed (H.2, "message type")
+abbrev reliable : Bool
+reliable = true
+
+abbrev unreliable : Bool
+unreliable = false
+
 -- A row of the table of groups: code, length in bytes with the code's, sender, reliable or not, and the kinds of up to four
 -- fields.
 abbrev row : ℕ → ℕ → Sender → Bool → ℕ → ℕ → ℕ → ℕ → Row
-row code length sender reliable first second third fourth =
+row code length sender confirmed first second third fourth =
     record {
       code = code;
       length = length;
       sender = sender;
-      reliable = reliable;
+      reliable = confirmed;
       first = first;
       second = second;
       third = third;
@@ -101,23 +108,23 @@ row code length sender reliable first second third fourth =
 unfoldable pub rows : List Row
 rows =
     -- H.3 the charger is ready
-    row 0x71 2 Charger false ready absent absent absent
+    row 0x71 2 Charger unreliable ready absent absent absent
     -- H.4 the vehicle is ready
-    ∷ row 0x72 4 Vehicle false ready voltage absent absent
+    ∷ row 0x72 4 Vehicle unreliable ready voltage absent absent
     -- H.5 what the vehicle asks for
-    ∷ row 0x73 6 Vehicle false voltage current mode absent
+    ∷ row 0x73 6 Vehicle unreliable voltage current mode absent
     -- H.6 the vehicle's charging
-    ∷ row 0x74 5 Vehicle false charge minutes absent absent
+    ∷ row 0x74 5 Vehicle unreliable charge minutes absent absent
     -- H.7 what the charger can give
-    ∷ row 0x75 4 Charger false current reason absent absent
+    ∷ row 0x75 4 Charger unreliable current reason absent absent
     -- H.8 the charger's charging
-    ∷ row 0x76 5 Charger false voltage current absent absent
+    ∷ row 0x76 5 Charger unreliable voltage current absent absent
     -- H.9 the vehicle's battery: highest and lowest voltage, highest and lowest temperature
-    ∷ row 0x77 7 Vehicle false cell cell temp temp
+    ∷ row 0x77 7 Vehicle unreliable cell cell temp temp
     -- H.10 the charger pauses
-    ∷ row 0x78 2 Charger true pause absent absent absent
+    ∷ row 0x78 2 Charger reliable pause absent absent absent
     -- H.11 the vehicle pauses
-    ∷ row 0x79 2 Vehicle true pause absent absent absent
+    ∷ row 0x79 2 Vehicle reliable pause absent absent absent
     ∷ []
 
 -- the kind with a number; of a number that no kind has, no byte, and the value 0
