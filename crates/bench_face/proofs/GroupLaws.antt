@@ -6,7 +6,8 @@ use mathlib.Core.Logic.{inl, inr}
 use mathlib.Core.Path.{_≡_, refl, ap, _∙_}
 use native.Mathlib.Omega.{arith}
 use Rattle.frame.specs.Choice.{pick}
-use Rattle.groups.specs.Answer.{Answer, given, refused, toldFinding, toldReading, toldWriting}
+use Rattle.frame.specs.Result.{Result, accepted, refused}
+use Rattle.groups.specs.Answer.{toldFinding, toldReading, toldWriting}
 use Rattle.groups.specs.Reading.{readOf}
 use Rattle.groups.specs.Table.{findOf}
 use Rattle.groups.specs.Writing.{Outcome, outcome, writeOf}
@@ -30,15 +31,15 @@ use Rattle.bench_face.specs.declared.group.FlatFinding.{FlatFinding}
 -- ---- paths
 
 module _ {a : Reading} where
-  pub read-given : {g : Group} {f : FlatGroup} → f ≡ groupOut g → a ≡ readings.Group g
+  pub read-accepted : {g : Group} {f : FlatGroup} → f ≡ groupOut g → a ≡ readings.Group g
       → record { outcome = 0; refusal = 0; group = f } ≡ readingOut (toldReading a)
-  read-given w e = rw (e, w)
+  read-accepted w e = rw (e, w)
 
   pub read-refused : {n : ℕ} → a ≡ readings.Refused n
       → record { outcome = 1; refusal = n; group = noGroup } ≡ readingOut (toldReading a)
   read-refused e = rw e
 
-pub read-through : (s : List ℕ) {r : FlatGroupReading} {a : Answer Group} → r ≡ readingOut a → a ≡ readOf s
+pub read-through : (s : List ℕ) {r : FlatGroupReading} {a : Result Group} → r ≡ readingOut a → a ≡ readOf s
     → r ≡ readingOut (readOf s)
 read-through s w e = w ∙ ap readingOut e
 
@@ -49,7 +50,7 @@ module _ {a : Writing} where
   pub write-refused : {n : ℕ} → a ≡ writings.Refused n → record { outcome = 1; refusal = n } ≡ writingOut (toldWriting a)
   write-refused e = rw e
 
-pub write-through : (s : List ℕ) {t : List ℕ} {r : FlatGroupWriting} {a : Answer Unit} {x y : Group} → r ≡ writingOut a
+pub write-through : (s : List ℕ) {t : List ℕ} {r : FlatGroupWriting} {a : Result Unit} {x y : Group} → r ≡ writingOut a
     → outcome a t ≡ writeOf x s → x ≡ y → written r t ≡ writtenOut (writeOf y s)
 write-through s {t} w e x =
     ap (λ (f : FlatGroupWriting). written f t) w ∙ ap writtenOut (e ∙ ap (λ (g : Group). writeOf g s) x)
@@ -70,26 +71,26 @@ pub row-out : (x : Row) {n : ℕ} → n ≡ senderNumber (x .sender)
 row-out x e = rw e
 
 module _ {a : Finding} where
-  pub find-given : {x : Row} {f : FlatRow} → f ≡ rowOut x → a ≡ findings.Row x
+  pub find-accepted : {x : Row} {f : FlatRow} → f ≡ rowOut x → a ≡ findings.Row x
       → record { outcome = 0; refusal = 0; row = f } ≡ findingOut (toldFinding a)
-  find-given w e = rw (e, w)
+  find-accepted w e = rw (e, w)
 
   pub find-refused : {n : ℕ} → a ≡ findings.Refused n
       → record { outcome = 1; refusal = n; row = noRow } ≡ findingOut (toldFinding a)
   find-refused e = rw e
 
-pub find-through : (n : ℕ) {r : FlatFinding} {a : Answer Row} → r ≡ findingOut a → a ≡ findOf n → r ≡ findingOut (findOf n)
+pub find-through : (n : ℕ) {r : FlatFinding} {a : Result Row} → r ≡ findingOut a → a ≡ findOf n → r ≡ findingOut (findOf n)
 find-through n w e = w ∙ ap findingOut e
 
 pub ruleset group-paths = (
-  read-given,
+  read-accepted,
   read-refused,
   read-through,
   write-done,
   write-refused,
   write-through,
   row-out,
-  find-given,
+  find-accepted,
   find-refused,
   find-through,
 )
@@ -104,13 +105,13 @@ pub group-written : (f : FlatGroup) → groupOut (groupIn f) ≡ f
 group-written f = refl
 
 -- answers: every value comes back; a flat answer that writing makes comes back; and writing makes no others
-pub reading-read : (a : Answer Group) → readingIn (readingOut a) ≡ a
+pub reading-read : (a : Result Group) → readingIn (readingOut a) ≡ a
 unfolding readingIn pick
-reading-read (given g) = refl
+reading-read (accepted g) = refl
 reading-read (refused n) = refl
 
-pub reading-made : (a : Answer Group) → ReadingMade (readingOut a)
-reading-made (given g) = inl (refl, refl)
+pub reading-made : (a : Result Group) → ReadingMade (readingOut a)
+reading-made (accepted g) = inl (refl, refl)
 reading-made (refused n) = inr (refl, refl)
 
 pub reading-written : (f : FlatGroupReading) → ReadingMade f → readingOut (readingIn f) ≡ f
@@ -122,13 +123,13 @@ reading-written f made = go (f .outcome) (f .refusal) (f .group) made
     go o r g (inl h) = rw (h .0, h .1)
     go o r g (inr h) = rw (h .0, h .1)
 
-pub writing-read : (a : Answer Unit) → writingIn (writingOut a) ≡ a
+pub writing-read : (a : Result Unit) → writingIn (writingOut a) ≡ a
 unfolding writingIn pick
-writing-read (given u) = refl
+writing-read (accepted u) = refl
 writing-read (refused n) = refl
 
-pub writing-made : (a : Answer Unit) → WritingMade (writingOut a)
-writing-made (given u) = inl (refl, refl)
+pub writing-made : (a : Result Unit) → WritingMade (writingOut a)
+writing-made (accepted u) = inl (refl, refl)
 writing-made (refused n) = inr refl
 
 pub writing-written : (f : FlatGroupWriting) → WritingMade f → writingOut (writingIn f) ≡ f
@@ -142,7 +143,7 @@ writing-written f made = go (f .outcome) (f .refusal) made
 
 -- with the lent bytes
 pub written-read : (o : Outcome) → writtenIn (writtenOut o) ≡ o
-written-read o = ap (λ (a : Answer Unit). outcome a (o .bytes)) (writing-read (o .answer))
+written-read o = ap (λ (a : Result Unit). outcome a (o .bytes)) (writing-read (o .answer))
 
 pub written-written : (w : Written) → WritingMade (w .answer) → writtenOut (writtenIn w) ≡ w
 written-written w made = ap (λ (f : FlatGroupWriting). written f (w .bytes)) (writing-written (w .answer) made)
@@ -169,13 +170,13 @@ row-read x = rw (sender-read (x .sender))
 pub row-written : (f : FlatRow) → f .sender ≤ 1 → rowOut (rowIn f) ≡ f
 row-written f h = rw (sender-written (f .sender) h)
 
-pub finding-read : (a : Answer Row) → findingIn (findingOut a) ≡ a
+pub finding-read : (a : Result Row) → findingIn (findingOut a) ≡ a
 unfolding findingIn pick
-finding-read (given x) = ap given (row-read x)
+finding-read (accepted x) = ap accepted (row-read x)
 finding-read (refused n) = refl
 
-pub finding-made : (a : Answer Row) → FindingMade (findingOut a)
-finding-made (given x) = inl (refl, refl, sender-made (x .sender))
+pub finding-made : (a : Result Row) → FindingMade (findingOut a)
+finding-made (accepted x) = inl (refl, refl, sender-made (x .sender))
 finding-made (refused n) = inr (refl, refl)
 
 pub finding-written : (f : FlatFinding) → FindingMade f → findingOut (findingIn f) ≡ f

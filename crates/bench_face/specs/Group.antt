@@ -7,7 +7,7 @@ use mathlib.Core.Logic.{_⊎_}
 use mathlib.Core.Path.{_≡_}
 use lib.Dec.{eqb}
 use Rattle.frame.specs.Choice.{pick}
-use Rattle.groups.specs.Answer.{Answer, given, refused}
+use Rattle.frame.specs.Result.{Result, accepted, refused}
 use Rattle.groups.specs.Writing.{Outcome, outcome}
 use Rattle.groups.specs.declared.Group.{Group}
 use Rattle.groups.specs.declared.Row.{Row}
@@ -30,25 +30,25 @@ groupOut g = record { code = g .code; first = g .first; second = g .second; thir
 abbrev pub noGroup : FlatGroup
 noGroup = record { code = 0; first = 0; second = 0; third = 0; fourth = 0 }
 
-abbrev pub readingOut : Answer Group → FlatGroupReading
-readingOut (given g) = record { outcome = 0; refusal = 0; group = groupOut g }
+abbrev pub readingOut : Result Group → FlatGroupReading
+readingOut (accepted g) = record { outcome = 0; refusal = 0; group = groupOut g }
 readingOut (refused n) = record { outcome = 1; refusal = n; group = noGroup }
 
 -- an outcome that is not 1 is read as 0
-unfoldable pub readingIn : FlatGroupReading → Answer Group
-readingIn f = pick (eqb (f .outcome) 1) (refused (f .refusal)) (given (groupIn (f .group)))
+unfoldable pub readingIn : FlatGroupReading → Result Group
+readingIn f = pick (eqb (f .outcome) 1) (refused (f .refusal)) (accepted (groupIn (f .group)))
 
 -- the flat answers that writing makes
 abbrev pub ReadingMade : FlatGroupReading → Type 0
 ReadingMade f = ((f .outcome ≡ 0) × (f .refusal ≡ 0)) ⊎ ((f .outcome ≡ 1) × (f .group ≡ noGroup))
 
 -- what writing answers: outcome 0 done, 1 refused
-abbrev pub writingOut : Answer Unit → FlatGroupWriting
-writingOut (given u) = record { outcome = 0; refusal = 0 }
+abbrev pub writingOut : Result Unit → FlatGroupWriting
+writingOut (accepted u) = record { outcome = 0; refusal = 0 }
 writingOut (refused n) = record { outcome = 1; refusal = n }
 
-unfoldable pub writingIn : FlatGroupWriting → Answer Unit
-writingIn f = pick (eqb (f .outcome) 1) (refused (f .refusal)) (given tt)
+unfoldable pub writingIn : FlatGroupWriting → Result Unit
+writingIn f = pick (eqb (f .outcome) 1) (refused (f .refusal)) (accepted tt)
 
 abbrev pub WritingMade : FlatGroupWriting → Type 0
 WritingMade f = ((f .outcome ≡ 0) × (f .refusal ≡ 0)) ⊎ (f .outcome ≡ 1)
@@ -106,12 +106,12 @@ rowIn f =
 abbrev pub noRow : FlatRow
 noRow = record { code = 0; length = 0; sender = 0; reliable = false; first = 0; second = 0; third = 0; fourth = 0 }
 
-abbrev pub findingOut : Answer Row → FlatFinding
-findingOut (given x) = record { outcome = 0; refusal = 0; row = rowOut x }
+abbrev pub findingOut : Result Row → FlatFinding
+findingOut (accepted x) = record { outcome = 0; refusal = 0; row = rowOut x }
 findingOut (refused n) = record { outcome = 1; refusal = n; row = noRow }
 
-unfoldable pub findingIn : FlatFinding → Answer Row
-findingIn f = pick (eqb (f .outcome) 1) (refused (f .refusal)) (given (rowIn (f .row)))
+unfoldable pub findingIn : FlatFinding → Result Row
+findingIn f = pick (eqb (f .outcome) 1) (refused (f .refusal)) (accepted (rowIn (f .row)))
 
 abbrev pub FindingMade : FlatFinding → Type 0
 FindingMade f =

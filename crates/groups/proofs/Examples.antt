@@ -4,16 +4,16 @@
 use Prim.Native.Nat.{ℕ}
 use mathlib.Core.Path.{_≡_, refl}
 use mathlib.Core.List.{List, [], _∷_, map}
-use Rattle.groups.specs.Answer.{Answer, given, refused}
 use Rattle.frame.specs.Choice.{pick}
 use Rattle.frame.specs.Reading.{allFiller}
-use Rattle.groups.specs.Format.{values, allowed, groupFrom}
-use Rattle.groups.specs.Reading.{judged, readRow, readBy, readOf}
-use Rattle.groups.specs.Table.{kindLines, groupLines, kindAt, findIn, findOf}
+use Rattle.frame.specs.Result.{Result, accepted, refused}
+use Rattle.groups.specs.Format.{values, allowed, rowAllows, groupFrom}
+use Rattle.groups.specs.Reading.{judged, readRow, readBy, readIn, readOf}
+use Rattle.groups.specs.Table.{kinds, kindIn, kindAt, rows, findIn}
 use Rattle.groups.specs.declared.Group.{Group}
 
-abbrev flat : Answer Group → List ℕ
-flat (given g) = g .code ∷ values g
+abbrev flat : Result Group → List ℕ
+flat (accepted g) = g .code ∷ values g
 flat (refused n) = n ∷ []
 
 -- what is lent, and what reading it answers
@@ -67,5 +67,5 @@ cases =
     ∷ []
 
 pub read-as-worked : map (λ (c : List ℕ × List ℕ). flat (readOf (c .0))) cases ≡ map (λ (c : List ℕ × List ℕ). c .1) cases
-unfolding readOf readBy readRow judged findOf findIn groupLines kindLines kindAt allowed groupFrom allFiller pick
+unfolding readIn readBy readRow judged findIn rows kinds kindIn kindAt pick allowed rowAllows groupFrom allFiller
 read-as-worked = refl

@@ -1,8 +1,8 @@
--- Writing and reading undo each other, for every row of the table at once. A field's bytes give its value back, and its
--- value its bytes, by the three widths; fields one after the other, by the list of their kinds; and the tests of the two
--- tables say that a row's fields fill its length and that what a kind allows fits its width.
+-- Writing and reading undo each other, by every row at once of every table that is fit. A field's bytes give its value
+-- back, and its value its bytes, by the three widths; fields one after the other, by the list of their kinds; and the test of
+-- the table says that a row's fields fill its length and that what their kinds allow fits their widths.
 -- Assumes nothing.
-use Prim.Native.Nat.{ℕ, zero, suc, _+_, _-_, _*_, _/_, _%_, _≤_, _<_}
+use Prim.Native.Nat.{ℕ, zero, suc, _+_, _-_, _%_, _≤_, _<_}
 use mathlib.Core.Path.{_≡_, refl, sym, ap, _∙_, subst}
 use mathlib.Core.Bool.{Bool, true, false}
 use mathlib.Core.List.{List, [], _∷_, _++_, append-assoc}
@@ -11,14 +11,16 @@ use borrow.Author.Tests.{eq-eqb, eqb-true}
 use lib.Dec.{eqb}
 use lib.ListN.{length, getD, take, drop, replicate, length-append, length-drop, length-replicate, take-append-drop}
 use lib.Seq.{drop-at, drop-drop, getD-drop, take-add, drop-cons}
-use Rattle.groups.specs.Answer.{Answer, given, refused, toldFinding, toldReading, toldWriting}
 use Rattle.frame.proofs.Inverse.{filled}
+use Rattle.frame.proofs.Laws.{word-low, word-high}
 use Rattle.frame.specs.Choice.{pick}
 use Rattle.frame.specs.Reading.{allFiller}
-use Rattle.groups.specs.Format.{sizeOf, sizesOf, kindsOf, values, allAllowed, valueOf, valuesOf, bytesOf, fieldsOf, groupOf, groupFrom, bytesFor}
-use Rattle.groups.specs.Reading.{judged, readRow, readBy, readOf}
-use Rattle.groups.specs.Table.{findOf}
-use Rattle.groups.specs.Writing.{Outcome, outcome, writeRow, writeBy, writeOf}
+use Rattle.frame.specs.Result.{Result, accepted, refused}
+use Rattle.groups.specs.Answer.{toldFinding, toldReading, toldWriting}
+use Rattle.groups.specs.Format.{sizeOf, sizesOf, kindsOf, values, rowAllows, valueOf, valuesOf, bytesOf, fieldsOf, groupOf, groupFrom, bytesFor}
+use Rattle.groups.specs.Reading.{judged, readRow, readBy, readIn}
+use Rattle.groups.specs.Table.{rows, findIn}
+use Rattle.groups.specs.Writing.{Outcome, outcome, writeRow, writeBy, writeIn}
 use Rattle.groups.specs.declared.Finding.{Finding}
 use Rattle.groups.specs.declared.Finding.the-variants as findings
 use Rattle.groups.specs.declared.Group.{Group}
@@ -31,39 +33,32 @@ use Rattle.groups.specs.declared.Width.the-variants.{None, Byte, Word}
 use Rattle.groups.specs.declared.Writing.{Writing}
 use Rattle.groups.specs.declared.Writing.the-variants as writings
 use Rattle.groups.proofs.Laws.{field-length}
-use Rattle.groups.proofs.Table.{known, room, Fit, all-fit}
+use Rattle.groups.proofs.Rows.{Fits, rows-fit, known, room, Fit, all-fit}
 
 -- What is told of an answer leaves nothing of it open.
-abbrev pub untoldFinding : Answer Row → Finding
-untoldFinding (given x) = findings.Row x
+abbrev pub untoldFinding : Result Row → Finding
+untoldFinding (accepted x) = findings.Row x
 untoldFinding (refused n) = findings.Refused n
 
 pub told-finding-whole : (r : Finding) → untoldFinding (toldFinding r) ≡ r
 told-finding-whole (findings.Row x) = refl
 told-finding-whole (findings.Refused n) = refl
 
-abbrev pub untoldReading : Answer Group → Reading
-untoldReading (given g) = readings.Group g
+abbrev pub untoldReading : Result Group → Reading
+untoldReading (accepted g) = readings.Group g
 untoldReading (refused n) = readings.Refused n
 
 pub told-reading-whole : (r : Reading) → untoldReading (toldReading r) ≡ r
 told-reading-whole (readings.Group g) = refl
 told-reading-whole (readings.Refused n) = refl
 
-abbrev pub untoldWriting : Answer Unit → Writing
-untoldWriting (given u) = writings.Done
+abbrev pub untoldWriting : Result Unit → Writing
+untoldWriting (accepted u) = writings.Done
 untoldWriting (refused n) = writings.Refused n
 
 pub told-writing-whole : (r : Writing) → untoldWriting (toldWriting r) ≡ r
 told-writing-whole writings.Done = refl
 told-writing-whole (writings.Refused n) = refl
-
--- The two bytes of a word are those that it was made of.
-word-low : (low high : ℕ) → low < 256 → (low + 256 * high) % 256 ≡ low
-word-low low high l = omega arith
-
-word-high : (low high : ℕ) → low < 256 → high < 256 → (low + 256 * high) / 256 % 256 ≡ high
-word-high low high l h = omega arith
 
 -- A field: its bytes give the value back, whatever follows them,
 value-back : (w : Width) (v : ℕ) (s : List ℕ) → v < room w → valueOf w (bytesOf w v ++ s) ≡ v
@@ -116,143 +111,166 @@ unfolding allFiller
 filler-passes zero = refl
 filler-passes (suc n) = filler-passes n
 
--- What a group that is read went through, one by one; and that is all that reading asks.
-record Read (s : List ℕ) (g : Group) : Type 0 where
-  row : Row
-  eight : length s ≡ 8
-  found : findOf (getD s 0 0) ≡ given row
-  filler : allFiller (drop (row .length) s) ≡ true
-  group : groupFrom (getD s 0 0) (kindsOf row) s ≡ g
-  fine : allAllowed (kindsOf row) (values g) ≡ true
-
-gave : {A : Type 0} (test : Bool) (a : Answer A) (n : ℕ) (b : A) → pick test a (refused n) ≡ given b → (test ≡ true) × (a ≡ given b)
+-- What passes a test that else refuses has passed it.
+gave : {A : Type 0} (test : Bool) (a : Result A) (n : ℕ) (b : A) → pick test a (refused n) ≡ accepted b
+    → (test ≡ true) × (a ≡ accepted b)
 unfolding pick
 gave true a n b h = (refl, h)
 gave false a n b h = (cc, cc)
 
-read-by-row : (s : List ℕ) (g : Group) → length s ≡ 8 → (a : Answer Row) → findOf (getD s 0 0) ≡ a
-    → readBy s (getD s 0 0) a ≡ given g → Read s g
-unfolding readBy readRow judged
-read-by-row s g eight (given x) found h =
-    let filler = gave (allFiller (drop (x .length) s)) _ 9 g h in
-    let fine = gave (allAllowed (kindsOf x) (values (groupFrom (getD s 0 0) (kindsOf x) s))) _ 10 g (filler .1) in
-    let group : groupFrom (getD s 0 0) (kindsOf x) s ≡ g = cc in
-    record {
-      row = x;
-      eight = eight;
-      found = found;
-      filler = filler .0;
-      group = group;
-      fine = subst (λ (h : Group). allAllowed (kindsOf x) (values h) ≡ true) group (fine .0);
-    }
-read-by-row s g eight (refused n) found h = absurd (let z : _≡_ {A = ℕ} 0 1 = cc in omega arith)
-
-read-parts : (s : List ℕ) (g : Group) → readOf s ≡ given g → Read s g
-unfolding readOf
-read-parts s g h =
-    let both = gave (eqb (length s) 8) _ 9 g h in
-    read-by-row s g (eqb-true _ _ (both .0)) (findOf (getD s 0 0)) refl (both .1)
-
-read-whole : (s : List ℕ) (g : Group) → Read s g → readOf s ≡ given g
-unfolding readOf readBy readRow judged pick
-read-whole s g r = rw (eq-eqb _ _ (r .eight), r .found, r .filler, r .group, r .fine)
-
--- The same of a group that is written, into any eight bytes.
-record Wrote (g : Group) (s t : List ℕ) : Type 0 where
-  row : Row
-  eight : length s ≡ 8
-  found : findOf (g .code) ≡ given row
-  fine : allAllowed (kindsOf row) (values g) ≡ true
-  bytes : bytesFor (g .code) (kindsOf row) (values g) ≡ t
-
-did : (test : Bool) (o : Outcome) (n : ℕ) (s t : List ℕ) → pick test o (outcome (refused n) s) ≡ outcome (given tt) t
-    → (test ≡ true) × (o ≡ outcome (given tt) t)
+did : (test : Bool) (o : Outcome) (n : ℕ) (s t : List ℕ)
+    → pick test o (outcome (refused n) s) ≡ outcome (accepted tt) t → (test ≡ true) × (o ≡ outcome (accepted tt) t)
 unfolding pick
 did true o n s t h = (refl, h)
-did false o n s t h = absurd (let a = ap (λ (o : Outcome). o .answer) h in let z : _≡_ {A = ℕ} 0 1 = cc in omega arith)
-
-write-by-row : (g : Group) (s t : List ℕ) → length s ≡ 8 → (a : Answer Row) → findOf (g .code) ≡ a
-    → writeBy g s a ≡ outcome (given tt) t → Wrote g s t
-unfolding writeBy writeRow
-write-by-row g s t eight (given x) found h =
-    let fine = did (allAllowed (kindsOf x) (values g)) _ 10 s t h in
-    record { row = x; eight = eight; found = found; fine = fine .0; bytes = ap (λ (o : Outcome). o .bytes) (fine .1) }
-write-by-row g s t eight (refused n) found h =
+did false o n s t h =
     absurd (let a = ap (λ (o : Outcome). o .answer) h in let z : _≡_ {A = ℕ} 0 1 = cc in omega arith)
-
-write-parts : (g : Group) (s t : List ℕ) → writeOf g s ≡ outcome (given tt) t → Wrote g s t
-unfolding writeOf
-write-parts g s t h =
-    let both = did (eqb (length s) 8) _ 9 s t h in
-    write-by-row g s t (eqb-true _ _ (both .0)) (findOf (g .code)) refl (both .1)
-
-write-whole : (g : Group) (s t : List ℕ) → Wrote g s t → writeOf g s ≡ outcome (given tt) t
-unfolding writeOf writeBy writeRow pick
-write-whole g s t w = rw (eq-eqb _ _ (w .eight), w .found, w .fine, w .bytes)
 
 -- Past a row's own length are the bytes past its code and its fields.
 at-length : (n l : ℕ) → 1 + n ≡ l → (s : List ℕ) → drop l s ≡ drop n (drop 1 s)
 at-length n l e s = sym (ap (λ (k : ℕ). drop k s) e) ∙ sym (drop-drop n 1 s)
 
--- The bytes of a group that its row allows are read as the group.
-bytes-read : (g : Group) (x : Row) → findOf (g .code) ≡ given x → allAllowed (kindsOf x) (values g) ≡ true
-    → Read (bytesFor (g .code) (kindsOf x) (values g)) g
-unfolding bytesFor groupFrom
-bytes-read g x found fine =
-    let ks : List Kind = kindsOf x in
-    let row = known (g .code) x found in
-    let fields : List ℕ = fieldsOf ks (values g) in
-    let size : length fields ≡ sizesOf ks = fields-length ks (values g) refl in
-    let rest : List ℕ = replicate (7 - sizesOf ks) 255 in
-    let long : length (fields ++ rest) ≡ 7 = rw (length-append fields rest, size, length-replicate {A = ℕ} (7 - sizesOf ks) 255) (omega (arith, row .small)) in
-    let after : drop (x .length) (g .code ∷ fields ++ rest) ≡ rest =
-    at-length (sizesOf ks) (x .length) (row .filled) (g .code ∷ fields ++ rest) ∙ drop-at fields rest (sizesOf ks) size in
+-- By the rows of a table that is fit:
+module _ (table : List Row) (fit : Fits table) where
+  -- What a group that is read went through, one by one; and that is all that reading asks.
+  record Read (s : List ℕ) (g : Group) : Type 0 where
+    row : Row
+    eight : length s ≡ 8
+    found : findIn (getD s 0 0) table ≡ accepted row
+    filler : allFiller (drop (row .length) s) ≡ true
+    group : groupFrom (getD s 0 0) (kindsOf row) s ≡ g
+    fine : rowAllows row (values g) ≡ true
+
+  read-by-row : (s : List ℕ) (g : Group) → length s ≡ 8 → (a : Result Row) → findIn (getD s 0 0) table ≡ a
+      → readBy s (getD s 0 0) a ≡ accepted g → Read s g
+  unfolding readBy readRow judged
+  read-by-row s g eight (accepted x) found h =
+      let filler = gave (allFiller (drop (x .length) s)) _ 9 g h in
+      let fine = gave (rowAllows x (values (groupFrom (getD s 0 0) (kindsOf x) s))) _ 10 g (filler .1) in
+      let group : groupFrom (getD s 0 0) (kindsOf x) s ≡ g = cc in
+      record {
+        row = x;
+        eight = eight;
+        found = found;
+        filler = filler .0;
+        group = group;
+        fine = subst (λ (h : Group). rowAllows x (values h) ≡ true) group (fine .0);
+      }
+  read-by-row s g eight (refused n) found h = absurd (let z : _≡_ {A = ℕ} 0 1 = cc in omega arith)
+
+  read-parts : (s : List ℕ) (g : Group) → readIn table s ≡ accepted g → Read s g
+  unfolding readIn
+  read-parts s g h =
+      let both = gave (eqb (length s) 8) _ 9 g h in
+      read-by-row s g (eqb-true _ _ (both .0)) (findIn (getD s 0 0) table) refl (both .1)
+
+  read-whole : (s : List ℕ) (g : Group) → Read s g → readIn table s ≡ accepted g
+  unfolding readIn readBy readRow judged pick
+  read-whole s g r = rw (eq-eqb _ _ (r .eight), r .found, r .filler, r .group, r .fine)
+
+  -- The same of a group that is written, into any eight bytes.
+  record Wrote (g : Group) (s t : List ℕ) : Type 0 where
+    row : Row
+    eight : length s ≡ 8
+    found : findIn (g .code) table ≡ accepted row
+    fine : rowAllows row (values g) ≡ true
+    bytes : bytesFor (g .code) (kindsOf row) (values g) ≡ t
+
+  write-by-row : (g : Group) (s t : List ℕ) → length s ≡ 8 → (a : Result Row) → findIn (g .code) table ≡ a
+      → writeBy g s a ≡ outcome (accepted tt) t → Wrote g s t
+  unfolding writeBy writeRow
+  write-by-row g s t eight (accepted x) found h =
+      let fine = did (rowAllows x (values g)) _ 10 s t h in
+      record { row = x; eight = eight; found = found; fine = fine .0; bytes = ap (λ (o : Outcome). o .bytes) (fine .1) }
+  write-by-row g s t eight (refused n) found h =
+      absurd (let a = ap (λ (o : Outcome). o .answer) h in let z : _≡_ {A = ℕ} 0 1 = cc in omega arith)
+
+  write-parts : (g : Group) (s t : List ℕ) → writeIn table g s ≡ outcome (accepted tt) t → Wrote g s t
+  unfolding writeIn
+  write-parts g s t h =
+      let both = did (eqb (length s) 8) _ 9 s t h in
+      write-by-row g s t (eqb-true _ _ (both .0)) (findIn (g .code) table) refl (both .1)
+
+  write-whole : (g : Group) (s t : List ℕ) → Wrote g s t → writeIn table g s ≡ outcome (accepted tt) t
+  unfolding writeIn writeBy writeRow pick
+  write-whole g s t w = rw (eq-eqb _ _ (w .eight), w .found, w .fine, w .bytes)
+
+  -- The bytes of a group that its row allows are read as the group.
+  bytes-read : (g : Group) (x : Row) → findIn (g .code) table ≡ accepted x → rowAllows x (values g) ≡ true
+      → Read (bytesFor (g .code) (kindsOf x) (values g)) g
+  unfolding bytesFor groupFrom
+  bytes-read g x found fine =
+      let ks : List Kind = kindsOf x in
+      let row = known table fit (g .code) x found in
+      let fields : List ℕ = fieldsOf ks (values g) in
+      let size : length fields ≡ sizesOf ks = fields-length ks (values g) refl in
+      let rest : List ℕ = replicate (7 - sizesOf ks) 255 in
+      let long : length (fields ++ rest) ≡ 7 =
+      rw (length-append fields rest, size, length-replicate {A = ℕ} (7 - sizesOf ks) 255) (omega (arith, row .small)) in
+      let after : drop (x .length) (g .code ∷ fields ++ rest) ≡ rest =
+      at-length (sizesOf ks) (x .length) (row .filled) (g .code ∷ fields ++ rest)
+      ∙ drop-at fields rest (sizesOf ks) size in
+      record {
+        row = x;
+        eight = ap suc long;
+        found = found;
+        filler = rw after (filler-passes (7 - sizesOf ks));
+        group = ap (groupOf (g .code)) (values-back ks (values g) rest refl (all-fit x (values g) row fine));
+        fine = fine;
+      }
+
+  -- The bytes of the values that a row's kinds find in eight bytes are those bytes.
+  read-bytes : (s : List ℕ) (x : Row) → length s ≡ 8 → ((n : ℕ) → getD s n 0 < 256)
+      → findIn (getD s 0 0) table ≡ accepted x → allFiller (drop (x .length) s) ≡ true
+      → bytesFor (getD s 0 0) (kindsOf x) (valuesOf (kindsOf x) (drop 1 s)) ≡ s
+  unfolding bytesFor
+  read-bytes s x eight bytes found filler =
+      let ks : List Kind = kindsOf x in
+      let row = known table fit (getD s 0 0) x found in
+      let r : List ℕ = drop 1 s in
+      let long : length r ≡ 7 = simp length-drop (omega arith) in
+      let each : (n : ℕ) → getD r n 0 < 256 = λ n. rw getD-drop (bytes (1 + n)) in
+      let fields : fieldsOf ks (valuesOf ks r) ≡ take (sizesOf ks) r =
+      fields-back ks r (omega (arith, row .small)) each in
+      let after : drop (x .length) s ≡ drop (sizesOf ks) r = at-length (sizesOf ks) (x .length) (row .filled) s in
+      let left : length (drop (sizesOf ks) r) ≡ 7 - sizesOf ks = rw (length-drop (sizesOf ks) r, long) in
+      let rest : drop (sizesOf ks) r ≡ replicate (7 - sizesOf ks) 255 =
+      filled _ (sym (ap allFiller after) ∙ filler) ∙ ap (λ (n : ℕ). replicate n 255) left in
+      let cut : getD s 0 0 ∷ r ≡ s = sym (drop-cons s 0 0 (omega arith)) in
+      rw (fields, ← rest, take-append-drop (sizesOf ks) r) cut
+
+  -- The group that was read is one that was written.
+  read-wrote : (s t : List ℕ) (g : Group) → ((n : ℕ) → getD s n 0 < 256) → length t ≡ 8 → Read s g → Wrote g t s
+  unfolding groupFrom
+  read-wrote s t g bytes eight r =
+      let x : Row = r .row in
+      let wrote : (h : Group) → Type 0 = λ h. rowAllows x (values h) ≡ true → Wrote h t s in
+      subst wrote (r .group)
+      (λ fine. record {
+        row = x;
+        eight = eight;
+        found = r .found;
+        fine = fine;
+        bytes = read-bytes s x (r .eight) bytes (r .found) (r .filler);
+      }) (r .fine)
+
+-- WRITING AND THEN READING RESTORES EACH FIELD, AND READING AND THEN WRITING THE EIGHT BYTES: what is written is read as the
+-- group that it was, and a group that is read is written as the bytes that it came from.
+pub record RoundTrips (table : List Row) : Type 0 where
+  pub read-written : (g : Group) (s t : List ℕ) → writeIn table g s ≡ outcome (accepted tt) t
+      → readIn table t ≡ accepted g
+  pub written-read : (s : List ℕ) (g : Group) → ((n : ℕ) → getD s n 0 < 256) → readIn table s ≡ accepted g
+      → (t : List ℕ) → length t ≡ 8 → writeIn table g t ≡ outcome (accepted tt) s
+
+pub round-trips : (table : List Row) → Fits table → RoundTrips table
+round-trips table fit =
     record {
-      row = x;
-      eight = ap suc long;
-      found = found;
-      filler = rw after (filler-passes (7 - sizesOf ks));
-      group = ap (groupOf (g .code)) (values-back ks (values g) rest refl (all-fit x (values g) fine));
-      fine = fine;
+      read-written = λ g s t h. let w = write-parts table fit g s t h in
+          let r = bytes-read table fit g (w .row) (w .found) (w .fine) in
+          subst (λ (u : List ℕ). readIn table u ≡ accepted g) (w .bytes) (read-whole table fit _ g r);
+      written-read = λ s g bytes h t eight.
+          write-whole table fit g t s (read-wrote table fit s t g bytes eight (read-parts table fit s g h));
     }
 
--- WRITING AND THEN READING RESTORES EACH FIELD: what is written is read as the group that it was, of every row.
-pub read-written : (g : Group) (s t : List ℕ) → writeOf g s ≡ outcome (given tt) t → readOf t ≡ given g
-read-written g s t h =
-    let w = write-parts g s t h in
-    subst (λ (u : List ℕ). readOf u ≡ given g) (w .bytes) (read-whole _ g (bytes-read g (w .row) (w .found) (w .fine)))
-
--- The bytes of the values that a row's kinds find in eight bytes are those bytes.
-read-bytes : (s : List ℕ) (x : Row) → length s ≡ 8 → ((n : ℕ) → getD s n 0 < 256) → findOf (getD s 0 0) ≡ given x
-    → allFiller (drop (x .length) s) ≡ true → bytesFor (getD s 0 0) (kindsOf x) (valuesOf (kindsOf x) (drop 1 s)) ≡ s
-unfolding bytesFor
-read-bytes s x eight bytes found filler =
-    let ks : List Kind = kindsOf x in
-    let row = known (getD s 0 0) x found in
-    let r : List ℕ = drop 1 s in
-    let long : length r ≡ 7 = simp length-drop (omega arith) in
-    let each : (n : ℕ) → getD r n 0 < 256 = λ n. rw getD-drop (bytes (1 + n)) in
-    let fields : fieldsOf ks (valuesOf ks r) ≡ take (sizesOf ks) r = fields-back ks r (omega (arith, row .small)) each in
-    let after : drop (x .length) s ≡ drop (sizesOf ks) r = at-length (sizesOf ks) (x .length) (row .filled) s in
-    let left : length (drop (sizesOf ks) r) ≡ 7 - sizesOf ks = rw (length-drop (sizesOf ks) r, long) in
-    let rest : drop (sizesOf ks) r ≡ replicate (7 - sizesOf ks) 255 =
-    filled _ (sym (ap allFiller after) ∙ filler) ∙ ap (λ (n : ℕ). replicate n 255) left in
-    let cut : getD s 0 0 ∷ r ≡ s = sym (drop-cons s 0 0 (omega arith)) in
-    rw (fields, ← rest, take-append-drop (sizesOf ks) r) cut
-
--- READING AND THEN WRITING RESTORES THE EIGHT BYTES: a group that is read is written as the bytes that it came from.
-pub written-read : (s : List ℕ) (g : Group) → ((n : ℕ) → getD s n 0 < 256) → readOf s ≡ given g → (t : List ℕ) → length t ≡ 8
-    → writeOf g t ≡ outcome (given tt) s
-unfolding groupFrom
-written-read s g bytes h t eight =
-    let r = read-parts s g h in
-    let x : Row = r .row in
-    write-whole g t s
-    (subst (λ (h : Group). allAllowed (kindsOf x) (values h) ≡ true → Wrote h t s) (r .group)
-    (λ fine. record {
-      row = x;
-      eight = eight;
-      found = r .found;
-      fine = fine;
-      bytes = read-bytes s x (r .eight) bytes (r .found) (r .filler);
-    }) (r .fine))
+-- So they do by document 01's table.
+pub rows-round-trip : RoundTrips rows
+rows-round-trip = round-trips rows rows-fit

@@ -2,47 +2,30 @@
 -- Assumes nothing.
 use Prim.Native.Nat.{ℕ, zero, suc, _+_, _-_, _*_, _/_, _%_, _<_, _≤_}
 use mathlib.Core.Path.{_≡_, refl, sym, ap, _∙_}
-use mathlib.Core.Bool.{Bool, true, false, _&&_, and-true}
+use mathlib.Core.Bool.{Bool, true, false, and-true}
 use mathlib.Core.List.{List, [], _∷_, _++_, append-assoc, append-nil}
 use native.Mathlib.Omega.{arith}
 use native.Mathlib.Nat.{add-zero, sub-zero, zero-sub, suc-sub-suc}
 use native.Mathlib.Numerals.{add-one}
-use borrow.Author.Tests.{eq-eqb, ne-eqb}
-use lib.ListN.{length, getD, drop, set, replicate, length-append, length-drop, drop-of-length-le, List·getD-eq-default}
+use borrow.Author.Tests.{eq-eqb, ne-eqb, le-leb, lt-leb}
+use lib.Dec.{eqb}
+use lib.ListN.{length, getD, drop, set, replicate, length-append, length-drop, drop-of-length-le}
 use lib.Seq.{sets, sets-eq, drop-drop, getD-drop, take-append-seam, drop-append-add}
-use Rattle.groups.specs.Answer.{Answer, given, refused, toldFinding}
-use Rattle.frame.proofs.Choice.{pick-true, pick-false}
 use Rattle.frame.specs.Choice.{pick}
 use Rattle.frame.specs.Reading.{allFiller}
-use Rattle.groups.specs.Format.{sizeOf, sizesOf, valueOf, bytesOf, fieldsOf, groupOf, groupFrom, bytesFor, kindsOf, values, allowed, allAllowed}
-use Rattle.groups.specs.Reading.{judged, readRow, readBy, readOf}
-use Rattle.groups.specs.Table.{kindLines, kindFrom, noField, kindAt, findOf}
-use Rattle.groups.specs.Writing.{Outcome, outcome, writeRow, writeBy, writeOf}
-use Rattle.groups.specs.declared.Finding.{Finding}
-use Rattle.groups.specs.declared.Finding.the-variants as findings
+use Rattle.frame.specs.Result.{Result, accepted, refused}
+use Rattle.groups.specs.Format.{sizeOf, sizesOf, valueOf, bytesOf, fieldsOf, groupOf, groupFrom, bytesFor, kindsOf, values, allowed, rowAllows}
+use Rattle.groups.specs.Reading.{judged, readRow, readBy, readIn, readOf}
+use Rattle.groups.specs.Table.{noField, kindAt, rows, findOf}
+use Rattle.groups.specs.Words.{widthFrom, kindFrom, senderFrom, rowFrom, rowIn}
+use Rattle.groups.specs.Writing.{Outcome, outcome, writeRow, writeBy, writeIn, writeOf}
 use Rattle.groups.specs.declared.Group.{Group}
 use Rattle.groups.specs.declared.Kind.{Kind}
 use Rattle.groups.specs.declared.Row.{Row}
+use Rattle.groups.specs.declared.Sender.the-variants.{Vehicle}
 use Rattle.groups.specs.declared.Width.{Width}
 use Rattle.groups.specs.declared.Width.the-variants.{None, Byte, Word}
-
--- A number that is none of the n after a first one: past the first it is past the last. So is what a match on them leaves.
-abbrev pub Missed : ℕ → ℕ → ℕ → Type 0
-Missed x first zero = Unit
-Missed x first (suc n) = Missed x first n × (x ≡ first + suc n → ⊥)
-
-pub missed : (x first n : ℕ) → Missed x first n → first < x → first + n < x
-missed x first zero none past = omega arith
-missed x first (suc n) none past =
-    let far : first + n < x = missed x first n (none .0) past in
-    let other : x ≡ first + suc n → ⊥ = none .1 in
-    omega arith
-
--- At place 0 and past the table of kinds there is no field.
-pub kind-none : (place : ℕ) → (0 < place → length kindLines ≤ place) → kindFrom noField ≡ kindAt place
-unfolding kindAt kindLines
-kind-none zero past = refl
-kind-none (suc i) past = rw (List·getD-eq-default kindLines noField (past (omega arith)))
+use Rattle.groups.proofs.Rows.{rows-fit, known}
 
 -- The value of a field at a place, from its bytes there.
 pub value-byte : (w : Width) (s : List ℕ) (at a : ℕ) → w ≡ Byte → a ≡ getD s at 0 → a ≡ valueOf w (drop at s)
@@ -136,72 +119,138 @@ put-word w s t u at v e fits h g =
     let high : v / 256 ≡ v / 256 % 256 = omega arith in
     rw e (g ∙ rw (h, add-one, ← high))
 
--- Four fields are allowed where each is.
-module _ (x : Row) (g : Group) {one two three four : Bool}
-    (e : one ≡ allowed (kindAt (x .first)) (g .first)) (f : two ≡ allowed (kindAt (x .second)) (g .second))
-    (h : three ≡ allowed (kindAt (x .third)) (g .third)) (k : four ≡ allowed (kindAt (x .fourth)) (g .fourth)) where
-  pub four-allowed : (one && (two && (three && four))) ≡ allAllowed (kindsOf x) (values g)
-  four-allowed = rw (and-true, e, f, h, k)
+-- A width that is neither a byte's nor a word's, and a sender that is not the charger.
+pub width-none : (n : ℕ) → (n ≡ 1 → ⊥) → (n ≡ 2 → ⊥) → None ≡ widthFrom n
+unfolding widthFrom
+width-none zero h k = refl
+width-none (suc zero) h k = absurd (h refl)
+width-none (suc (suc zero)) h k = absurd (k refl)
+width-none (suc (suc (suc n))) h k = refl
 
-  pub judged-fine : (one && (two && (three && four))) ≡ true → given g ≡ judged x g
-  unfolding judged
-  judged-fine t = pick-true _ (sym four-allowed ∙ t) refl
+pub sender-vehicle : (n : ℕ) → (n ≡ 0 → ⊥) → Vehicle ≡ senderFrom n
+unfolding senderFrom
+sender-vehicle zero h = absurd (h refl)
+sender-vehicle (suc n) h = refl
 
-  pub judged-value : (one && (two && (three && four))) ≡ false → refused 10 ≡ judged x g
-  unfolding judged
-  judged-value t = pick-false _ (sym four-allowed ∙ t) refl
+-- The kind with a number, by its word: where there is none, 0 is allowed and nothing else.
+zero-allowed : (v : ℕ) → eqb v 0 ≡ allowed noField v
+unfolding allowed
+zero-allowed zero = refl
+zero-allowed (suc v) =
+    let other : suc v ≡ 0 → ⊥ = λ z. omega arith in
+    rw (le-leb 0 (suc v) (omega arith), lt-leb (suc v) 0 (omega arith), ne-eqb (suc v) 0 other)
+
+module _ (number v w : ℕ) (found : kindFrom w ≡ kindAt number) where
+  pub allows-none : w ≡ 0 → eqb v 0 ≡ allowed (kindAt number) v
+  unfolding kindFrom widthFrom
+  allows-none z = zero-allowed v ∙ ap (λ (k : Kind). allowed k v) (sym (ap kindFrom z) ∙ found)
+
+  pub allows-kind : {k : Kind} {b : Bool} → k ≡ kindFrom w → b ≡ allowed k v → b ≡ allowed (kindAt number) v
+  allows-kind e h = h ∙ ap (λ (k : Kind). allowed k v) (e ∙ found)
+
+-- A row allows four values where the kind of each does: all four, or all before one that is not allowed.
+module _ (x y : Row) (a b c d : ℕ) (r : x ≡ y) {one : Bool} (e : one ≡ allowed (kindAt (x .first)) a) where
+  abbrev allows : Bool
+  allows = rowAllows y (a ∷ b ∷ c ∷ d ∷ [])
+
+  pub row-first : one ≡ false → false ≡ allows
+  unfolding rowAllows
+  row-first n = rw (← r, ← e, n)
+
+  module _ {two : Bool} (f : two ≡ allowed (kindAt (x .second)) b) (t : one ≡ true) where
+    pub row-second : two ≡ false → false ≡ allows
+    unfolding rowAllows
+    row-second n = rw (← r, ← e, t, ← f, n)
+
+    module _ {three : Bool} (g : three ≡ allowed (kindAt (x .third)) c) (u : two ≡ true) where
+      pub row-third : three ≡ false → false ≡ allows
+      unfolding rowAllows
+      row-third n = rw (← r, ← e, t, ← f, u, ← g, n)
+
+      pub row-fourth : {four : Bool} → four ≡ allowed (kindAt (x .fourth)) d → three ≡ true → four ≡ allows
+      unfolding rowAllows
+      row-fourth h v = rw (← r, ← e, t, ← f, u, ← g, v, and-true) h
+
+-- The row of a code, by its word.
+module _ (code w : ℕ) (found : rowIn w ≡ findOf code) where
+  pub find-unknown : w ≡ 0 → refused 9 ≡ findOf code
+  unfolding pick
+  find-unknown z = rw z at found
+
+  find-row : (w ≡ 0 → ⊥) → accepted (rowFrom w) ≡ findOf code
+  unfolding pick
+  find-row z = rw (ne-eqb w 0 z) at found
+
+  pub find-known : {x : Row} → (w ≡ 0 → ⊥) → x ≡ rowFrom w → accepted x ≡ findOf code
+  find-known z e = rw e (find-row z)
+
+  -- Its fields have room in eight bytes.
+  pub row-sizes : (w ≡ 0 → ⊥) → sizesOf (kindsOf (rowFrom w)) ≤ 7
+  row-sizes z = known rows rows-fit code (rowFrom w) (sym (find-row z)) .small
+
+pub same-sizes : (x y : Row) → x ≡ y → sizesOf (kindsOf y) ≤ 7 → sizesOf (kindsOf x) ≤ 7
+same-sizes x y e h = rw e h
 
 -- Reading goes by the length, the code's row, the filler and the values.
 module _ (s : List ℕ) where
   pub read-length : (length s ≡ 8 → ⊥) → refused 9 ≡ readOf s
-  unfolding readOf pick
+  unfolding readIn pick
   read-length h = rw (ne-eqb _ _ h)
 
-  pub read-known : (r : Finding) (x : Row) (a : Answer Group) → length s ≡ 8 → r ≡ findings.Row x
-      → toldFinding r ≡ findOf (getD s 0 0) → a ≡ readRow s (getD s 0 0) x → a ≡ readOf s
-  unfolding readOf readBy pick
-  read-known r x a eight e f h = rw (eq-eqb _ _ eight, ← f, e, h)
+  module _ (w : ℕ) (eight : length s ≡ 8) (found : rowIn w ≡ findOf (getD s 0 0)) where
+    pub read-unknown : w ≡ 0 → refused 9 ≡ readOf s
+    unfolding readIn readBy pick
+    read-unknown z = rw (eq-eqb _ _ eight, ← find-unknown _ w found z)
 
-  pub read-unknown : (r : Finding) (n : ℕ) → length s ≡ 8 → r ≡ findings.Refused n → toldFinding r ≡ findOf (getD s 0 0)
-      → refused n ≡ readOf s
-  unfolding readOf readBy pick
-  read-unknown r n eight e f = rw (eq-eqb _ _ eight, ← f, e)
+    pub read-known : {a : Result Group} → (w ≡ 0 → ⊥) → a ≡ readRow s (getD s 0 0) (rowFrom w) → a ≡ readOf s
+    unfolding readIn readBy pick
+    read-known z h = rw (eq-eqb _ _ eight, ← find-row _ w found z) h
 
-  module _ (code : ℕ) (x : Row) (filler : Bool) (f : filler ≡ allFiller (drop (x .length) s)) where
-    pub read-unfilled : filler ≡ false → refused 9 ≡ readRow s code x
+  module _ (code : ℕ) (x y : Row) (filler : Bool) (r : x ≡ y)
+      (f : filler ≡ allFiller (drop (x .length) s)) where
+    pub read-unfilled : filler ≡ false → refused 9 ≡ readRow s code y
     unfolding readRow pick
-    read-unfilled h = rw (← f, h)
+    read-unfilled h = rw (← r, ← f, h)
 
-    pub read-filled : {a : Answer Group} {g : Group} → filler ≡ true → g ≡ groupFrom code (kindsOf x) s → a ≡ judged x g → a ≡ readRow s code x
-    unfolding readRow pick
-    read-filled h eg e = rw (← f, h, ← eg) e
+    module _ {g : Group} {fine : Bool} (h : filler ≡ true) (eg : g ≡ groupFrom code (kindsOf x) s)
+        (ef : fine ≡ rowAllows y (values g)) where
+      pub read-fine : fine ≡ true → accepted g ≡ readRow s code y
+      unfolding readRow judged pick
+      read-fine t = rw (← r, ← f, h, ← eg, r, ← ef, t)
+
+      pub read-value : fine ≡ false → refused 10 ≡ readRow s code y
+      unfolding readRow judged pick
+      read-value t = rw (← r, ← f, h, ← eg, r, ← ef, t)
 
 -- And so does writing, by the length, the code's row and the values.
 module _ (g : Group) (s : List ℕ) where
   pub write-length : (length s ≡ 8 → ⊥) → outcome (refused 9) s ≡ writeOf g s
-  unfolding writeOf pick
+  unfolding writeIn pick
   write-length h = rw (ne-eqb _ _ h)
 
-  pub write-known : (r : Finding) (x : Row) (o : Outcome) → length s ≡ 8 → r ≡ findings.Row x → toldFinding r ≡ findOf (g .code)
-      → o ≡ writeRow g s x → o ≡ writeOf g s
-  unfolding writeOf writeBy pick
-  write-known r x o eight e f h = rw (eq-eqb _ _ eight, ← f, e, h)
+  module _ (w : ℕ) (eight : length s ≡ 8) (found : rowIn w ≡ findOf (g .code)) where
+    pub write-unknown : w ≡ 0 → outcome (refused 9) s ≡ writeOf g s
+    unfolding writeIn writeBy pick
+    write-unknown z = rw (eq-eqb _ _ eight, ← find-unknown _ w found z)
 
-  pub write-unknown : (r : Finding) (n : ℕ) → length s ≡ 8 → r ≡ findings.Refused n → toldFinding r ≡ findOf (g .code)
-      → outcome (refused n) s ≡ writeOf g s
-  unfolding writeOf writeBy pick
-  write-unknown r n eight e f = rw (eq-eqb _ _ eight, ← f, e)
+    pub write-known : {o : Outcome} → (w ≡ 0 → ⊥) → o ≡ writeRow g s (rowFrom w) → o ≡ writeOf g s
+    unfolding writeIn writeBy pick
+    write-known z h = rw (eq-eqb _ _ eight, ← find-row _ w found z) h
 
-  module _ (x : Row) (fine : Bool) (ef : fine ≡ allAllowed (kindsOf x) (values g)) where
-    pub write-fine : (t : List ℕ) → fine ≡ true → t ≡ bytesFor (g .code) (kindsOf x) (values g)
-        → outcome (given tt) t ≡ writeRow g s x
+  module _ (y : Row) (fine : Bool) (ef : fine ≡ rowAllows y (values g)) where
+    pub write-fine : (x : Row) (t : List ℕ) → fine ≡ true → x ≡ y → t ≡ bytesFor (g .code) (kindsOf x) (values g)
+        → outcome (accepted tt) t ≡ writeRow g s y
     unfolding writeRow pick
-    write-fine t k h = rw (← ef, k, h)
+    write-fine x t k r h = rw (← ef, k, ← r, h)
 
-    pub write-value : fine ≡ false → outcome (refused 10) s ≡ writeRow g s x
+    pub write-value : fine ≡ false → outcome (refused 10) s ≡ writeRow g s y
     unfolding writeRow pick
     write-value k = rw (← ef, k)
 
-pub ruleset reading = (read-length, read-known, read-unknown, read-unfilled, read-filled)
+pub ruleset judging = (allows-none, allows-kind)
+
+pub ruleset finding = (find-unknown, find-known)
+
+pub ruleset reading = (read-length, read-known, read-unknown, read-unfilled, read-fine, read-value)
 
 pub ruleset writing = (write-length, write-known, write-unknown, write-fine, write-value)

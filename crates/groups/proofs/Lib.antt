@@ -1,5 +1,6 @@
+pub mod Words
+pub mod Rows
 pub mod Laws
-pub mod Table
 pub mod Inverse
 pub mod Range
 pub mod Examples

@@ -10,19 +10,21 @@ use native.Mathlib.Omega.{arith}
 use borrow.Author.Tests.{eq-eqb, le-leb, leb-true, eqb-true}
 use lib.Dec.{eqb, leb}
 use lib.ListN.{length, getD, drop}
-use Rattle.groups.specs.Answer.{Answer, given, refused}
+use Rattle.frame.proofs.Choice.{pick-elim}
 use Rattle.frame.specs.Choice.{pick}
 use Rattle.frame.specs.Reading.{allFiller}
-use Rattle.groups.specs.Format.{kindsOf, values, allowed, allAllowed, groupFrom, bytesFor}
-use Rattle.groups.specs.Reading.{judged, readRow, readBy, readOf}
-use Rattle.groups.specs.Table.{kindLines, groupLines, rowFrom, kindAt, findOf}
-use Rattle.groups.specs.Writing.{Outcome, outcome, writeRow, writeBy, writeOf}
+use Rattle.frame.specs.Result.{Result, accepted, refused}
+use Rattle.groups.specs.Format.{kindsOf, values, allowed, allAllowed, rowAllows, groupFrom, bytesFor}
+use Rattle.groups.specs.Reading.{judged, readRow, readBy, readIn}
+use Rattle.groups.specs.Table.{kinds, kindIn, kindAt, rows, findIn, findOf}
+use Rattle.groups.specs.Writing.{Outcome, outcome, writeRow, writeBy, writeIn}
 use Rattle.groups.specs.declared.Group.{Group}
 use Rattle.groups.specs.declared.Kind.{Kind}
 use Rattle.groups.specs.declared.Row.{Row}
 use Rattle.groups.specs.declared.Width.{Width}
 use Rattle.groups.specs.declared.Width.the-variants.{None, Byte, Word}
-use Rattle.groups.proofs.Table.{every, at-code, one-of}
+use Rattle.groups.proofs.Rows.{at-code, one-of}
+use Rattle.groups.proofs.Words.{every}
 
 -- A value is in the range of a kind or is one of its marks; values are so, each of its own kind.
 abbrev pub InRange : Kind → ℕ → Type 0
@@ -61,56 +63,68 @@ range-all-allowed [] vs h = refl
 range-all-allowed (k ∷ ks) [] h = refl
 range-all-allowed (k ∷ ks) (v ∷ vs) h = rw (range-allowed k v (h .0), range-all-allowed ks vs (h .1))
 
-out-of-range : (ks : List Kind) (vs : List ℕ) → (AllInRange ks vs → ⊥) → (t : Bool) → allAllowed ks vs ≡ t → t ≡ false
-out-of-range ks vs h true e = absurd (h (all-in-range ks vs e))
-out-of-range ks vs h false e = refl
+-- A row takes values that are so of the kinds of its fields: that is what it allows.
+abbrev pub Takes : Row → List ℕ → Type 0
+Takes x vs = AllInRange (kindsOf x) vs
 
--- Reading eight bytes whose code has a row and whose filler is 0xFF: values in range are read, others are refused 10.
-module _ (s : List ℕ) (x : Row) (eight : length s ≡ 8) (found : findOf (getD s 0 0) ≡ given x)
-    (filler : allFiller (drop (x .length) s) ≡ true) where
-  abbrev pub group : Group
-  group = groupFrom (getD s 0 0) (kindsOf x) s
+takes-allowed : (x : Row) (vs : List ℕ) → Takes x vs → rowAllows x vs ≡ true
+unfolding rowAllows
+takes-allowed x vs h = range-all-allowed (kindsOf x) vs h
 
-  pub read-in-range : AllInRange (kindsOf x) (values group) → readOf s ≡ given group
-  unfolding readOf readBy readRow judged pick
-  read-in-range h = rw (eq-eqb _ _ eight, found, filler, range-all-allowed (kindsOf x) (values group) h)
+not-taken : (x : Row) (vs : List ℕ) → (Takes x vs → ⊥) → (t : Bool) → rowAllows x vs ≡ t → t ≡ false
+unfolding rowAllows
+not-taken x vs h true e = absurd (h (all-in-range (kindsOf x) vs e))
+not-taken x vs h false e = refl
 
-  pub read-out-of-range : (AllInRange (kindsOf x) (values group) → ⊥) → readOf s ≡ refused 10
-  unfolding readOf readBy readRow judged pick
-  read-out-of-range h = rw (eq-eqb _ _ eight, found, filler, out-of-range (kindsOf x) (values group) h _ refl)
+-- By the rows of any table:
+module _ (table : List Row) where
+  -- Reading eight bytes whose code has a row and whose filler is 0xFF: values in range are read, others are refused 10.
+  module _ (s : List ℕ) (x : Row) (eight : length s ≡ 8) (found : findIn (getD s 0 0) table ≡ accepted x)
+      (filler : allFiller (drop (x .length) s) ≡ true) where
+    abbrev pub group : Group
+    group = groupFrom (getD s 0 0) (kindsOf x) s
 
--- Writing a group whose code has a row into eight bytes: values in range are written, others are refused 10 and leave the
--- bytes.
-module _ (g : Group) (s : List ℕ) (x : Row) (eight : length s ≡ 8) (found : findOf (g .code) ≡ given x) where
-  pub write-in-range : AllInRange (kindsOf x) (values g) → writeOf g s ≡ outcome (given tt) (bytesFor (g .code) (kindsOf x) (values g))
-  unfolding writeOf writeBy writeRow pick
-  write-in-range h = rw (eq-eqb _ _ eight, found, range-all-allowed (kindsOf x) (values g) h)
+    pub read-in-range : Takes x (values group) → readIn table s ≡ accepted group
+    unfolding readIn readBy readRow judged pick
+    read-in-range h = rw (eq-eqb _ _ eight, found, filler, takes-allowed x (values group) h)
 
-  pub write-out-of-range : (AllInRange (kindsOf x) (values g) → ⊥) → writeOf g s ≡ outcome (refused 10) s
-  unfolding writeOf writeBy writeRow pick
-  write-out-of-range h = rw (eq-eqb _ _ eight, found, out-of-range (kindsOf x) (values g) h _ refl)
+    pub read-out-of-range : (Takes x (values group) → ⊥) → readIn table s ≡ refused 10
+    unfolding readIn readBy readRow judged pick
+    read-out-of-range h = rw (eq-eqb _ _ eight, found, filler, not-taken x (values group) h _ refl)
 
--- Every refused write leaves the bytes.
-kept : (g : Group) (s : List ℕ) (x : Row) (t : Bool) (n : ℕ) (u : List ℕ)
-    → pick t (outcome (given tt) (bytesFor (g .code) (kindsOf x) (values g))) (outcome (refused 10) s) ≡ outcome (refused n) u → u ≡ s
-unfolding pick
-kept g s x true n u h = absurd (let a = ap (λ (o : Outcome). o .answer) h in let z : _≡_ {A = ℕ} 0 1 = cc in omega arith)
-kept g s x false n u h = sym (ap (λ (o : Outcome). o .bytes) h)
+  -- Writing a group whose code has a row into eight bytes: values in range are written, others are refused 10 and leave the
+  -- bytes.
+  module _ (g : Group) (s : List ℕ) (x : Row) (eight : length s ≡ 8)
+      (found : findIn (g .code) table ≡ accepted x) where
+    pub write-in-range : Takes x (values g)
+        → writeIn table g s ≡ outcome (accepted tt) (bytesFor (g .code) (kindsOf x) (values g))
+    unfolding writeIn writeBy writeRow pick
+    write-in-range h = rw (eq-eqb _ _ eight, found, takes-allowed x (values g) h)
 
-kept-by : (g : Group) (s : List ℕ) (a : Answer Row) (n : ℕ) (u : List ℕ) → writeBy g s a ≡ outcome (refused n) u → u ≡ s
-unfolding writeBy writeRow
-kept-by g s (given x) n u h = kept g s x _ n u h
-kept-by g s (refused m) n u h = sym (ap (λ (o : Outcome). o .bytes) h)
+    pub write-out-of-range : (Takes x (values g) → ⊥) → writeIn table g s ≡ outcome (refused 10) s
+    unfolding writeIn writeBy writeRow pick
+    write-out-of-range h = rw (eq-eqb _ _ eight, found, not-taken x (values g) h _ refl)
 
-kept-length : (g : Group) (s : List ℕ) (t : Bool) (n : ℕ) (u : List ℕ)
-    → pick t (writeBy g s (findOf (g .code))) (outcome (refused 9) s) ≡ outcome (refused n) u → u ≡ s
-unfolding pick
-kept-length g s true n u h = kept-by g s (findOf (g .code)) n u h
-kept-length g s false n u h = sym (ap (λ (o : Outcome). o .bytes) h)
+-- Every refused write leaves the bytes: each of its tests ends in a refusal with the bytes as they were.
+module _ (s : List ℕ) (n : ℕ) (u : List ℕ) where
+  abbrev Leaves : Outcome → Type 0
+  Leaves o = o ≡ outcome (refused n) u → u ≡ s
 
-pub write-refused-leaves : (g : Group) (s : List ℕ) (n : ℕ) (u : List ℕ) → writeOf g s ≡ outcome (refused n) u → u ≡ s
-unfolding writeOf
-write-refused-leaves g s n u h = kept-length g s (eqb (length s) 8) n u h
+  left : (m : ℕ) → Leaves (outcome (refused m) s)
+  left m h = sym (ap (λ (o : Outcome). o .bytes) h)
+
+  done : (t : List ℕ) → Leaves (outcome (accepted tt) t)
+  done t h = absurd (let a = ap (λ (o : Outcome). o .answer) h in let z : _≡_ {A = ℕ} 0 1 = cc in omega arith)
+
+  leaves-by : (g : Group) (a : Result Row) → Leaves (writeBy g s a)
+  unfolding writeBy writeRow
+  leaves-by g (accepted x) = pick-elim Leaves (rowAllows x (values g)) (λ fine. done _) (λ value. left 10)
+  leaves-by g (refused m) = left m
+
+  pub write-refused-leaves : (table : List Row) (g : Group) → Leaves (writeIn table g s)
+  unfolding writeIn
+  write-refused-leaves table g =
+      pick-elim Leaves (eqb (length s) 8) (λ eight. leaves-by g (findIn (g .code) table)) (λ other. left 9)
 
 -- "Only the fields of 77 may be missing": a row has a field that takes a mark for missing, 0xFFFE or 0xFFFF in a word or 0xFE in
 -- a byte, just if its code is 0x77. (0xFF in a byte is also the reason "other" of 0x75.) One test of the whole table.
@@ -126,8 +140,8 @@ anyMarked (k ∷ ks) = marked (k .width) k || anyMarked ks
 abbrev missingTest : Row → Bool
 missingTest x = Bool·beq (anyMarked (kindsOf x)) (eqb (x .code) 0x77)
 
-missing-tested : every (λ l. missingTest (rowFrom l)) groupLines ≡ true
-unfolding groupLines kindLines kindAt allowed
+missing-tested : every missingTest rows ≡ true
+unfolding rows kinds kindAt kindIn pick allowed
 missing-tested = refl
 
 same : (a b : Bool) → Bool·beq a b ≡ true → a ≡ b
@@ -136,8 +150,7 @@ same true false h = sym h
 same false true h = h
 same false false h = refl
 
-pub missing-only : (code : ℕ) (x : Row) → findOf code ≡ given x → anyMarked (kindsOf x) ≡ eqb code 0x77
-unfolding findOf
+pub missing-only : (code : ℕ) (x : Row) → findOf code ≡ accepted x → anyMarked (kindsOf x) ≡ eqb code 0x77
 missing-only code x e =
-    let at = at-code missingTest code x groupLines missing-tested e in
+    let at = at-code missingTest code x rows missing-tested e in
     same _ _ (at .0) ∙ ap (λ (c : ℕ). eqb c 0x77) (at .1)

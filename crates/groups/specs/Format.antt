@@ -1,10 +1,11 @@
 -- How a group stands in its bytes: the code, then its fields one after the other, then filler. Document 01: "Words of two
 -- bytes go low byte first"; Groups: "A group is read from and written to eight lent bytes, 0xFF after its own length".
-use Prim.Native.Nat.{ℕ, _+_, _-_, _*_, _/_, _%_}
+use Prim.Native.Nat.{ℕ, _+_, _-_}
 use mathlib.Core.Bool.{Bool, true, _&&_, _||_}
 use mathlib.Core.List.{List, [], _∷_, _++_}
 use lib.Dec.{eqb, leb}
 use lib.ListN.{getD, drop, replicate}
+use Rattle.frame.specs.Count.{lowByte, highByte, wordOf}
 use Rattle.groups.specs.Table.{kindAt}
 use Rattle.groups.specs.declared.Group.{Group}
 use Rattle.groups.specs.declared.Kind.{Kind}
@@ -12,7 +13,7 @@ use Rattle.groups.specs.declared.Row.{Row}
 use Rattle.groups.specs.declared.Width.{Width}
 use Rattle.groups.specs.declared.Width.the-variants.{None, Byte, Word}
 
--- the kinds of a row's four places, and a group's four values, as lists
+-- the kinds of a row's four fields, and a group's four values, as lists
 abbrev pub kindsOf : Row → List Kind
 kindsOf x = kindAt (x .first) ∷ kindAt (x .second) ∷ kindAt (x .third) ∷ kindAt (x .fourth) ∷ []
 
@@ -38,11 +39,15 @@ allAllowed [] vs = true
 allAllowed (k ∷ ks) [] = true
 allAllowed (k ∷ ks) (v ∷ vs) = allowed k v && allAllowed ks vs
 
+-- a row allows the values that the kinds of its fields do: what reading and writing judge by
+unfoldable pub rowAllows : Row → List ℕ → Bool
+rowAllows x vs = allAllowed (kindsOf x) vs
+
 -- the value of a field at the front of some bytes, and of fields one after the other
 abbrev pub valueOf : Width → List ℕ → ℕ
 valueOf None s = 0
 valueOf Byte s = getD s 0 0
-valueOf Word s = getD s 0 0 + 256 * getD s 1 0
+valueOf Word s = wordOf (getD s 0 0) (getD s 1 0)
 
 abbrev pub valuesOf : List Kind → List ℕ → List ℕ
 valuesOf [] s = []
@@ -51,8 +56,8 @@ valuesOf (k ∷ ks) s = valueOf (k .width) s ∷ valuesOf ks (drop (sizeOf (k .w
 -- the bytes of a value in a field, and of values in fields one after the other
 abbrev pub bytesOf : Width → ℕ → List ℕ
 bytesOf None v = []
-bytesOf Byte v = v % 256 ∷ []
-bytesOf Word v = v % 256 ∷ v / 256 % 256 ∷ []
+bytesOf Byte v = lowByte v ∷ []
+bytesOf Word v = lowByte v ∷ highByte v ∷ []
 
 abbrev pub fieldsOf : List Kind → List ℕ → List ℕ
 fieldsOf [] vs = []
@@ -61,7 +66,14 @@ fieldsOf (k ∷ ks) (v ∷ vs) = bytesOf (k .width) v ++ fieldsOf ks vs
 
 -- the group of a code and four values
 abbrev pub groupOf : ℕ → List ℕ → Group
-groupOf code vs = record { code = code; first = getD vs 0 0; second = getD vs 1 0; third = getD vs 2 0; fourth = getD vs 3 0 }
+groupOf code vs =
+    record {
+      code = code;
+      first = getD vs 0 0;
+      second = getD vs 1 0;
+      third = getD vs 2 0;
+      fourth = getD vs 3 0;
+    }
 
 -- the group in eight bytes, whose fields start after the code, and the eight bytes of a group
 unfoldable pub groupFrom : ℕ → List Kind → List ℕ → Group

@@ -3,32 +3,35 @@ use Prim.Native.Nat.{ℕ}
 use mathlib.Core.List.{List}
 use lib.Dec.{eqb}
 use lib.ListN.{length}
-use Rattle.groups.specs.Answer.{Answer, given, refused}
 use Rattle.frame.specs.Choice.{pick}
-use Rattle.groups.specs.Format.{kindsOf, values, allAllowed, bytesFor}
-use Rattle.groups.specs.Table.{findOf}
+use Rattle.frame.specs.Result.{Result, accepted, refused}
+use Rattle.groups.specs.Format.{kindsOf, values, rowAllows, bytesFor}
+use Rattle.groups.specs.Table.{rows, findIn}
 use Rattle.groups.specs.declared.Group.{Group}
 use Rattle.groups.specs.declared.Row.{Row}
 
 pub record Outcome : Type 0 where
-  pub answer : Answer Unit
+  pub answer : Result Unit
   pub bytes : List ℕ
 
-abbrev pub outcome : Answer Unit → List ℕ → Outcome
+abbrev pub outcome : Result Unit → List ℕ → Outcome
 outcome answer bytes = record { answer = answer; bytes = bytes }
 
 -- "10 value"; else the group's bytes
 unfoldable pub writeRow : Group → List ℕ → Row → Outcome
 writeRow g s x =
-    pick (allAllowed (kindsOf x) (values g))
-    (outcome (given tt) (bytesFor (g .code) (kindsOf x) (values g)))
+    pick (rowAllows x (values g))
+    (outcome (accepted tt) (bytesFor (g .code) (kindsOf x) (values g)))
     (outcome (refused 10) s)
 
--- "9 code": the code's row
-unfoldable pub writeBy : Group → List ℕ → Answer Row → Outcome
-writeBy g s (given x) = writeRow g s x
+-- before it "9 code": the code's row
+unfoldable pub writeBy : Group → List ℕ → Result Row → Outcome
+writeBy g s (accepted x) = writeRow g s x
 writeBy g s (refused n) = outcome (refused n) s
 
--- "another lent length is 9"
-unfoldable pub writeOf : Group → List ℕ → Outcome
-writeOf g s = pick (eqb (length s) 8) (writeBy g s (findOf (g .code))) (outcome (refused 9) s)
+-- and first "another lent length is 9"; by the rows of any table, and of document 01's
+unfoldable pub writeIn : List Row → Group → List ℕ → Outcome
+writeIn table g s = pick (eqb (length s) 8) (writeBy g s (findIn (g .code) table)) (outcome (refused 9) s)
+
+abbrev pub writeOf : Group → List ℕ → Outcome
+writeOf g s = writeIn rows g s

@@ -4,16 +4,17 @@ ghost use Prim.Native.Nat.{_≤_};
 ghost use lib.ListN.{getD, drop};
 ghost use Rattle.groups.specs.Answer.{toldReading};
 ghost use Rattle.groups.specs.Format.{kindsOf, valueOf, groupFrom};
-ghost use Rattle.groups.specs.Reading.{judged, readRow, readOf};
-use crate::Finding;
+ghost use Rattle.groups.specs.Reading.{readRow, readOf};
+ghost use Rattle.groups.specs.Words.{rowFrom};
 use crate::Group;
 use crate::Reading;
 use crate::Row;
 use crate::Width;
-use crate::allows_at;
-use crate::find;
+use crate::judge::row_allows;
 use crate::size;
-use crate::width_at;
+use crate::table::row_from;
+use crate::table::row_word;
+use crate::table::width_at;
 use frame::read::all_filler;
 
 // The byte at a place, 0 past the end.
@@ -63,28 +64,18 @@ fn group_at(bytes: &[u8], code: u8, row: Row) -> Group
     }
 }
 
-// A row's group, or refusal 10 for a value. Reading and writing judge the values each for itself, so that the compiler
-// keeps them in registers in both.
-fn judged(row: Row, group: Group) -> Reading
-    ensures { λ r. ⌜ toldReading r ≡ judged row group ⌝ }
+// The group of a row, which is given as its word: refusal 9 for its filler, then 10 for a value.
+fn read_row(bytes: &[u8], code: u8, word: u64) -> Reading
+    ensures { λ r. ⌜ toldReading r ≡ readRow (now (bytes .entry)) code (rowFrom word) ⌝ }
 {
-    let first = allows_at(row.first, group.first);
-    let second = allows_at(row.second, group.second);
-    let third = allows_at(row.third, group.third);
-    let fourth = allows_at(row.fourth, group.fourth);
-    if first & (second & (third & fourth)) {
-        Reading::Group(group)
-    } else {
-        Reading::Refused(10)
-    }
-}
-
-// The group of a row: refusal 9 for its filler, then 10 for a value.
-fn read_row(bytes: &[u8], code: u8, row: Row) -> Reading
-    ensures { λ r. ⌜ toldReading r ≡ readRow (now (bytes .entry)) code row ⌝ }
-{
+    let row = row_from(word);
     if all_filler(bytes, row.length) {
-        judged(row, group_at(bytes, code, row))
+        let group = group_at(bytes, code, row);
+        if row_allows(word, group.first, group.second, group.third, group.fourth) {
+            Reading::Group(group)
+        } else {
+            Reading::Refused(10)
+        }
     } else {
         Reading::Refused(9)
     }
@@ -98,9 +89,10 @@ pub fn read(bytes: &[u8]) -> Reading
         return Reading::Refused(9);
     }
     let code = bytes[0];
-    let finding = find(code);
-    match finding {
-        Finding::Row(row) => read_row(bytes, code, row),
-        Finding::Refused(number) => Reading::Refused(number),
+    let word = row_word(code);
+    if word == 0 {
+        Reading::Refused(9)
+    } else {
+        read_row(bytes, code, word)
     }
 }

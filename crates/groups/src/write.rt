@@ -4,18 +4,19 @@ ghost use Prim.Native.Nat.{_≤_};
 ghost use lib.ListN.{set, length, replicate};
 ghost use lib.Seq.{sets};
 ghost use Rattle.groups.specs.Answer.{toldWriting};
-ghost use Rattle.groups.specs.Format.{allAllowed, bytesOf, values, sizesOf, kindsOf, bytesFor};
+ghost use Rattle.groups.specs.Format.{bytesOf, values, sizesOf, kindsOf, bytesFor};
+ghost use Rattle.groups.specs.Words.{rowFrom};
 ghost use Rattle.groups.specs.Writing.{outcome, writeRow, writeOf};
 use crate::FILLER;
-use crate::Finding;
 use crate::Group;
 use crate::Row;
 use crate::Width;
 use crate::Writing;
-use crate::allows_at;
-use crate::find;
+use crate::judge::row_allows;
 use crate::size;
-use crate::width_at;
+use crate::table::row_from;
+use crate::table::row_word;
+use crate::table::width_at;
 
 // Every byte becomes filler.
 fn fill(bytes: &mut [u8])
@@ -74,24 +75,13 @@ fn store(bytes: &mut [u8], group: Group, row: Row)
     put(bytes, last, four, group.fourth);
 }
 
-// The kinds of a row's fields allow a group's values.
-fn all_allowed(row: Row, group: Group) -> bool
-    ensures { λ r. ⌜ r ≡ allAllowed (kindsOf row) (values group) ⌝ }
+// A group of a row, which is given as its word: refusal 10 for a value.
+fn write_row(bytes: &mut [u8], group: Group, word: u64) -> Writing
+    requires { ⌜ (length (now bytes) ≡ 8) × (sizesOf (kindsOf (rowFrom word)) ≤ 7) ⌝ }
+    ensures { λ r. ⌜ outcome (toldWriting r) (now (bytes .exit)) ≡ writeRow group (now (bytes .entry)) (rowFrom word) ⌝ }
 {
-    let first = allows_at(row.first, group.first);
-    let second = allows_at(row.second, group.second);
-    let third = allows_at(row.third, group.third);
-    let fourth = allows_at(row.fourth, group.fourth);
-    first & (second & (third & fourth))
-}
-
-// A group of a row: refusal 10 for a value.
-fn write_row(bytes: &mut [u8], group: Group, row: Row) -> Writing
-    requires { ⌜ (length (now bytes) ≡ 8) × (sizesOf (kindsOf row) ≤ 7) ⌝ }
-    ensures { λ r. ⌜ outcome (toldWriting r) (now (bytes .exit)) ≡ writeRow group (now (bytes .entry)) row ⌝ }
-{
-    if all_allowed(row, group) {
-        store(bytes, group, row);
+    if row_allows(word, group.first, group.second, group.third, group.fourth) {
+        store(bytes, group, row_from(word));
         Writing::Done
     } else {
         Writing::Refused(10)
@@ -105,9 +95,10 @@ pub fn write(group: Group, bytes: &mut [u8]) -> Writing
     if bytes.len() != 8 {
         return Writing::Refused(9);
     }
-    let finding = find(group.code);
-    match finding {
-        Finding::Row(row) => write_row(bytes, group, row),
-        Finding::Refused(number) => Writing::Refused(number),
+    let word = row_word(group.code);
+    if word == 0 {
+        Writing::Refused(9)
+    } else {
+        write_row(bytes, group, word)
     }
 }

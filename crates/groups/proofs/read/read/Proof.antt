@@ -1,4 +1,4 @@
--- `groups::read::read` meets its contract. The length is tested, then the row of the first byte decides.
+-- `groups::read::read` meets its contract.
 -- Assumes nothing.
 use borrow.Author.Needs.{needs}
 use Rattle.groups.proofs.Laws.{reading}
@@ -11,17 +11,11 @@ returns c = search reading
 shared-slice-read-code : tie.Need-shared-slice-read-code
 shared-slice-read-code c = search needs
 
-find-requires : tie.Need-find-requires
-find-requires c κs = search needs
-
-enum-known-finding : tie.Need-enum-known-finding
-enum-known-finding c = search needs
+row-word-requires : tie.Need-row-word-requires
+row-word-requires c κs = search needs
 
 read-row-requires : tie.Need-read-row-requires
 read-row-requires c κs = search needs
-
-enum-known-finding-2 : tie.Need-enum-known-finding-2
-enum-known-finding-2 c = search needs
 
 returns-2 : tie.Need-returns-2
 returns-2 c = search reading
@@ -35,9 +29,7 @@ read-spec =
     (tie.spec
     returns
     shared-slice-read-code
-    find-requires
-    enum-known-finding
+    row-word-requires
     read-row-requires
-    enum-known-finding-2
     returns-2
     returns-3)

@@ -1,15 +1,18 @@
--- `groups::write::write_row` meets its contract. The values are tested, and only then are bytes stored.
+-- `groups::write::write_row` meets its contract.
 -- Assumes nothing.
 use borrow.Author.Needs.{needs}
-use Rattle.groups.proofs.Laws.{writing}
+use Rattle.groups.proofs.Laws.{writing, same-sizes}
 use Rattle.groups.proofs.write.write_row.Statement.{statement}
 use Rattle.groups.proofs.write.write_row.Tie as tie
 
-all-allowed-requires : tie.Need-all-allowed-requires
-all-allowed-requires c κs = search needs
+row-allows-requires : tie.Need-row-allows-requires
+row-allows-requires c κs = search needs
+
+row-from-requires : tie.Need-row-from-requires
+row-from-requires c κs = search needs
 
 store-requires : tie.Need-store-requires
-store-requires c κs = search needs
+store-requires c κs = search (needs, same-sizes)
 
 same-length : tie.Need-same-length
 same-length c = search needs
@@ -22,4 +25,5 @@ returns-2 c = search writing
 
 pub write-row-spec : {M : Type 1} → statement M
 write-row-spec =
-    tie.close (tie.spec all-allowed-requires store-requires same-length returns returns-2)
+    tie.close
+    (tie.spec row-allows-requires row-from-requires store-requires same-length returns returns-2)
