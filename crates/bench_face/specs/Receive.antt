@@ -22,7 +22,14 @@ use Rattle.receiver.specs.declared.Settings.{Settings}
 
 abbrev pub connectionFrom : FlatReceiver → Connection
 connectionFrom r =
-    record { frames = r .frames; length = r .length; expected = r .expected; last = r .last; wait = r .wait; misses = r .misses }
+    record {
+      frames = r .frames;
+      length = r .length;
+      expected = r .expected;
+      last = r .last;
+      wait = r .wait;
+      misses = r .misses;
+    }
 
 -- 1 Idle with the N and L last delivered, 2 Open; every other number is read as Idle
 unfoldable pub phaseFrom : FlatReceiver → Phase
@@ -32,13 +39,27 @@ phaseFrom r =
 
 abbrev pub receiverFrom : FlatReceiver → Receiver
 receiverFrom r =
-    record { settings = record { timeout = r .timeout; window = r .window; capacity = r .capacity }; phase = phaseFrom r }
+    record {
+      settings = record { timeout = r .timeout; window = r .window; capacity = r .capacity };
+      phase = phaseFrom r;
+    }
 
 -- ---- writing
 
 abbrev pub flatOf : Settings → ℕ → Connection → FlatReceiver
 flatOf settings phase x =
-    record { timeout = settings .timeout; window = settings .window; capacity = settings .capacity; phase = phase; frames = x .frames; length = x .length; expected = x .expected; last = x .last; wait = x .wait; misses = x .misses }
+    record {
+      timeout = settings .timeout;
+      window = settings .window;
+      capacity = settings .capacity;
+      phase = phase;
+      frames = x .frames;
+      length = x .length;
+      expected = x .expected;
+      last = x .last;
+      wait = x .wait;
+      misses = x .misses;
+    }
 
 -- N and L, and 0 for what a delivery has not
 abbrev pub remembering : ℕ → ℕ → Connection
@@ -72,7 +93,15 @@ flatOutcome short = record { outcome = 4; number = 0; length = 0 }
 
 abbrev pub answerOf : FlatReceiver → Told → Report → ReceiverAnswer
 answerOf next t r =
-    record { next = next; emits = t .emits; frame = flatFrame (t .frame); outcome = r .outcome; number = r .number; length = r .length; bytes = t .bytes }
+    record {
+      next = next;
+      emits = t .emits;
+      frame = flatFrame (t .frame);
+      outcome = r .outcome;
+      number = r .number;
+      length = r .length;
+      bytes = t .bytes;
+    }
 
 unfoldable pub flatAnswer : Told → ReceiverAnswer
 flatAnswer t = answerOf (flatReceiver (t .next)) t (flatOutcome (t .outcome))
@@ -106,7 +135,13 @@ outcomeFrom r =
 
 unfoldable pub answerFrom : ReceiverAnswer → Told
 answerFrom a =
-    record { next = receiverFrom (a .next); emits = a .emits; frame = frameFrom (a .frame); outcome = outcomeFrom (record { outcome = a .outcome; number = a .number; length = a .length }); bytes = a .bytes }
+    record {
+      next = receiverFrom (a .next);
+      emits = a .emits;
+      frame = frameFrom (a .frame);
+      outcome = outcomeFrom (record { outcome = a .outcome; number = a .number; length = a .length });
+      bytes = a .bytes;
+    }
 
 unfoldable pub madeFrom : ReceiverMade → result.Result Receiver
 madeFrom m = pick (m .made) (result.accepted (receiverFrom (m .end))) (result.refused (m .number))

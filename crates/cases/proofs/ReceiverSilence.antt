@@ -117,7 +117,7 @@ by-fit : (timeout window capacity frames l : ℕ) (buffer : List ℕ) (ticks : �
     → frames ≡ frameCountOf l
     → length buffer ≡ 1785
     → ofReceiver
-    (pick (fit && true && true) (accepted (idleWith timeout window capacity)) (refused 1))
+    (pick (fit && true) (accepted (idleWith timeout window capacity)) (refused 1))
     (λ r. receiverInSilence r frames l buffer ticks)
     ≡ pick fit (openNumbers timeout 1 0 0 1 ticks) (refusal 1)
 unfolding ofReceiver pick

@@ -9,7 +9,6 @@ use borrow.Author.Tests.{leb-true}
 use lib.Dec.{leb}
 use Rattle.frame.specs.Result.{accepted, refused}
 use Rattle.frame.specs.Choice.{pick}
-use Rattle.frame.specs.Count.{within}
 use Rattle.frame.specs.declared.Frame.{Frame}
 use Rattle.receiver.specs.Make as receiver-making
 use Rattle.receiver.specs.Told as receiver
@@ -197,7 +196,7 @@ limits-of : (gap timeout limit timeout′ window capacity : ℕ)
     → Limits (record { gap = gap; timeout = timeout; limit = limit }) (record { timeout = timeout′; window = window; capacity = capacity })
 limits-of gap timeout limit timeout′ window capacity e d =
     let time = both-right (leb 1 timeout && leb timeout 10000) (leb 1 limit && leb limit 60000) (both-right (leb 1 gap && leb gap 10) _ e) in
-    let wait = both-left (leb 1 timeout′ && leb timeout′ 10000) (within 1 window 255) (both-left _ (within 9 capacity 1785) d) in
+    let wait = both-left (leb 1 timeout′ && leb timeout′ 10000) _ d in
     record {
       some = leb-true 1 limit (both-left (leb 1 limit) (leb limit 60000) time);
       few = leb-true limit 60000 (both-right (leb 1 limit) (leb limit 60000) time);

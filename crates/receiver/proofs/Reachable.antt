@@ -55,10 +55,10 @@ high-of low x high e = leb-true _ _ (both-right (leb low x) (leb x high) e)
 settings-within : (timeout window capacity : ℕ) → settingsFit timeout window capacity ≡ true
     → SettingsWithin (idleWith timeout window capacity .settings)
 settings-within timeout window capacity e =
-    let first = both-left (within 1 timeout 10000 && within 1 window 255) (within 9 capacity 1785) e in
-    let t = both-left (within 1 timeout 10000) (within 1 window 255) first in
-    let w = both-right (within 1 timeout 10000) (within 1 window 255) first in
-    let k = both-right (within 1 timeout 10000 && within 1 window 255) (within 9 capacity 1785) e in
+    let t = both-left (within 1 timeout 10000) (within 1 window 255 && within 9 capacity 1785) e in
+    let rest = both-right (within 1 timeout 10000) (within 1 window 255 && within 9 capacity 1785) e in
+    let w = both-left (within 1 window 255) (within 9 capacity 1785) rest in
+    let k = both-right (within 1 window 255) (within 9 capacity 1785) rest in
     record {
       timeoutLow = low-of 1 timeout 10000 t;
       timeoutHigh = high-of 1 timeout 10000 t;
@@ -123,7 +123,8 @@ module _ (s : Settings) (w : SettingsWithin s) where
           tries = o .tries;
         };
       }
-  ticks-within o (retries {x} _ more) = asked x _ (incrementOf (x .misses)) (o .announced) (o .first) (omega arith) more
+  ticks-within o (retries {x} _ more) =
+      asked x _ (incrementOf (x .misses)) (o .announced) (o .first) (omega arith) more
   ticks-within o expires = record { settings = w; phase = tt }
 
   -- ---- a hearing
@@ -134,12 +135,14 @@ module _ (s : Settings) (w : SettingsWithin s) where
   hears-within o ignores = record { settings = w; phase = o }
   hears-within o (announced _ _ (nacks _ _)) = record { settings = w; phase = o }
   hears-within {f} o (announced _ _ (opens _ low high fits room)) =
-      asked (opened (byteOf f 1) (wordAt f 2 3) 1) 1 0 (record { long = low; space = room; fits = fits; byte = omega arith }) (omega arith) (omega arith) (omega arith)
+      let a : Announced s (byteOf f 1) (wordAt f 2 3) = record { long = low; space = room; fits = fits; byte = omega arith } in
+      asked (opened (byteOf f 1) (wordAt f 2 3) 1) 1 0 a (omega arith) (omega arith) (omega arith)
   hears-within o (announced _ _ again) = record { settings = w; phase = o }
   hears-within o (informed _ _ _ (ended _)) = record { settings = w; phase = o }
   hears-within o (informed _ _ _ (above _)) = record { settings = w; phase = tt }
   hears-within o (informed _ _ _ (delivers _ _)) = record { settings = w; phase = o .announced }
-  hears-within o (informed _ _ _ (asks {x} _ more _)) = asked x (x .expected + 1) 0 (o .announced) (omega arith) (omega arith) (omega arith)
+  hears-within o (informed _ _ _ (asks {x} _ more _)) =
+      asked x (x .expected + 1) 0 (o .announced) (omega arith) (omega arith) (omega arith)
   hears-within o (informed _ _ _ (goes-on _ more part)) =
       record {
         settings = w;

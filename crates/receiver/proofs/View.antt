@@ -133,7 +133,8 @@ module _ (s : Settings) where
   tick-phase (Open x) =
       let P : Told → Type 0 = Ticks s (Open x) in
       pick-elim P _
-      (λ due. pick-elim P _ (λ third. expires) (λ more. retries (leb-true _ _ due) (leb-false _ _ more)))
+      (λ due. pick-elim P _ (λ third. expires)
+      (λ more. retries (leb-true _ _ due) (leb-false _ _ more)))
       (λ early. waits (leb-false _ _ early))
 
   module _ (f : Frame) (buffer : List ℕ) where
@@ -169,24 +170,30 @@ module _ (s : Settings) where
 
     module _ (lent : length buffer ≡ 1785) (one : f .kind ≡ 1) (low : 1 ≤ byteOf f 0) where
       -- the frame is taken
-      takes : {p : Phase} {h : Heard} → Informed s (byteOf f 0) (drop 1 (f .bytes)) buffer p h → Hears s f buffer p h
+      takes : {p : Phase} {h : Heard} → Informed s (byteOf f 0) (drop 1 (f .bytes)) buffer p h
+          → Hears s f buffer p h
       takes i = informed lent one low i
 
-      -- the frame expected, once it is in the buffer
+      -- the answer t, and the frame's bytes in the buffer
+      abbrev Stores : Connection → Told → Type 0
+      Stores x t =
+          Hears s f buffer (Open x) (heard t (storing buffer (byteOf f 0) (x .length) (drop 1 (f .bytes))))
+
       stored-does : (x : Connection) → byteOf f 0 ≡ x .expected → x .expected ≤ x .frames
-          → Hears s f buffer (Open x)
-          (heard (stored (receiverIn s (Open x)) x) (storing buffer (byteOf f 0) (x .length) (drop 1 (f .bytes))))
+          → Stores x (stored (receiverIn s (Open x)) x)
       unfolding stored
       stored-does x at inside =
-          let P : Told → Type 0 = λ t. Hears s f buffer (Open x) (heard t (storing buffer (byteOf f 0) (x .length) (drop 1 (f .bytes)))) in
-          pick-elim P _ (λ whole. takes (delivers at (eqb-true _ _ whole)))
+          pick-elim (Stores x) _ (λ whole. takes (delivers at (eqb-true _ _ whole)))
           (λ more.
-          let below : x .expected < x .frames = omega (arith, eqb-false (x .expected) (x .frames) more) in
-          pick-elim P _ (λ full. takes (asks at below (eqb-true _ _ full)))
+          let other = eqb-false (x .expected) (x .frames) more in
+          let below : x .expected < x .frames = omega (arith, other) in
+          pick-elim (Stores x) _ (λ full. takes (asks at below (eqb-true _ _ full)))
           (λ part. takes (goes-on at below (eqb-false _ _ part))))
 
+      -- every phase, and every reason to refuse or to ignore the frame
       information-does : (p : Phase)
-          → Hears s f buffer p (hearInformation (receiverIn s p) p (byteOf f 0) (drop 1 (f .bytes)) buffer)
+          → Hears s f buffer p
+          (hearInformation (receiverIn s p) p (byteOf f 0) (drop 1 (f .bytes)) buffer)
       unfolding hearInformation informationDone informationOpen
       information-does Idle = ignores
       information-does (Done y) =

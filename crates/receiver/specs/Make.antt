@@ -10,12 +10,15 @@ use Rattle.receiver.specs.declared.Receiver.{Receiver}
 -- the receiver: "Settings: T as above (its own), window C 1 to 255, capacity K 9 to 1785."
 abbrev pub settingsFit : ℕ → ℕ → ℕ → Bool
 settingsFit timeout window capacity =
-    within 1 timeout 10000 && within 1 window 255 && within 9 capacity 1785
+    within 1 timeout 10000 && (within 1 window 255 && within 9 capacity 1785)
 
 -- an idle receiver with these settings, nothing delivered
 abbrev pub idleWith : ℕ → ℕ → ℕ → Receiver
 idleWith timeout window capacity =
-    record { settings = record { timeout = timeout; window = window; capacity = capacity }; phase = Idle }
+    record {
+      settings = record { timeout = timeout; window = window; capacity = capacity };
+      phase = Idle;
+    }
 
 -- refusals: "making an end: 1 setting"
 unfoldable pub makeOf : ℕ → ℕ → ℕ → Result Receiver

@@ -33,7 +33,8 @@ impl Receiver {
     // Number 0 announces, a number from 1 carries message bytes.
     fn hear_numbered(self, f: Frame, parsed: Parsed, buffer: &mut [u8]) -> Answer
         requires { ⌜ length (now buffer) ≡ 1785 ⌝ }
-        ensures { λ r. ⌜ heard (told r) (now (buffer .exit)) ≡ hearNumbered self f parsed (now (buffer .entry)) ⌝ }
+        ensures { λ r. ⌜ heard (told r) (now (buffer .exit))
+            ≡ hearNumbered self f parsed (now (buffer .entry)) ⌝ }
     {
         let bytes = f.bytes;
         let number = parsed.number;
@@ -47,7 +48,8 @@ impl Receiver {
     // A frame that was read, by its kind. Refused 7 where the kind is for the other end.
     fn hear_kind(self, f: Frame, parsed: Parsed, buffer: &mut [u8]) -> Answer
         requires { ⌜ length (now buffer) ≡ 1785 ⌝ }
-        ensures { λ r. ⌜ heard (told r) (now (buffer .exit)) ≡ hearKind self f parsed (now (buffer .entry)) ⌝ }
+        ensures { λ r. ⌜ heard (told r) (now (buffer .exit))
+            ≡ hearKind self f parsed (now (buffer .entry)) ⌝ }
     {
         let kind = parsed.kind;
         let bytes = f.bytes;
