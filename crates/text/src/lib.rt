@@ -1,6 +1,6 @@
 // The lines that the player prints, written into a lent slice from a place on. Each function answers the place after what
 // it wrote; bytes that find the slice full are left out.
-mod line;
+mod lines;
 mod number;
 mod page;
 
@@ -9,13 +9,13 @@ ghost use Rattle.receiver.specs.Told as receiver-told;
 ghost use Rattle.sender.specs.Told as sender-told;
 ghost use Rattle.text.specs.Page.{page, put};
 ghost use Rattle.text.specs.Text.{emittedText, senderReport, receiverReport, refusedText, senderSays, receiverSays};
-use crate::line::NEWLINE;
-use crate::line::closed_line;
-use crate::line::delivered_line;
-use crate::line::failed_line;
-use crate::line::frame_line;
-use crate::line::sent_line;
-use crate::line::short_line;
+use crate::lines::NEWLINE;
+use crate::lines::closed_line;
+use crate::lines::delivered_line;
+use crate::lines::failed_line;
+use crate::lines::frame_line;
+use crate::lines::sent_line;
+use crate::lines::short_line;
 use crate::number::put_spaced;
 use crate::page::put_byte;
 use crate::page::put_text;

@@ -2,8 +2,8 @@
 -- Assumes nothing.
 use borrow.Author.Needs.{needs}
 use Rattle.text.proofs.Paths.{head-put}
-use Rattle.text.proofs.line.put_head.Statement.{statement}
-use Rattle.text.proofs.line.put_head.Tie as tie
+use Rattle.text.proofs.lines.put_head.Statement.{statement}
+use Rattle.text.proofs.lines.put_head.Tie as tie
 
 digits-requires : tie.Need-digits-requires
 digits-requires c κs = search needs

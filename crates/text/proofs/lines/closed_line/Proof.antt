@@ -1,9 +1,9 @@
--- `text::line::delivered_line` meets its contract. The parts of the line are written one after the other.
+-- `text::line::closed_line` meets its contract. The parts of the line are written one after the other.
 -- Assumes nothing.
 use borrow.Author.Needs.{needs}
-use Rattle.text.proofs.Paths.{delivered-put}
-use Rattle.text.proofs.line.delivered_line.Statement.{statement}
-use Rattle.text.proofs.line.delivered_line.Tie as tie
+use Rattle.text.proofs.Paths.{closed-put}
+use Rattle.text.proofs.lines.closed_line.Statement.{statement}
+use Rattle.text.proofs.lines.closed_line.Tie as tie
 
 put-head-requires : tie.Need-put-head-requires
 put-head-requires c κs = search needs
@@ -29,10 +29,10 @@ returns c =
     let third = fourth .before .before .before .before in
     let second = third .before .before .before .before in
     let first = second .before .before .before .before .before in
-    delivered-put _ _ _ (fourth .put-byte .ensures) (third .put-spaced .ensures) (second .put-text .ensures) (first .put-head .ensures)
+    closed-put _ _ _ (fourth .put-byte .ensures) (third .put-spaced .ensures) (second .put-text .ensures) (first .put-head .ensures)
 
-pub delivered-line-spec : {M : Type 1} → statement M
-delivered-line-spec =
+pub closed-line-spec : {M : Type 1} → statement M
+closed-line-spec =
     tie.close
     (tie.spec
     put-head-requires

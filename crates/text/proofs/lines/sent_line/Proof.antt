@@ -1,9 +1,9 @@
--- `text::line::failed_line` meets its contract. The parts of the line are written one after the other.
+-- `text::line::sent_line` meets its contract. The parts of the line are written one after the other.
 -- Assumes nothing.
 use borrow.Author.Needs.{needs}
-use Rattle.text.proofs.Paths.{failed-put}
-use Rattle.text.proofs.line.failed_line.Statement.{statement}
-use Rattle.text.proofs.line.failed_line.Tie as tie
+use Rattle.text.proofs.Paths.{sent-put}
+use Rattle.text.proofs.lines.sent_line.Statement.{statement}
+use Rattle.text.proofs.lines.sent_line.Tie as tie
 
 put-head-requires : tie.Need-put-head-requires
 put-head-requires c κs = search needs
@@ -20,9 +20,6 @@ put-spaced-requires c κs = search needs
 put-spaced-requires-2 : tie.Need-put-spaced-requires-2
 put-spaced-requires-2 c κs = search needs
 
-put-spaced-requires-3 : tie.Need-put-spaced-requires-3
-put-spaced-requires-3 c κs = search needs
-
 put-byte-requires : tie.Need-put-byte-requires
 put-byte-requires c κs = search needs
 
@@ -31,16 +28,15 @@ same-length c = search needs
 
 returns : tie.Need-returns
 returns c =
-    let sixth = c .before .before in
-    let fifth = sixth .before .before .before .before in
+    let fifth = c .before .before in
     let fourth = fifth .before .before .before .before in
     let third = fourth .before .before .before .before in
     let second = third .before .before .before .before in
     let first = second .before .before .before .before .before in
-    failed-put _ _ _ _ _ (sixth .put-byte .ensures) (fifth .put-spaced3 .ensures) (fourth .put-spaced2 .ensures) (third .put-spaced .ensures) (second .put-text .ensures) (first .put-head .ensures)
+    sent-put _ _ _ _ (fifth .put-byte .ensures) (fourth .put-spaced2 .ensures) (third .put-spaced .ensures) (second .put-text .ensures) (first .put-head .ensures)
 
-pub failed-line-spec : {M : Type 1} → statement M
-failed-line-spec =
+pub sent-line-spec : {M : Type 1} → statement M
+sent-line-spec =
     tie.close
     (tie.spec
     put-head-requires
@@ -48,7 +44,6 @@ failed-line-spec =
     put-text-requires
     put-spaced-requires
     put-spaced-requires-2
-    put-spaced-requires-3
     put-byte-requires
     same-length
     returns)

@@ -2,8 +2,8 @@
 -- Assumes nothing.
 use borrow.Author.Needs.{needs}
 use Rattle.text.proofs.Paths.{frame-put}
-use Rattle.text.proofs.line.frame_line.Statement.{statement}
-use Rattle.text.proofs.line.frame_line.Tie as tie
+use Rattle.text.proofs.lines.frame_line.Statement.{statement}
+use Rattle.text.proofs.lines.frame_line.Tie as tie
 
 put-head-requires : tie.Need-put-head-requires
 put-head-requires c κs = search needs
