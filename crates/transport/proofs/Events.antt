@@ -56,7 +56,7 @@ frames-eight bytes zero p = tt
 frames-eight bytes (suc n) p = (refl, frames-eight bytes n (suc p))
 
 pub whole-world : (ends : Ends) (forward back buffer : List ℕ) → Whole (worldOf ends forward back buffer)
-unfolding framesIn
+unfolding framesIn worldOf
 whole-world ends forward back buffer = record { forward = frames-eight forward _ _; back = frames-eight back _ _ }
 
 -- ---- one call
@@ -172,8 +172,8 @@ unfolding givenBack
 back-call k c w [] = refl
 back-call k c w (f ∷ fs) = refl
 
-pub call-of : (w : World) (c : Call) → cappedStep w c .event .call ≡ c
-unfolding cappedStep stepOf
+pub call-of : (w : World) (c : Call) → stepOf w c .event .call ≡ c
+unfolding stepOf
 call-of w (begin m) = refl
 call-of w (senderTick m) = refl
 call-of w receiverTick = refl
