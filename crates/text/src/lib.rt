@@ -8,7 +8,14 @@ ghost use mathlib.Core.Path.{_≡_};
 ghost use Rattle.receiver.specs.Told as receiver-told;
 ghost use Rattle.sender.specs.Told as sender-told;
 ghost use Rattle.text.specs.Page.{page, put};
-ghost use Rattle.text.specs.Text.{emittedText, senderReport, receiverReport, refusedText, senderSays, receiverSays};
+ghost use Rattle.text.specs.Text.{
+  emittedText,
+  senderReport,
+  receiverReport,
+  refusedText,
+  hasSenderReport,
+  hasReceiverReport,
+};
 use crate::lines::NEWLINE;
 use crate::lines::closed_line;
 use crate::lines::delivered_line;
@@ -22,7 +29,8 @@ use crate::page::put_text;
 use frame::Frame;
 
 pub fn sender_report(number: u16, outcome: sender::Outcome, out: &mut [u8], at: usize) -> usize
-    ensures { λ r. ⌜ page (now (out .exit)) r ≡ put (page (now (out .entry)) at) (senderReport number (sender-told.toldOutcome outcome)) ⌝ }
+    ensures { λ r. ⌜ page (now (out .exit)) r
+        ≡ put (page (now (out .entry)) at) (senderReport number (sender-told.toldOutcome outcome)) ⌝ }
 {
     match outcome {
         sender::Outcome::Quiet => at,
@@ -55,13 +63,13 @@ pub fn receiver_report(
     }
 }
 
-// Whether an answer has anything to print: a frame or a report.
-pub fn sender_says(emits: bool, outcome: sender::Outcome) -> bool
-    ensures { λ r. ⌜ r ≡ senderSays emits (sender-told.toldOutcome outcome) ⌝ }
+// Whether there is a report to print.
+pub fn has_sender_report(outcome: sender::Outcome) -> bool
+    ensures { λ r. ⌜ r ≡ hasSenderReport (sender-told.toldOutcome outcome) ⌝ }
 {
     match outcome {
-        sender::Outcome::Quiet => emits,
-        sender::Outcome::Refused(_) => true,
+        sender::Outcome::Quiet => false,
+        sender::Outcome::Refused(_) => false,
         sender::Outcome::Sent {
             ticks: _,
             frames: _,
@@ -74,12 +82,12 @@ pub fn sender_says(emits: bool, outcome: sender::Outcome) -> bool
     }
 }
 
-pub fn receiver_says(emits: bool, outcome: receiver::Outcome) -> bool
-    ensures { λ r. ⌜ r ≡ receiverSays emits (receiver-told.toldOutcome outcome) ⌝ }
+pub fn has_receiver_report(outcome: receiver::Outcome) -> bool
+    ensures { λ r. ⌜ r ≡ hasReceiverReport (receiver-told.toldOutcome outcome) ⌝ }
 {
     match outcome {
-        receiver::Outcome::Quiet => emits,
-        receiver::Outcome::Refused(_) => true,
+        receiver::Outcome::Quiet => false,
+        receiver::Outcome::Refused(_) => false,
         receiver::Outcome::Delivered(_) => true,
         receiver::Outcome::Failed(_) => true,
         receiver::Outcome::Short => true,
@@ -104,7 +112,8 @@ pub fn emitted_line(
     out: &mut [u8],
     at: usize,
 ) -> usize
-    ensures { λ r. ⌜ page (now (out .exit)) r ≡ put (page (now (out .entry)) at) (emittedText number letter emits f) ⌝ }
+    ensures { λ r. ⌜ page (now (out .exit)) r
+        ≡ put (page (now (out .entry)) at) (emittedText number letter emits f) ⌝ }
 {
     if emits {
         frame_line(number, letter, f, out, at)

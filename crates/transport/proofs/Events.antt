@@ -2,7 +2,7 @@
 -- emitted, what each end reported and the bytes of a short delivery.
 -- Assumes nothing.
 use Prim.Native.Nat.{ℕ, zero, suc}
-use mathlib.Core.Path.{_≡_, refl, _∙_}
+use mathlib.Core.Path.{_≡_, refl, ap, _∙_}
 use mathlib.Core.Bool.{Bool, true, false}
 use mathlib.Core.List.{List, [], _∷_, _++_}
 use lib.ListN.{length, take}
@@ -155,6 +155,11 @@ call-bytes w c a = of-call w c a .bytes
 pub call-whole : (w : World) (c : Call) → Whole w → Whole (cappedStep w c .world)
 unfolding cappedStep
 call-whole w c a = of-call w c a .whole
+
+-- what a begin reports depends on the sender and the message alone
+pub begin-reports : (w v : World) (m : List ℕ) → w .sender ≡ v .sender → stepOf w (begin m) .event .sender ≡ stepOf v (begin m) .event .sender
+unfolding stepOf
+begin-reports w v m e = ap (λ (s : Sender). beginOf s m .outcome) e
 
 -- what is lent a line in its length is answered
 pub lent-answer : {fits : Bool} (w : World) (c : Call) {x : Told} → fits ≡ true → x ≡ lentOf fits w c → x ≡ answerOf w c
