@@ -15,7 +15,7 @@ use lib.Seq.{take-all, take-append-le}
 use Rattle.delivery.proofs.Theorem.{demand-3}
 use Rattle.delivery.specs.Capped.{Losses, none, lostForward, lostBack, Among, start, follows, CappedRuns, CappedDemand3}
 use Rattle.delivery.specs.Demand3.{Condition, Conditions, Promise}
-use Rattle.delivery.specs.Run.{Past, fresh, next, runOf}
+use Rattle.delivery.specs.Run.{Past, next, runOf}
 use Rattle.delivery.specs.Seen
 use Rattle.delivery.specs.Seen.{further, Begun, Opened, begunIn, begunAfter, openedIn, openedAfter}
 use Rattle.frame.specs.Choice.{pick}

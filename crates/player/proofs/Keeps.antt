@@ -4,8 +4,8 @@
 use Prim.Native.Nat.{ℕ}
 use mathlib.Core.Bool.{Bool, true, false}
 use mathlib.Core.List.{List, [], _∷_}
-use mathlib.Core.Path.{_≡_, refl, sym, ap, subst, _∙_}
-use lib.ListN.{length, replicate}
+use mathlib.Core.Path.{_≡_, refl, subst}
+use lib.ListN.{replicate}
 use Rattle.delivery.proofs.Runs.{capped-demand-3}
 use Rattle.delivery.specs.Demand3.{LentMessage, Condition, Conditions, Promise}
 use Rattle.delivery.specs.Run.{Past, fresh, next, runOf}
@@ -19,7 +19,7 @@ use Rattle.transport.proofs.Events.{call-of}
 use Rattle.transport.proofs.Making.{make-answers}
 use Rattle.transport.specs.Capped.{cappedStep}
 use Rattle.transport.specs.Step.{stepOf}
-use Rattle.transport.specs.World.{World, Call, begin, Event, startOf}
+use Rattle.transport.specs.World.{World, Call, begin, Event}
 
 -- ---- the conditions
 

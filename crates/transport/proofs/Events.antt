@@ -12,7 +12,6 @@ use Rattle.line.specs.Ring.{frameAt, framesFrom, framesIn}
 use Rattle.receiver.specs.Hear as hearing
 use Rattle.receiver.specs.Tick as ticking
 use Rattle.receiver.specs.Told as receiver
-use Rattle.receiver.specs.declared.Receiver.{Receiver}
 use Rattle.sender.specs.Begin.{beginOf}
 use Rattle.sender.specs.Hear.{hearOf}
 use Rattle.sender.specs.Tick.{tickOf}
@@ -22,7 +21,7 @@ use Rattle.transport.proofs.Eight.{Eight, begin-eight, tick-eight, hear
 use Rattle.transport.specs.Answer.{worldOf, Told, answerOf, lentOf}
 use Rattle.transport.specs.Capped.{capped, cappedStep}
 use Rattle.transport.specs.Step.{emission, Stepped, unheard, bySender, byReceiver, Rest, gone, still, leaving, dropped, givenForward, givenBack, stepOf}
-use Rattle.transport.specs.World.{World, Call, begin, senderTick, receiverTick, hearForward, repeatForward, loseForward, hearBack, repeatBack, loseBack, Given, nobody, toSender, toReceiver, Event}
+use Rattle.transport.specs.World.{World, Call, begin, senderTick, receiverTick, hearForward, repeatForward, loseForward, hearBack, repeatBack, loseBack, Given, nobody, toSender, toReceiver}
 use Rattle.transport.specs.declared.Ends.{Ends}
 
 -- ---- lines of frames of eight bytes
