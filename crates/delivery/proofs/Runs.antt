@@ -1,6 +1,6 @@
--- Every run of the player is a run of demand 3's calls. The transport's line holds the player's frames and, between them,
--- those that the player's line of 64 dropped; such a frame is lost once it is the first. So before a call that takes the
--- first frame, the dropped ones in front of it are lost, and then both lines give the same frame.
+-- Every run at a line of 64 is a run of demand 3's calls. The line that keeps all holds the frames of the other and, between
+-- them, those that the other dropped; such a frame is lost once it is the first. So before each call the dropped frames in
+-- front of both lines are lost, and then both give the same frame.
 -- Assumes nothing.
 use Prim.Native.Nat.{ℕ, _+_, _≤_, _<_}
 use mathlib.Core.Path.{_≡_, refl, ap, _∙_}
@@ -12,11 +12,14 @@ use borrow.Author.Tests.{leb-true, leb-false}
 use lib.Dec.{leb}
 use lib.ListN.{length, take, length-append}
 use lib.Seq.{take-all, take-append-le}
-use Rattle.frame.proofs.Choice.{pick-elim}
+use Rattle.delivery.proofs.Theorem.{demand-3}
+use Rattle.delivery.specs.Capped.{Losses, none, lostForward, lostBack, Among, start, follows, CappedRuns, CappedDemand3}
+use Rattle.delivery.specs.Demand3.{Condition, Conditions, Promise}
+use Rattle.delivery.specs.Run.{Past, next, runOf}
+use Rattle.delivery.specs.Seen
+use Rattle.delivery.specs.Seen.{further, Begun, Opened, begunIn, begunAfter, openedIn, openedAfter}
+use Rattle.frame.specs.Choice.{pick}
 use Rattle.frame.specs.declared.Frame.{Frame}
-use Rattle.delivery.specs.Claim.{runFrom, newestFirst, loss, Losses, none, lostForward, lostBack, Among, start, follows, CappedRuns, CappedKeeps}
-use Rattle.transport.specs.Capped.{capped, cappedStep}
-use Rattle.delivery.specs.Turns.{turnFor, eventsFrom}
 use Rattle.receiver.specs.Hear as hearing
 use Rattle.receiver.specs.Tick as ticking
 use Rattle.receiver.specs.Told as receiver
@@ -26,15 +29,9 @@ use Rattle.sender.specs.Hear.{hearOf}
 use Rattle.sender.specs.Tick.{tickOf}
 use Rattle.sender.specs.Told as sender
 use Rattle.sender.specs.declared.Sender.{Sender}
-use Rattle.delivery.proofs.Example.{About, Goes, about-step, about-begin, lent-message}
-use Rattle.delivery.proofs.Theorem.{demand-3}
-use Rattle.delivery.specs.Demand3.{Condition, Conditions, Promise, fresh}
-use Rattle.delivery.specs.Example.{callFor}
-use Rattle.frame.specs.Choice.{pick}
-use Rattle.delivery.specs.Seen
-use Rattle.delivery.specs.Seen.{taken, further, Begun, Opened, begunIn, begunAfter, openedIn, openedAfter, sortOf}
-use Rattle.transport.specs.Step.{emission, givenForward, givenBack, stepOf, Past, next, runOf}
-use Rattle.transport.specs.World.{World, Call, begin, senderTick, receiverTick, hearForward, repeatForward, loseForward, hearBack, repeatBack, loseBack, Event, startOf}
+use Rattle.transport.specs.Capped.{capped, cappedStep}
+use Rattle.transport.specs.Step.{emission, Stepped, uncalled, unheard, bySender, byReceiver, Rest, gone, still, leaving, dropped, givenForward, givenBack, stepOf}
+use Rattle.transport.specs.World.{World, Call, begin, senderTick, receiverTick, hearForward, repeatForward, loseForward, hearBack, repeatBack, loseBack, Given, nobody, toSender, toReceiver, Event}
 
 -- ---- a list and the same with frames more
 
@@ -59,7 +56,7 @@ record Fewer (kept all : List Frame) : Type 0 where
   thinned : Thinned kept all
   few : length kept ≤ 64
 
--- what an end emits joins both, at the player's line only where fewer than 64 are before it
+-- what an end emits joins both, at the line of 64 only where fewer than 64 are before it
 emitted : (emits : Bool) (f : Frame) {kept all : List Frame} → Fewer kept all
     → Fewer (take 64 (kept ++ emission emits f)) (all ++ emission emits f)
 emitted false f {kept} {all} t =
@@ -77,7 +74,11 @@ emitted true f {kept} {all} t = go (leb 64 (length kept)) refl
         let l : length (kept ++ f ∷ []) ≤ 64 = rw length-append (omega arith) in
         rw (take-all 64 (kept ++ f ∷ []) l) (record { thinned = join-both f (t .thinned); few = l })
 
--- ---- runs
+-- a line that no frame joins
+stays : {kept all : List Frame} → Fewer kept all → Fewer (take 64 kept) all
+stays {kept} t = rw (take-all 64 kept (t .few)) t
+
+-- ---- the dropped frames in front of both lines are lost
 
 abbrev past : World → List Event → Past
 past w events = record { world = w; events = events }
@@ -88,7 +89,7 @@ world s r forward back buffer = record { sender = s; receiver = r; forward = for
 -- calls that lead from one past to another, each meeting its condition
 data Leads : Past → Past → Type 0 where
   here : {p : Past} → Leads p p
-  then : {p q : Past} (c : Call) → Condition p c (stepOf (p .world) c .event) → Leads (next p c) q → Leads p q
+  then : {p q : Past} (c : Call) → Condition p c (stepOf (p .world) c .event) → Leads (next stepOf p c) q → Leads p q
 
 leads-on : {p q r : Past} → Leads p q → Leads q r → Leads p r
 leads-on here m = m
@@ -105,284 +106,136 @@ data Level : List Frame → List Frame → Type 0 where
   empty : Level [] []
   first : (f : Frame) {rest allRest : List Frame} → Thinned rest allRest → Level (f ∷ rest) (f ∷ allRest)
 
--- the dropped frames in front of forward are lost
-record SettledForward (m : List ℕ) (s : Sender) (r : Receiver) (kept all line : List Frame) (buffer : List ℕ) (events : List Event) : Type 0 where
-  rest : List Frame
+record Settled (s : Sender) (r : Receiver) (buffer : List ℕ) (forward back allForward allBack : List Frame) (events : List Event) : Type 0 where
+  front : List Frame
+  rear : List Frame
   later : List Event
-  level : Level kept rest
+  level-front : Level forward front
+  level-rear : Level back rear
   losses : Losses events later
-  about : About m (begunIn later)
-  leads : Leads (past (world s r all line buffer) events) (past (world s r rest line buffer) later)
+  leads : Leads (past (world s r allForward allBack buffer) events) (past (world s r front rear buffer) later)
 
-settle-forward : (m : List ℕ) (s : Sender) (r : Receiver) {kept all : List Frame} (line : List Frame) (buffer : List ℕ) (events : List Event)
-    → Thinned kept all
-    → About m (begunIn events)
-    → SettledForward m s r kept all line buffer events
+settle-back : (s : Sender) (r : Receiver) (buffer : List ℕ) {forward front back all : List Frame} (events : List Event)
+    → Level forward front
+    → Thinned back all
+    → Settled s r buffer forward back front all events
 unfolding stepOf
-settle-forward m s r line buffer events empty a =
-    record { rest = _; later = events; level = empty; losses = none; about = a; leads = here }
-settle-forward m s r line buffer events (keep f t) a =
-    record { rest = _; later = events; level = first f t; losses = none; about = a; leads = here }
-settle-forward m s r line buffer events (drop f {kept} {all} t) a =
-    let a′ = about-step m (past (world s r (f ∷ all) line buffer) events) loseForward tt a in
-    let l = settle-forward m s r line buffer (loss loseForward ∷ events) t a′ in
+settle-back s r buffer events l empty =
+    record { front = _; rear = _; later = events; level-front = l; level-rear = empty; losses = none; leads = here }
+settle-back s r buffer events l (keep f t) =
+    record { front = _; rear = _; later = events; level-front = l; level-rear = first f t; losses = none; leads = here }
+settle-back s r buffer events l (drop f t) =
+    let rest = settle-back s r buffer (uncalled loseBack ∷ events) l t in
     record {
-      rest = l .rest;
-      later = l .later;
-      level = l .level;
-      losses = more-losses (lostForward none) (l .losses);
-      about = l .about;
-      leads = then loseForward tt (l .leads);
+      front = rest .front;
+      rear = rest .rear;
+      later = rest .later;
+      level-front = rest .level-front;
+      level-rear = rest .level-rear;
+      losses = more-losses (lostBack none) (rest .losses);
+      leads = then loseBack tt (rest .leads);
     }
 
--- the dropped frames in front of back are lost
-record SettledBack (m : List ℕ) (s : Sender) (r : Receiver) (line kept all : List Frame) (buffer : List ℕ) (events : List Event) : Type 0 where
-  rest : List Frame
-  later : List Event
-  level : Level kept rest
-  losses : Losses events later
-  about : About m (begunIn later)
-  leads : Leads (past (world s r line all buffer) events) (past (world s r line rest buffer) later)
-
-settle-back : (m : List ℕ) (s : Sender) (r : Receiver) (line : List Frame) {kept all : List Frame} (buffer : List ℕ) (events : List Event)
-    → Thinned kept all
-    → About m (begunIn events)
-    → SettledBack m s r line kept all buffer events
+settle : (s : Sender) (r : Receiver) (buffer : List ℕ) {forward back allForward allBack : List Frame} (events : List Event)
+    → Thinned forward allForward
+    → Thinned back allBack
+    → Settled s r buffer forward back allForward allBack events
 unfolding stepOf
-settle-back m s r line buffer events empty a =
-    record { rest = _; later = events; level = empty; losses = none; about = a; leads = here }
-settle-back m s r line buffer events (keep f t) a =
-    record { rest = _; later = events; level = first f t; losses = none; about = a; leads = here }
-settle-back m s r line buffer events (drop f {kept} {all} t) a =
-    let a′ = about-step m (past (world s r line (f ∷ all) buffer) events) loseBack tt a in
-    let l = settle-back m s r line buffer (loss loseBack ∷ events) t a′ in
+settle s r buffer events empty u = settle-back s r buffer events empty u
+settle s r buffer events (keep f t) u = settle-back s r buffer events (first f t) u
+settle s r buffer events (drop f t) u =
+    let rest = settle s r buffer (uncalled loseForward ∷ events) t u in
     record {
-      rest = l .rest;
-      later = l .later;
-      level = l .level;
-      losses = more-losses (lostBack none) (l .losses);
-      about = l .about;
-      leads = then loseBack tt (l .leads);
+      front = rest .front;
+      rear = rest .rear;
+      later = rest .later;
+      level-front = rest .level-front;
+      level-rear = rest .level-rear;
+      losses = more-losses (lostForward none) (rest .losses);
+      leads = then loseForward tt (rest .leads);
     }
 
--- ---- one event
+-- ---- one call
 
--- the player's world and the transport's: the same ends and buffer, and on its lines frames more
+-- the world at the line of 64 and the other: the same ends and buffer, and on the lines of the other frames more
 data Shadow : World → World → Type 0 where
   shadow : (s : Sender) (r : Receiver) (buffer : List ℕ) {forward allForward back allBack : List Frame} → Fewer forward allForward
       → Fewer back allBack
       → Shadow (world s r forward back buffer) (world s r allForward allBack buffer)
 
--- losses, and then the call: what is seen of it is what is seen at the player's line
-record Followed (m : List ℕ) (w all : World) (events : List Event) (c : Call) : Type 0 where
-  after : World
-  later : List Event
-  losses : Losses events later
-  about : About m (begunIn (stepOf w c .event ∷ later))
-  leads : Leads (past all events) (past after (stepOf w c .event ∷ later))
-  same : Shadow (cappedStep w c .world) after
+-- a step on each: what is seen is the same
+record Alike (x y : Stepped) : Type 0 where
+  event : x .event ≡ y .event
+  after : Shadow (capped (x .world)) (y .world)
 
--- a line that no frame joins
-stays : {kept all : List Frame} → Fewer kept all → Fewer (take 64 kept) all
-stays {kept} t = rw (take-all 64 kept (t .few)) t
+levelled : {kept all : List Frame} → Level kept all → length kept ≤ 64 → Fewer kept all
+levelled empty few = record { thinned = empty; few = few }
+levelled (first f t) few = record { thinned = keep f t; few = few }
 
--- the first frame goes, at both
-shorter : (f : Frame) {kept all : List Frame} → Thinned kept all → length (f ∷ kept) ≤ 64 → Fewer kept all
-shorter f t few = record { thinned = t; few = omega arith }
+left : (k : Rest) (f : Frame) {rest all : List Frame} → Thinned rest all → length (f ∷ rest) ≤ 64 → Fewer (leaving k f rest) (leaving k f all)
+left gone f t few = record { thinned = t; few = omega arith }
+left still f t few = record { thinned = keep f t; few = few }
 
--- with no loss before it, a call that the transport answers alike
-followed : (m : List ℕ) (events : List Event) (w all : World) (c : Call) → Goes (sortOf c)
-    → About m (begunIn events)
-    → Condition (past all events) c (stepOf all c .event)
-    → stepOf w c .event ≡ stepOf all c .event
-    → Shadow (cappedStep w c .world) (stepOf all c .world)
-    → Followed m w all events c
-followed m events w all c goes a meets alike same =
-    record {
-      after = stepOf all c .world;
-      later = events;
-      losses = none;
-      about = rw alike (about-step m (past all events) c goes a);
-      leads = rw alike (then c meets here);
-      same = same;
-    }
+lost : {kept all : List Frame} → Level kept all → length kept ≤ 64 → Fewer (dropped kept) (dropped all)
+lost empty few = record { thinned = empty; few = few }
+lost (first f t) few = record { thinned = t; few = omega arith }
 
--- losses first
-after-losses : {m : List ℕ} {events later : List Event} {w all rest : World} {c : Call} → Losses events later
-    → Leads (past all events) (past rest later)
-    → Followed m w rest later c
-    → Followed m w all events c
-after-losses l leads f =
-    record {
-      after = f .after;
-      later = f .later;
-      losses = more-losses l (f .losses);
-      about = f .about;
-      leads = leads-on leads (f .leads);
-      same = f .same;
-    }
+by-sender : (c : Call) (given : Given) (t : sender.Told) (s : Sender) (r : Receiver) (buffer : List ℕ) (back allBack : List Frame) {forward allForward rest allRest : List Frame}
+    → Fewer forward allForward → Fewer rest allRest
+    → Alike (bySender c (world s r forward back buffer) given rest t) (bySender c (world s r allForward allBack buffer) given allRest t)
+unfolding capped
+by-sender c given t s r buffer back allBack x y =
+    record { event = refl; after = shadow _ _ _ (emitted (t .emits) (t .frame) x) (stays y) }
 
-follow-sender-tick : (m : List ℕ) (events : List Event) {w all : World} → Shadow w all → About m (begunIn events)
-    → Followed m w all events (senderTick m)
-unfolding stepOf cappedStep capped
-follow-sender-tick m events (shadow s r buffer {forward} {allForward} {back} {allBack} x y) a =
-    followed m events (world s r forward back buffer) (world s r allForward allBack buffer) (senderTick m) tt a (λ _. lent-message m (begunIn events) a) refl
-    (shadow _ _ _ (emitted (tickOf s m .emits) (tickOf s m .frame) x) (stays y))
+by-receiver : (c : Call) (given : Given) (h : receiver.Heard) (s : Sender) (r : Receiver) (buffer : List ℕ) (forward allForward : List Frame) {back allBack rest allRest : List Frame}
+    → Fewer rest allRest → Fewer back allBack
+    → Alike (byReceiver c (world s r forward back buffer) given rest h) (byReceiver c (world s r allForward allBack buffer) given allRest h)
+unfolding capped
+by-receiver c given h s r buffer forward allForward x y =
+    record { event = refl; after = shadow _ _ _ (stays x) (emitted (h .told .emits) (h .told .frame) y) }
 
-follow-receiver-tick : (m : List ℕ) (events : List Event) {w all : World} → Shadow w all → About m (begunIn events)
-    → Followed m w all events receiverTick
-unfolding stepOf cappedStep capped
-follow-receiver-tick m events (shadow s r buffer {forward} {allForward} {back} {allBack} x y) a =
-    followed m events (world s r forward back buffer) (world s r allForward allBack buffer) receiverTick tt a tt refl
-    (shadow _ _ _ (stays x) (emitted (ticking.tickOf r .emits) (ticking.tickOf r .frame) y))
+by-nobody : (c : Call) (s : Sender) (r : Receiver) (buffer : List ℕ) {forward allForward back allBack : List Frame} → Fewer forward allForward → Fewer back allBack
+    → Alike (unheard c (world s r forward back buffer)) (unheard c (world s r allForward allBack buffer))
+unfolding capped
+by-nobody c s r buffer x y = record { event = refl; after = shadow _ _ _ (stays x) (stays y) }
 
--- the calls on forward, where both lines have the same first frame or none
-hear-forward : (m : List ℕ) (events : List Event) (s : Sender) (r : Receiver) (buffer : List ℕ) {kept all back allBack : List Frame}
-    → Level kept all → length kept ≤ 64 → Fewer back allBack → About m (begunIn events)
-    → Followed m (world s r kept back buffer) (world s r all allBack buffer) events (hearForward buffer)
-unfolding stepOf cappedStep capped givenForward
-hear-forward m events s r buffer {kept} {all} {back} {allBack} empty few y a =
-    followed m events (world s r [] back buffer) (world s r [] allBack buffer) (hearForward buffer) tt a (λ _. refl) refl
-    (shadow _ _ _ (record { thinned = empty; few = few }) (stays y))
-hear-forward m events s r buffer {kept} {all} {back} {allBack} (first f {rest} {allRest} t) few y a =
-    let h = hearing.hearOf r f buffer in
-    followed m events (world s r (f ∷ rest) back buffer) (world s r (f ∷ allRest) allBack buffer) (hearForward buffer) tt a (λ _. refl) refl
-    (shadow _ _ _ (stays (shorter f t few)) (emitted (h .told .emits) (h .told .frame) y))
+gives-forward : (k : Rest) (c : Call) (b : List ℕ) (s : Sender) (r : Receiver) (buffer : List ℕ) {forward allForward back allBack : List Frame}
+    → Level forward allForward → length forward ≤ 64 → Fewer back allBack
+    → Alike (givenForward k c (world s r forward back buffer) b forward) (givenForward k c (world s r allForward allBack buffer) b allForward)
+unfolding givenForward
+gives-forward k c b s r buffer empty few y = by-nobody c s r buffer (levelled empty few) y
+gives-forward k c b s r buffer (first f {rest} {allRest} t) few y =
+    by-receiver c (toReceiver f) (hearing.hearOf r f b) s r buffer (f ∷ rest) (f ∷ allRest) (left k f t few) y
 
-repeat-forward : (m : List ℕ) (events : List Event) (s : Sender) (r : Receiver) (buffer : List ℕ) {kept all back allBack : List Frame}
-    → Level kept all → length kept ≤ 64 → Fewer back allBack → About m (begunIn events)
-    → Followed m (world s r kept back buffer) (world s r all allBack buffer) events (repeatForward buffer)
-unfolding stepOf cappedStep capped givenForward
-repeat-forward m events s r buffer {kept} {all} {back} {allBack} empty few y a =
-    followed m events (world s r [] back buffer) (world s r [] allBack buffer) (repeatForward buffer) tt a (λ _. refl) refl
-    (shadow _ _ _ (record { thinned = empty; few = few }) (stays y))
-repeat-forward m events s r buffer {kept} {all} {back} {allBack} (first f {rest} {allRest} t) few y a =
-    let h = hearing.hearOf r f buffer in
-    followed m events (world s r (f ∷ rest) back buffer) (world s r (f ∷ allRest) allBack buffer) (repeatForward buffer) tt a (λ _. refl) refl
-    (shadow _ _ _ (stays (record { thinned = keep f t; few = few })) (emitted (h .told .emits) (h .told .frame) y))
+gives-back : (k : Rest) (c : Call) (s : Sender) (r : Receiver) (buffer : List ℕ) {forward allForward back allBack : List Frame}
+    → Fewer forward allForward → Level back allBack → length back ≤ 64
+    → Alike (givenBack k c (world s r forward back buffer) back) (givenBack k c (world s r allForward allBack buffer) allBack)
+unfolding givenBack
+gives-back k c s r buffer x empty few = by-nobody c s r buffer x (levelled empty few)
+gives-back k c s r buffer x (first f {rest} {allRest} t) few =
+    by-sender c (toSender f) (hearOf s f) s r buffer (f ∷ rest) (f ∷ allRest) x (left k f t few)
 
-lose-forward : (m : List ℕ) (events : List Event) (s : Sender) (r : Receiver) (buffer : List ℕ) {kept all back allBack : List Frame}
-    → Level kept all → length kept ≤ 64 → Fewer back allBack → About m (begunIn events)
-    → Followed m (world s r kept back buffer) (world s r all allBack buffer) events loseForward
-unfolding stepOf cappedStep capped
-lose-forward m events s r buffer {kept} {all} {back} {allBack} empty few y a =
-    followed m events (world s r [] back buffer) (world s r [] allBack buffer) loseForward tt a tt refl
-    (shadow _ _ _ (record { thinned = empty; few = few }) (stays y))
-lose-forward m events s r buffer {kept} {all} {back} {allBack} (first f {rest} {allRest} t) few y a =
-    followed m events (world s r (f ∷ rest) back buffer) (world s r (f ∷ allRest) allBack buffer) loseForward tt a tt refl
-    (shadow _ _ _ (stays (shorter f t few)) (stays y))
+-- every call, where both lines have the same first frame or none
+steps-alike : (c : Call) (s : Sender) (r : Receiver) (buffer : List ℕ) {forward front back rear : List Frame}
+    → Level forward front → length forward ≤ 64
+    → Level back rear → length back ≤ 64
+    → Alike (stepOf (world s r forward back buffer) c) (stepOf (world s r front rear buffer) c)
+unfolding stepOf
+steps-alike (begin m) s r buffer {forward} {front} {back} {rear} x nx y ny =
+    by-sender (begin m) nobody (beginOf s m) s r buffer back rear (levelled x nx) (levelled y ny)
+steps-alike (senderTick m) s r buffer {forward} {front} {back} {rear} x nx y ny =
+    by-sender (senderTick m) nobody (tickOf s m) s r buffer back rear (levelled x nx) (levelled y ny)
+steps-alike receiverTick s r buffer {forward} {front} x nx y ny =
+    by-receiver receiverTick nobody (receiver.heard (ticking.tickOf r) buffer) s r buffer forward front (levelled x nx) (levelled y ny)
+steps-alike (hearForward b) s r buffer x nx y ny = gives-forward gone (hearForward b) b s r buffer x nx (levelled y ny)
+steps-alike (repeatForward b) s r buffer x nx y ny = gives-forward still (repeatForward b) b s r buffer x nx (levelled y ny)
+steps-alike loseForward s r buffer x nx y ny = by-nobody loseForward s r buffer (lost x nx) (levelled y ny)
+steps-alike hearBack s r buffer x nx y ny = gives-back gone hearBack s r buffer (levelled x nx) y ny
+steps-alike repeatBack s r buffer x nx y ny = gives-back still repeatBack s r buffer (levelled x nx) y ny
+steps-alike loseBack s r buffer x nx y ny = by-nobody loseBack s r buffer (levelled x nx) (lost y ny)
 
--- the calls on back
-hear-back : (m : List ℕ) (events : List Event) (s : Sender) (r : Receiver) (buffer : List ℕ) {forward allForward kept all : List Frame}
-    → Level kept all → length kept ≤ 64 → Fewer forward allForward → About m (begunIn events)
-    → Followed m (world s r forward kept buffer) (world s r allForward all buffer) events hearBack
-unfolding stepOf cappedStep capped givenBack
-hear-back m events s r buffer {forward} {allForward} empty few x a =
-    followed m events (world s r forward [] buffer) (world s r allForward [] buffer) hearBack tt a tt refl
-    (shadow _ _ _ (stays x) (record { thinned = empty; few = few }))
-hear-back m events s r buffer {forward} {allForward} (first f {rest} {allRest} t) few x a =
-    let h = hearOf s f in
-    followed m events (world s r forward (f ∷ rest) buffer) (world s r allForward (f ∷ allRest) buffer) hearBack tt a tt refl
-    (shadow _ _ _ (emitted (h .emits) (h .frame) x) (stays (shorter f t few)))
+-- ---- a loss is no tick, report, delivery or opening
 
-repeat-back : (m : List ℕ) (events : List Event) (s : Sender) (r : Receiver) (buffer : List ℕ) {forward allForward kept all : List Frame}
-    → Level kept all → length kept ≤ 64 → Fewer forward allForward → About m (begunIn events)
-    → Followed m (world s r forward kept buffer) (world s r allForward all buffer) events repeatBack
-unfolding stepOf cappedStep capped givenBack
-repeat-back m events s r buffer {forward} {allForward} empty few x a =
-    followed m events (world s r forward [] buffer) (world s r allForward [] buffer) repeatBack tt a tt refl
-    (shadow _ _ _ (stays x) (record { thinned = empty; few = few }))
-repeat-back m events s r buffer {forward} {allForward} (first f {rest} {allRest} t) few x a =
-    let h = hearOf s f in
-    followed m events (world s r forward (f ∷ rest) buffer) (world s r allForward (f ∷ allRest) buffer) repeatBack tt a tt refl
-    (shadow _ _ _ (emitted (h .emits) (h .frame) x) (stays (record { thinned = keep f t; few = few })))
-
-lose-back : (m : List ℕ) (events : List Event) (s : Sender) (r : Receiver) (buffer : List ℕ) {forward allForward kept all : List Frame}
-    → Level kept all → length kept ≤ 64 → Fewer forward allForward → About m (begunIn events)
-    → Followed m (world s r forward kept buffer) (world s r allForward all buffer) events loseBack
-unfolding stepOf cappedStep capped
-lose-back m events s r buffer {forward} {allForward} empty few x a =
-    followed m events (world s r forward [] buffer) (world s r allForward [] buffer) loseBack tt a tt refl
-    (shadow _ _ _ (stays x) (record { thinned = empty; few = few }))
-lose-back m events s r buffer {forward} {allForward} (first f {rest} {allRest} t) few x a =
-    followed m events (world s r forward (f ∷ rest) buffer) (world s r allForward (f ∷ allRest) buffer) loseBack tt a tt refl
-    (shadow _ _ _ (stays x) (stays (shorter f t few)))
-
--- each event, by its number
-follow : (m : List ℕ) (events : List Event) {w all : World} (number : ℕ) → Shadow w all → About m (begunIn events)
-    → Followed m w all events (callFor w m number)
-unfolding callFor
-follow m events number (shadow s r buffer {forward} {allForward} {back} {allBack} x y) a =
-    let w = world s r forward back buffer in
-    let all = world s r allForward allBack buffer in
-    let P : Call → Type 0 = λ c. Followed m w all events c in
-    let front = settle-forward m s r allBack buffer events (x .thinned) a in
-    let rear = settle-back m s r allForward buffer events (y .thinned) a in
-    pick-elim P _ (λ _. follow-sender-tick m events (shadow s r buffer x y) a)
-    (λ _. pick-elim P _ (λ _. follow-receiver-tick m events (shadow s r buffer x y) a)
-    (λ _. pick-elim P _ (λ _. after-losses (front .losses) (front .leads) (hear-forward m (front .later) s r buffer (front .level) (x .few) y (front .about)))
-    (λ _. pick-elim P _ (λ _. after-losses (front .losses) (front .leads) (lose-forward m (front .later) s r buffer (front .level) (x .few) y (front .about)))
-    (λ _. pick-elim P _ (λ _. after-losses (front .losses) (front .leads) (repeat-forward m (front .later) s r buffer (front .level) (x .few) y (front .about)))
-    (λ _. pick-elim P _ (λ _. after-losses (rear .losses) (rear .leads) (hear-back m (rear .later) s r buffer (rear .level) (y .few) x (rear .about)))
-    (λ _. pick-elim P _ (λ _. after-losses (rear .losses) (rear .leads) (lose-back m (rear .later) s r buffer (rear .level) (y .few) x (rear .about)))
-    (λ _. after-losses (rear .losses) (rear .leads) (repeat-back m (rear .later) s r buffer (rear .level) (y .few) x (rear .about)))))))))
-
--- ---- a list of events
-
-record FollowedAll (m : List ℕ) (w all : World) (seen events : List Event) (numbers : List ℕ) : Type 0 where
-  after : World
-  later : List Event
-  leads : Leads (past all events) (past after later)
-  among : Among (newestFirst seen (eventsFrom w m numbers)) later
-
-follow-all : (m numbers : List ℕ) (seen events : List Event) {w all : World} → Shadow w all → About m (begunIn events) → Among seen events
-    → FollowedAll m w all seen events numbers
-unfolding newestFirst eventsFrom turnFor cappedStep
-follow-all m [] seen events sh a among = record { after = _; later = events; leads = here; among = among }
-follow-all m (number ∷ numbers) seen events {w} {all} sh a among =
-    let f = follow m events number sh a in
-    let e = stepOf w (callFor w m number) .event in
-    let rest = follow-all m numbers (e ∷ seen) (e ∷ f .later) (f .same) (f .about) (follows e among (f .losses)) in
-    record { after = rest .after; later = rest .later; leads = leads-on (f .leads) (rest .leads); among = rest .among }
-
--- the begin, at two empty lines
-fewest : Fewer [] []
-fewest = record { thinned = empty; few = omega arith }
-
-follow-run : (s : Sender) (r : Receiver) (buffer m numbers : List ℕ)
-    → FollowedAll m (cappedStep (startOf s r buffer) (begin m) .world) (stepOf (startOf s r buffer) (begin m) .world)
-    (stepOf (startOf s r buffer) (begin m) .event ∷ []) (stepOf (startOf s r buffer) (begin m) .event ∷ []) numbers
-unfolding stepOf cappedStep capped begunIn begunAfter
-follow-run s r buffer m numbers =
-    let t = beginOf s m in
-    follow-all m numbers _ _ (shadow _ _ _ (emitted (t .emits) (t .frame) fewest) fewest) (about-begin m (taken (t .outcome)))
-    (follows _ start none)
-
--- ---- calls
-
--- the calls that lead from one past to another are a list that meets the conditions
-record Called (p q : Past) : Type 0 where
-  calls : List Call
-  meets : Conditions p calls
-  ends : runOf p calls ≡ q
-
-called : {p q : Past} → Leads p q → Called p q
-unfolding runOf
-called here = record { calls = []; meets = tt; ends = refl }
-called (then c h l) =
-    let rest = called l in
-    record { calls = c ∷ rest .calls; meets = (h, rest .meets); ends = rest .ends }
-
-pub capped-runs : CappedRuns
-unfolding runFrom newestFirst cappedStep openedIn
-capped-runs s r buffer m numbers =
-    let f = follow-run s r buffer m numbers in
-    let c = called (then {p = fresh s r buffer} (begin m) (λ _. (refl, refl, refl)) (f .leads)) in
-    record { calls = c .calls; meets = c .meets; among = rw (c .ends) (f .among) }
-
--- ---- the promise
-
--- a loss is no tick, report, delivery or opening
 begun-same : (b : Begun) → further b 0 0 [] ≡ b
 begun-same Begun.never = refl
 begun-same (Begun.since m ticks reports ds) = rw (add-zero ticks, add-zero reports) refl
@@ -413,6 +266,96 @@ unfolding openedIn
 among-opened start = refl
 among-opened (follows e a l) = ap (openedAfter e) (losses-opened l ∙ among-opened a)
 
+-- ---- the conditions
+
+level-empty : {kept all : List Frame} → Level kept all → kept ≡ [] → all ≡ []
+level-empty empty e = refl
+level-empty (first f t) e = let z : _≡_ {A = ℕ} 0 1 = cc in absurd (omega arith)
+
+-- what is asked of a call at the line of 64 holds of it once the lines are level
+meets : (c : Call) (s : Sender) (r : Receiver) (buffer : List ℕ) (e : Event) (seen events : List Event) {forward front back rear : List Frame}
+    → Level forward front
+    → Level back rear
+    → begunIn events ≡ begunIn seen
+    → openedIn events ≡ openedIn seen
+    → Condition (past (world s r forward back buffer) seen) c e
+    → Condition (past (world s r front rear buffer) events) c e
+meets (begin m) s r buffer e seen events x y b o d =
+    λ accepted. let found = d accepted in (rw o (found .0), level-empty x (found .1), level-empty y (found .2))
+meets (senderTick m) s r buffer e seen events x y b o d = λ accepted. rw b (d accepted)
+meets receiverTick s r buffer e seen events x y b o d = tt
+meets (hearForward lent) s r buffer e seen events x y b o d = d
+meets (repeatForward lent) s r buffer e seen events x y b o d = d
+meets loseForward s r buffer e seen events x y b o d = tt
+meets hearBack s r buffer e seen events x y b o d = tt
+meets repeatBack s r buffer e seen events x y b o d = tt
+meets loseBack s r buffer e seen events x y b o d = tt
+
+-- ---- a list of calls
+
+-- losses, and then the call: what is seen of it is what is seen at the line of 64
+record Followed (w all : World) (events : List Event) (c : Call) : Type 0 where
+  after : World
+  later : List Event
+  losses : Losses events later
+  leads : Leads (past all events) (past after (stepOf w c .event ∷ later))
+  same : Shadow (capped (stepOf w c .world)) after
+
+follow : (c : Call) {seen events : List Event} {w all : World} → Shadow w all → Among seen events
+    → Condition (past w seen) c (stepOf w c .event)
+    → Followed w all events c
+follow c {seen} {events} (shadow s r buffer {forward} {allForward} {back} {allBack} x y) among d =
+    let l = settle s r buffer events (x .thinned) (y .thinned) in
+    let alike = steps-alike c s r buffer (l .level-front) (x .few) (l .level-rear) (y .few) in
+    let met =
+    meets c s r buffer (stepOf (world s r forward back buffer) c .event) seen (l .later) (l .level-front) (l .level-rear)
+    (losses-begun (l .losses) ∙ among-begun among) (losses-opened (l .losses) ∙ among-opened among) d in
+    record {
+      after = stepOf (world s r (l .front) (l .rear) buffer) c .world;
+      later = l .later;
+      losses = l .losses;
+      leads = leads-on (l .leads) (rw (alike .event) (then c (rw (alike .event) at met) here));
+      same = alike .after;
+    }
+
+record FollowedAll (w all : World) (seen events : List Event) (calls : List Call) : Type 0 where
+  after : World
+  later : List Event
+  leads : Leads (past all events) (past after later)
+  among : Among (runOf cappedStep (past w seen) calls .events) later
+
+follow-all : (calls : List Call) {seen events : List Event} {w all : World} → Shadow w all → Among seen events
+    → Conditions cappedStep (past w seen) calls
+    → FollowedAll w all seen events calls
+unfolding runOf cappedStep
+follow-all [] same among d = record { after = _; later = _; leads = here; among = among }
+follow-all (c ∷ calls) {seen} {events} {w} same among d =
+    let f = follow c same among (d .0) in
+    let rest = follow-all calls (f .same) (follows (stepOf w c .event) among (f .losses)) (d .1) in
+    record { after = rest .after; later = rest .later; leads = leads-on (f .leads) (rest .leads); among = rest .among }
+
+-- the calls that lead from one past to another are a list that meets the conditions
+record Called (p q : Past) : Type 0 where
+  calls : List Call
+  meets : Conditions stepOf p calls
+  ends : runOf stepOf p calls ≡ q
+
+called : {p q : Past} → Leads p q → Called p q
+unfolding runOf
+called here = record { calls = []; meets = tt; ends = refl }
+called (then c h l) =
+    let rest = called l in
+    record { calls = c ∷ rest .calls; meets = (h, rest .meets); ends = rest .ends }
+
+pub capped-runs : CappedRuns
+capped-runs s r buffer calls d =
+    let none : Fewer [] [] = record { thinned = empty; few = omega arith } in
+    let f = follow-all calls (shadow s r buffer none none) start d in
+    let c = called (f .leads) in
+    record { calls = c .calls; meets = c .meets; among = rw (c .ends) (f .among) }
+
+-- ---- the promise
+
 kept-among : (limit timeout : ℕ) {seen all : List Event} → Among seen all → Promise limit timeout all → Promise limit timeout seen
 kept-among limit timeout start p = p
 kept-among limit timeout (follows e a l) p =
@@ -424,7 +367,7 @@ kept-among limit timeout (follows e a l) p =
       finished = rw (← among-opened (follows e a l)) (p .finished);
     }
 
-pub capped-keeps : CappedKeeps
-capped-keeps gap timeout limit s e timeout′ window capacity r d buffer m numbers size =
-    let run = capped-runs s r buffer m numbers in
+pub capped-demand-3 : CappedDemand3
+capped-demand-3 gap timeout limit s e timeout′ window capacity r d buffer size calls h =
+    let run = capped-runs s r buffer calls h in
     kept-among limit timeout′ (run .among) (demand-3 gap timeout limit s e timeout′ window capacity r d buffer size (run .calls) (run .meets))

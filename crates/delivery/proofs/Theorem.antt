@@ -25,9 +25,10 @@ use Rattle.delivery.proofs.Lives.{Acted, Received, tick-live, hear-live
 use Rattle.receiver.proofs.View.{receiverIn, Shut}
 use Rattle.delivery.proofs.Stages.{senderIn, Live, resting, long, short}
 use Rattle.delivery.proofs.Timing.{Timed, before, between, during, Listened, timed-later, tick-timed, hear-timed, in-time}
-use Rattle.delivery.specs.Demand3.{Condition, Conditions, Reported, Finished, Sent, Again, Promise, Demand3, fresh}
+use Rattle.delivery.specs.Demand3.{Condition, Conditions, Reported, Finished, Sent, Again, Promise, Demand3}
+use Rattle.delivery.specs.Run.{Past, fresh, next, runOf}
 use Rattle.delivery.specs.Seen.{Begun, Opened, further, begunAfter, begunIn, openedAfter, openedIn, idle, listened, other, sortOf}
-use Rattle.transport.specs.Step.{Stepped, unheard, bySender, byReceiver, Rest, gone, still, leaving, givenForward, givenBack, stepOf, Past, next, runOf}
+use Rattle.transport.specs.Step.{Stepped, unheard, bySender, byReceiver, Rest, gone, still, leaving, givenForward, givenBack, stepOf}
 use Rattle.transport.specs.World.{World, Call, begin, senderTick, receiverTick, hearForward, repeatForward, loseForward, hearBack, repeatBack, loseBack, Event, toSender, toReceiver}
 
 -- what holds of the world and the events after every call
@@ -129,11 +130,11 @@ module _ (st : Settings) (rs : receiver-settings.Settings) (limits : Limits st r
   step w events h loseBack d = none-called st rs events loseBack _ refl (lose-back-live (h .live)) (h .timed)
 
   -- so does every list of calls
-  run : (calls : List Call) (p : Past) → Holds st rs (p .world) (p .events) → Conditions p calls
-      → Holds st rs (runOf p calls .world) (runOf p calls .events)
+  run : (calls : List Call) (p : Past) → Holds st rs (p .world) (p .events) → Conditions stepOf p calls
+      → Holds st rs (runOf stepOf p calls .world) (runOf stepOf p calls .events)
   unfolding runOf
   run [] p h d = h
-  run (c ∷ calls) p h d = run calls (next p c) (step (p .world) (p .events) h c (d .0)) (d .1)
+  run (c ∷ calls) p h d = run calls (next stepOf p c) (step (p .world) (p .events) h c (d .0)) (d .1)
 
   -- the promise, read off what holds
   reported : {s : Sender} {r : Receiver} {forward back : List Frame} {buffer : List ℕ} (b : Begun) → Live st s r forward back buffer b → Reported (st .limit) b
@@ -208,8 +209,8 @@ promise-kept : (gap timeout limit timeout′ window capacity : ℕ) {s : Sender}
     → SenderMade gap timeout limit s
     → ReceiverMade timeout′ window capacity r
     → (buffer : List ℕ) (calls : List Call)
-    → Conditions (fresh s r buffer) calls
-    → Promise limit timeout′ (runOf (fresh s r buffer) calls .events)
+    → Conditions stepOf (fresh s r buffer) calls
+    → Promise limit timeout′ (runOf stepOf (fresh s r buffer) calls .events)
 unfolding begunIn openedIn
 promise-kept gap timeout limit timeout′ window capacity {s} {r} (fits e) (fits d) buffer calls c =
     let l = limits-of gap timeout limit timeout′ window capacity e d in

@@ -22,9 +22,10 @@ use Rattle.receiver.specs.declared.Receiver.{Receiver}
 use Rattle.sender.specs.Make as sender-making
 use Rattle.sender.specs.Told as sender
 use Rattle.sender.specs.declared.Sender.{Sender}
+use Rattle.delivery.specs.Run.{Line, Past, fresh, next, runOf}
 use Rattle.delivery.specs.Seen.{taken, Begun, Opened, begunIn, openedIn, idle, listened, Sort, begins, ticksSender, ticksReceiver, other, sortOf}
-use Rattle.transport.specs.Step.{stepOf, Past, next, runOf}
-use Rattle.transport.specs.World.{Call, begin, senderTick, receiverTick, hearForward, repeatForward, loseForward, hearBack, repeatBack, loseBack, Event, startOf}
+use Rattle.transport.specs.Step.{stepOf}
+use Rattle.transport.specs.World.{Call, begin, senderTick, receiverTick, hearForward, repeatForward, loseForward, hearBack, repeatBack, loseBack, Event}
 
 -- ---- the conditions
 
@@ -47,10 +48,10 @@ Condition p hearBack e = Unit
 Condition p repeatBack e = Unit
 Condition p loseBack e = Unit
 
--- along the whole list
-abbrev pub Conditions : Past → List Call → Type 0
-Conditions p [] = Unit
-Conditions p (c ∷ calls) = Condition p c (stepOf (p .world) c .event) × Conditions (next p c) calls
+-- along the whole list, on a line
+abbrev pub Conditions : Line → Past → List Call → Type 0
+Conditions line p [] = Unit
+Conditions line p (c ∷ calls) = Condition p c (line (p .world) c .event) × Conditions line (next line p c) calls
 
 -- ---- the promise
 
@@ -113,14 +114,10 @@ pub record Promise (limit timeout : ℕ) (events : List Event) : Type 0 where
 
 -- ---- the claim
 
--- "from fresh ends and an empty line": no event yet
-abbrev pub fresh : Sender → Receiver → List ℕ → Past
-fresh s r buffer = record { world = startOf s r buffer; events = [] }
-
--- for the ends that making answers, "from any settings within their limits", every "buffer of 1785 bytes of any content"
--- and every list of calls that meets the conditions
-abbrev pub Demand3 : Type 0
-Demand3 =
+-- on a line, for the ends that making answers, "from any settings within their limits", every "buffer of 1785 bytes of any
+-- content" and every list of calls that meets the conditions
+abbrev pub Demand3On : Line → Type 0
+Demand3On line =
     (gap timeout limit : ℕ) (s : Sender)
     → sender-making.makeOf gap timeout limit ≡ accepted s
     → (timeout′ window capacity : ℕ) (r : Receiver)
@@ -128,5 +125,9 @@ Demand3 =
     → (buffer : List ℕ)
     → length buffer ≡ 1785
     → (calls : List Call)
-    → Conditions (fresh s r buffer) calls
-    → Promise limit timeout′ (runOf (fresh s r buffer) calls .events)
+    → Conditions line (fresh s r buffer) calls
+    → Promise limit timeout′ (runOf line (fresh s r buffer) calls .events)
+
+-- "the line keeps order and neither invents nor alters a frame": a frame goes by hear and by lose alone
+abbrev pub Demand3 : Type 0
+Demand3 = Demand3On stepOf

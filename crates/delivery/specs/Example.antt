@@ -1,10 +1,7 @@
--- Document 01, The player: its events as calls, and its example as a run. (The player's line of 64 and its text are not
--- here.)
+-- Document 01, The player: its example, as a list of calls. (The event numbers and the text are the player's.)
 use Prim.Native.Nat.{ℕ}
-use mathlib.Core.List.{List, [], _∷_}
-use lib.Dec.{eqb}
-use lib.ListN.{replicate}
-use Rattle.frame.specs.Choice.{pick}
+use mathlib.Core.List.{List, [], _∷_, _++_}
+use lib.ListN.{take, replicate}
 use Rattle.frame.specs.declared.Frame.{Frame}
 use Rattle.receiver.specs.Told as receiver
 use Rattle.receiver.specs.declared.Phase.the-variants as receiver-at
@@ -12,25 +9,8 @@ use Rattle.receiver.specs.declared.Receiver.{Receiver}
 use Rattle.sender.specs.Told as sender
 use Rattle.sender.specs.declared.Phase.the-variants.{Idle}
 use Rattle.sender.specs.declared.Sender.{Sender}
-use Rattle.delivery.specs.Demand3.{fresh}
-use Rattle.transport.specs.Step.{Past, next}
-use Rattle.transport.specs.World.{World, Call, begin, senderTick, receiverTick, hearForward, repeatForward, loseForward, hearBack, repeatBack, loseBack, Event}
-
--- "events (1, 2 sender, receiver tick; 3, 4, 5 forward hear, lose, repeat; 6, 7, 8 back)", each lent the one message and the
--- one buffer
-unfoldable pub callFor : World → List ℕ → ℕ → Call
-callFor w message event =
-    pick (eqb event 1) (senderTick message)
-    (pick (eqb event 2) receiverTick
-    (pick (eqb event 3) (hearForward (w .buffer))
-    (pick (eqb event 4) loseForward
-    (pick (eqb event 5) (repeatForward (w .buffer)) (pick (eqb event 6) hearBack (pick (eqb event 7) loseBack repeatBack))))))
-
--- the calls that a list of events makes from here on
-unfoldable pub callsFor : Past → List ℕ → List ℕ → List Call
-callsFor p message [] = []
-callsFor p message (event ∷ events) =
-    callFor (p .world) message event ∷ callsFor (next p (callFor (p .world) message event)) message events
+use Rattle.delivery.specs.Run.{Past, fresh}
+use Rattle.transport.specs.World.{Call, begin, senderTick, hearForward, hearBack, Event}
 
 -- what is printed of an event: the frame emitted, the sender's report, the receiver's
 pub record Shown : Type 0 where
@@ -64,14 +44,25 @@ exampleReceiver = record { settings = record { timeout = 10; window = 2; capacit
 abbrev pub exampleMessage : List ℕ
 exampleMessage = 1 ∷ 2 ∷ 3 ∷ 4 ∷ 5 ∷ 6 ∷ 7 ∷ 8 ∷ 9 ∷ []
 
-abbrev pub exampleEvents : List ℕ
-exampleEvents = 3 ∷ 6 ∷ 1 ∷ 3 ∷ 1 ∷ 3 ∷ 6 ∷ []
-
 abbrev pub exampleStart : Past
 exampleStart = fresh exampleSender exampleReceiver (replicate 1785 0)
 
+-- the buffer after frame 1 has been heard
+unfoldable pub exampleBuffer : List ℕ
+exampleBuffer = take 7 exampleMessage ++ replicate 1778 0
+
+-- the begin, then the events; each hearing is lent the buffer as the call before left it
 unfoldable pub exampleCalls : List Call
-exampleCalls = begin exampleMessage ∷ callsFor (next exampleStart (begin exampleMessage)) exampleMessage exampleEvents
+exampleCalls =
+    begin exampleMessage
+    ∷ hearForward (replicate 1785 0)
+    ∷ hearBack
+    ∷ senderTick exampleMessage
+    ∷ hearForward (replicate 1785 0)
+    ∷ senderTick exampleMessage
+    ∷ hearForward exampleBuffer
+    ∷ hearBack
+    ∷ []
 
 -- the example's seven lines, by event number; an event that prints nothing stands between them
 abbrev pub exampleShown : List Shown

@@ -1,5 +1,5 @@
+pub mod Run
 pub mod Seen
 pub mod Demand3
+pub mod Capped
 pub mod Example
-pub mod Turns
-pub mod Claim

@@ -5,7 +5,8 @@ use Prim.Native.Nat.{ℕ}
 use mathlib.Core.Path.{_≡_, refl}
 use mathlib.Core.List.{List, [], _∷_, _++_, map}
 use Rattle.frame.specs.Choice.{pick}
-use Rattle.pack.specs.Pack.{held, refused, laidOut, settingsOf, bodiesIn, messageOf, eventsOf, allEvents, bodiesOf}
+use Rattle.frame.specs.Result.{accepted, refused}
+use Rattle.pack.specs.Pack.{laidOut, settingsOf, bodiesIn, messageOf, eventsOf, allEvents, bodiesOf}
 use Rattle.pack.specs.declared.Bodies.{Bodies}
 
 -- "With G 1, both T 10, M 100, C 2, K 1785, bytes 01 to 09, events 3 6 1 3 1 3 6"
@@ -32,7 +33,7 @@ bodies =
       events = 7;
     }
 
-pub example-read : bodiesOf example ≡ held bodies
+pub example-read : bodiesOf example ≡ accepted bodies
 unfolding pick laidOut settingsOf bodiesIn eventsOf allEvents bodiesOf
 example-read = refl
 

@@ -12,13 +12,14 @@ use lib.ListN.{length, getD, drop, length-drop}
 use lib.Seq.{length-take-le}
 use Rattle.frame.proofs.Choice.{pick-elim}
 use Rattle.frame.specs.Choice.{pick}
-use Rattle.pack.specs.Pack.{Contents, held, refused, toldReading, byteAt, offsetOf, lengthOf, laidOut, bodiesIn, messageOf, eventsOf, isEvent, allEvents, bodiesOf}
+use Rattle.frame.specs.Result.{Result, accepted, refused}
+use Rattle.pack.specs.Pack.{toldReading, byteAt, offsetOf, lengthOf, laidOut, bodiesIn, messageOf, eventsOf, isEvent, allEvents, bodiesOf}
 use Rattle.pack.specs.declared.Bodies.{Bodies}
 use Rattle.pack.specs.declared.Reading.{Reading}
 use Rattle.pack.specs.declared.Reading.the-variants.{Pack, Refused}
 
-abbrev pub untoldReading : Contents → Reading
-untoldReading (held bodies) = Pack bodies
+abbrev pub untoldReading : Result Bodies → Reading
+untoldReading (accepted bodies) = Pack bodies
 untoldReading (refused number) = Refused number
 
 pub told-injective : (r : Reading) → untoldReading (toldReading r) ≡ r
@@ -88,17 +89,17 @@ laid-out pack h =
 pub too-long : (pack : List ℕ) → 65535 < length pack → bodiesOf pack ≡ refused 12
 unfolding bodiesOf
 too-long pack over =
-    pick-elim (λ (x : Contents). x ≡ refused 12) (laidOut pack)
+    pick-elim (λ (x : Result Bodies). x ≡ refused 12) (laidOut pack)
     (λ laid. absurd (omega (arith, laid-out pack laid .most))) (λ out. refl)
 
-passed : (laid events : Bool) (x b : Bodies) → pick laid (pick events (held x) (refused 12)) (refused 12) ≡ held b
+passed : (laid events : Bool) (x b : Bodies) → pick laid (pick events (accepted x) (refused 12)) (refused 12) ≡ accepted b
     → (laid ≡ true) × (events ≡ true) × (b ≡ x)
 unfolding pick
 passed true true x b h = (refl, refl, cc)
 passed true false x b h = (refl, cc, cc)
 passed false events x b h = (cc, cc, cc)
 
-module _ (pack : List ℕ) (b : Bodies) (read : bodiesOf pack ≡ held b) where
+module _ (pack : List ℕ) (b : Bodies) (read : bodiesOf pack ≡ accepted b) where
   -- the bodies are those that the layout names
   pub read-bodies : b ≡ bodiesIn pack
   unfolding bodiesOf

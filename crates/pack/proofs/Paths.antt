@@ -8,7 +8,8 @@ use native.Mathlib.Numerals.{add-one}
 use lib.ListN.{length, getD, drop, drop-of-length-le, List·getD-eq-default}
 use lib.Seq.{drop-cons}
 use Rattle.frame.proofs.Choice.{pick-true, pick-false}
-use Rattle.pack.specs.Pack.{held, refused, byteAt, laidOut, bodiesIn, eventsOf, isEvent, allEvents, bodiesOf}
+use Rattle.frame.specs.Result.{accepted, refused}
+use Rattle.pack.specs.Pack.{byteAt, laidOut, bodiesIn, eventsOf, isEvent, allEvents, bodiesOf}
 use Rattle.pack.specs.declared.Bodies.{Bodies}
 
 pub byte-past : (pack : List ℕ) (place : ℕ) → length pack ≤ place → 0 ≡ byteAt pack place
@@ -32,12 +33,12 @@ module _ (pack : List ℕ) (i : ℕ) where
 
 -- Reading goes by the layout, then by the events.
 module _ (pack : List ℕ) where
-  pub read-held : {laid events : Bool} {b : Bodies} → events ≡ allEvents (drop (23 + b .message) pack) → events ≡ true
-      → b ≡ bodiesIn pack → laid ≡ laidOut pack → laid ≡ true → held b ≡ bodiesOf pack
+  pub read-accepted : {laid events : Bool} {b : Bodies} → events ≡ allEvents (drop (23 + b .message) pack) → events ≡ true
+      → b ≡ bodiesIn pack → laid ≡ laidOut pack → laid ≡ true → accepted b ≡ bodiesOf pack
   unfolding bodiesOf eventsOf
-  read-held {b = b} e t same l laid =
+  read-accepted {b = b} e t same l laid =
       pick-true _ (sym l ∙ laid)
-      (pick-true _ (ap (λ (x : Bodies). allEvents (eventsOf pack x)) (sym same) ∙ sym e ∙ t) (ap held same))
+      (pick-true _ (ap (λ (x : Bodies). allEvents (eventsOf pack x)) (sym same) ∙ sym e ∙ t) (ap accepted same))
 
   pub read-no-event : {laid events : Bool} {b : Bodies} → events ≡ allEvents (drop (23 + b .message) pack) → events ≡ false
       → b ≡ bodiesIn pack → laid ≡ laidOut pack → laid ≡ true → refused 12 ≡ bodiesOf pack
@@ -50,4 +51,4 @@ module _ (pack : List ℕ) where
   unfolding bodiesOf
   read-no-layout l laid = pick-false _ (sym l ∙ laid) refl
 
-pub ruleset reads = (read-held, read-no-event, read-no-layout)
+pub ruleset reads = (read-accepted, read-no-event, read-no-layout)

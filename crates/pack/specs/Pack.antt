@@ -8,19 +8,15 @@ use lib.Dec.{eqb, leb}
 use lib.ListN.{length, getD, take, drop}
 use Rattle.frame.specs.Choice.{pick}
 use Rattle.frame.specs.Count.{wordOf}
+use Rattle.frame.specs.Result.{Result, accepted, refused}
 use Rattle.pack.specs.declared.Bodies.{Bodies}
 use Rattle.pack.specs.declared.Reading.{Reading}
 use Rattle.pack.specs.declared.Reading.the-variants.{Pack, Refused}
 use Rattle.pack.specs.declared.Settings.{Settings}
 
--- what a pack holds, or a refusal's number
-pub data Contents : Type 0 where
-  held : Bodies → Contents
-  refused : ℕ → Contents
-
 -- document 01's values for each case of the answer
-abbrev pub toldReading : Reading → Contents
-toldReading (Pack bodies) = held bodies
+abbrev pub toldReading : Reading → Result Bodies
+toldReading (Pack bodies) = accepted bodies
 toldReading (Refused number) = refused number
 
 -- the byte at a place, and the word there, "low byte first"
@@ -83,8 +79,8 @@ allEvents [] = true
 allEvents (event ∷ events) = isEvent event && allEvents events
 
 -- "Anything else is 12"
-unfoldable pub bodiesOf : List ℕ → Contents
+unfoldable pub bodiesOf : List ℕ → Result Bodies
 bodiesOf pack =
     pick (laidOut pack)
-    (pick (allEvents (eventsOf pack (bodiesIn pack))) (held (bodiesIn pack)) (refused 12))
+    (pick (allEvents (eventsOf pack (bodiesIn pack))) (accepted (bodiesIn pack)) (refused 12))
     (refused 12)

@@ -1,19 +1,17 @@
 -- What is printed of an event has at most 128 bytes, so that of 128 events fits the page.
 -- Assumes nothing.
-use Prim.Native.Nat.{ℕ, suc, _+_, _*_, _≤_}
+use Prim.Native.Nat.{ℕ, suc, _*_, _≤_}
 use mathlib.Core.Bool.{true}
-use mathlib.Core.Path.{_≡_, refl}
 use mathlib.Core.List.{List, [], _∷_, append-nil}
 use native.Mathlib.Omega.{arith}
 use lib.ListN.{length, length-append}
 use Rattle.frame.specs.declared.Frame.{Frame}
+use Rattle.player.specs.Events.{callFor, turnFor, eventsFrom}
 use Rattle.player.specs.Text.{letterOf, framesText, eventText, textOf}
 use Rattle.text.proofs.Laws.{emitted-length, sender-report-length, receiver-report-length}
 use Rattle.text.specs.Text.{frameLine, emittedText}
 use Rattle.transport.proofs.Events.{Whole, One, none, one, call-one, call-bytes, call-whole}
 use Rattle.transport.specs.Capped.{cappedStep}
-use Rattle.delivery.specs.Turns.{turnFor, eventsFrom}
-use Rattle.delivery.specs.Example.{callFor}
 use Rattle.transport.specs.World.{World, Call}
 
 frames-short : (number letter : ℕ) (fs : List Frame) → One fs → length (framesText number letter fs) ≤ 38

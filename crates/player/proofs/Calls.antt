@@ -11,29 +11,34 @@ use lib.Dec.{eqb}
 use lib.ListN.{length, getD, take, drop, length-take, length-drop, drop-of-length-le}
 use lib.Seq.{drop-cons, drop-drop, take-all, take-nil}
 use Rattle.frame.proofs.Choice.{pick-true, pick-false}
-use Rattle.pack.specs.Pack.{Contents, held, toldReading, messageOf, eventsOf, bodiesOf}
+use Rattle.frame.specs.Result.{Result, accepted, refused}
+use Rattle.pack.specs.Pack.{toldReading, messageOf, eventsOf, bodiesOf}
 use Rattle.pack.specs.declared.Bodies.{Bodies}
 use Rattle.pack.specs.declared.Reading.{Reading}
-use Rattle.pack.specs.declared.Reading.the-variants as reading-variants
-use Rattle.pack.specs.declared.Reading.the-variants.{Pack}
+use Rattle.pack.specs.declared.Reading.the-variants as read
 use Rattle.player.specs.Calls as calls
-use Rattle.player.specs.Calls.{Opened, ready, unready, toldOpening, playerFor, openedAt, openOf, progressed, playing, nextEvents, playOf}
-use Rattle.player.specs.Played.{startEnds, startBodies, startOf}
+use Rattle.player.specs.Calls.{progressed, playing, nextEvents, playOf}
+use Rattle.player.specs.Events.{turnFor, eventsFrom, worldAfter}
+use Rattle.player.specs.Played.{madeFor, start, playerFor, unlessRefused, openedWith, openedBodies, openOf}
 use Rattle.player.specs.State.{Turned, turned, printed, turnOf}
 use Rattle.transport.specs.Capped.{cappedStep}
-use Rattle.delivery.specs.Turns.{turnFor, eventsFrom, worldAfter}
 use Rattle.player.specs.Text.{eventText, textOf}
 use Rattle.player.specs.declared.Player.{Player}
 use Rattle.player.specs.declared.Progress.{Progress}
 use Rattle.text.proofs.Laws.{put-append}
 use Rattle.text.specs.Page.{Page, page, put}
 use Rattle.frame.proofs.Choice.{both-left, both-right}
-use Rattle.transport.specs.Answer.{worldOf}
-use Rattle.transport.specs.Make.{toldMade, makeOf}
+use Rattle.sender.specs.Told as sender
+use Rattle.sender.specs.declared.Outcome.{Outcome}
+use Rattle.sender.specs.declared.Outcome.the-variants.{Quiet, Refused, Sent, Failed}
+use Rattle.transport.proofs.Events.{begin-reports, lent-answer}
+use Rattle.transport.specs.Answer.{worldOf, Told, told, answerOf, lentOf}
+use Rattle.transport.specs.Make.{toldMade}
 use Rattle.transport.specs.World.{World, begin}
+use Rattle.transport.specs.declared.Answer.{Answer}
 use Rattle.transport.specs.declared.Ends.{Ends}
-use Rattle.transport.specs.declared.Made as made-enum
-use Rattle.transport.specs.declared.Made.the-variants as made-variants
+use Rattle.transport.specs.declared.Made.{Made}
+use Rattle.transport.specs.declared.Made.the-variants as made
 
 -- ---- a part of a pack
 
@@ -80,40 +85,64 @@ plays-none w m events i number p {y} all e = subst (λ (rest : List ℕ). playin
 
 -- ---- opening a pack
 
+-- by what the begin reported
+module _ (o : Outcome) (q : Player) where
+  pub unless-quiet : o ≡ Quiet → accepted q ≡ unlessRefused (sender.toldOutcome o) q
+  unless-quiet e = rw e refl
+
+  pub unless-refused : (number : ℕ) → o ≡ Refused number → refused number ≡ unlessRefused (sender.toldOutcome o) q
+  unless-refused number e = rw e refl
+
+  pub unless-sent : (ticks frames : ℕ) → o ≡ Sent ticks frames → accepted q ≡ unlessRefused (sender.toldOutcome o) q
+  unless-sent ticks frames e = rw e refl
+
+  pub unless-failed : (cause ticks frames : ℕ) → o ≡ Failed cause ticks frames → accepted q ≡ unlessRefused (sender.toldOutcome o) q
+  unless-failed cause ticks frames e = rw e refl
+
+pub ruleset outcomes = (unless-quiet, unless-refused, unless-sent, unless-failed)
+
+-- the begin reports what it would report of the run
+pub tried : (a : Answer) (ends : Ends) (b : Bodies) (m line line′ : List ℕ) (fits : Bool) (x : Result Player)
+    → ((back buffer : List ℕ) → told a line′ back buffer ≡ lentOf fits (worldOf ends line back buffer) (begin m))
+    → fits ≡ true
+    → x ≡ unlessRefused (sender.toldOutcome (a .said .sender)) (playerFor ends b)
+    → x ≡ openedWith m b (accepted ends)
+unfolding openedWith answerOf told cappedStep worldOf
+tried a ends b m line line′ fits x e there h =
+    let w = worldOf ends line [] [] in
+    h
+    ∙ ap (λ (o : sender.Outcome). unlessRefused o (playerFor ends b))
+    (ap (λ (t : Told). t .sender) (lent-answer w (begin m) there (e [] [])) ∙ begin-reports w (start ends) m refl)
+
 -- what making the ends starts
-module _ (bytes m : List ℕ) (b : Bodies) (answered : made-enum.Made)
-    (part : m ≡ take (b .message) (drop 23 bytes))
-    (e : toldMade answered ≡ makeOf (b .settings .gap) (b .settings .timeout) (b .settings .limit) (b .settings .patience) (b .settings .window) (b .settings .capacity) m)
-  where
-    made-starts : (x : Opened) → x ≡ openedAt (startEnds b (toldMade answered)) → x ≡ openedAt (startBodies bytes (held b))
-    unfolding startBodies messageOf
-    made-starts x h = h ∙ rw (e, part) refl
+module _ (bytes : List ℕ) (b : Bodies) (answered : Made) (e : toldMade answered ≡ madeFor b) where
+  pub no-ends : (number : ℕ) → answered ≡ made.Refused number → refused number ≡ openedBodies bytes (accepted b)
+  unfolding openedBodies openedWith
+  no-ends number k = ap (openedWith (messageOf bytes b) b) (ap toldMade (sym k) ∙ e)
 
-    pub made-refused : (number : ℕ) → answered ≡ made-variants.Refused number → unready number ≡ openedAt (startBodies bytes (held b))
-    made-refused number k = made-starts (unready number) (rw k refl)
+  pub with-ends : (ends : Ends) (m : List ℕ) (x : Result Player) → answered ≡ made.Ready ends
+      → m ≡ take (b .message) (drop 23 bytes)
+      → x ≡ openedWith m b (accepted ends)
+      → x ≡ openedBodies bytes (accepted b)
+  unfolding openedBodies messageOf
+  with-ends ends m x k part h =
+      h
+      ∙ ap (λ (l : List ℕ). openedWith l b (accepted ends)) part
+      ∙ ap (openedWith (take (b .message) (drop 23 bytes)) b) (ap toldMade (sym k) ∙ e)
 
-    pub made-ready : (ends : Ends) → answered ≡ made-variants.Ready ends → ready (playerFor ends b) ≡ openedAt (startBodies bytes (held b))
-    made-ready ends k = made-starts (ready (playerFor ends b)) (rw k refl)
-
-pub ruleset makings = (made-refused, made-ready)
+pub ruleset makings = (no-ends, with-ends)
 
 -- what reading the pack starts
-pub read-held : (bytes : List ℕ) (reading : Reading) (b : Bodies) (x : Opened)
-    → toldReading reading ≡ bodiesOf bytes
-    → reading ≡ Pack b
-    → x ≡ openedAt (startBodies bytes (held b))
-    → x ≡ openOf bytes
-unfolding openOf startOf
-read-held bytes reading b x e p h = h ∙ ap (λ (c : Contents). openedAt (startBodies bytes c)) (ap toldReading (sym p) ∙ e)
+module _ (bytes : List ℕ) (reading : Reading) (e : toldReading reading ≡ bodiesOf bytes) where
+  pub with-bodies : (b : Bodies) (x : Result Player) → reading ≡ read.Pack b → x ≡ openedBodies bytes (accepted b) → x ≡ openOf bytes
+  unfolding openOf
+  with-bodies b x p h = h ∙ ap (openedBodies bytes) (ap toldReading (sym p) ∙ e)
 
-pub read-refused : (bytes : List ℕ) (reading : Reading) (number : ℕ)
-    → toldReading reading ≡ bodiesOf bytes
-    → reading ≡ reading-variants.Refused number
-    → unready number ≡ openOf bytes
-unfolding openOf startOf startBodies
-read-refused bytes reading number e p = ap (λ (c : Contents). openedAt (startBodies bytes c)) (ap toldReading (sym p) ∙ e)
+  pub no-bodies : (number : ℕ) → reading ≡ read.Refused number → refused number ≡ openOf bytes
+  unfolding openOf openedBodies
+  no-bodies number p = ap (openedBodies bytes) (ap toldReading (sym p) ∙ e)
 
-pub ruleset readings = (read-held, read-refused)
+pub ruleset readings = (with-bodies, no-bodies)
 
 -- ---- beginning and playing
 

@@ -1,4 +1,6 @@
 pub mod Turns
 pub mod Calls
 pub mod Bounds
+pub mod Opened
 pub mod Whole
+pub mod Keeps

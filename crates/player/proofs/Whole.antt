@@ -9,31 +9,29 @@ use native.Mathlib.Nat.{add-zero}
 use native.Mathlib.Omega.{arith}
 use borrow.Author.Tests.{leb-true, leb-false}
 use lib.Dec.{eqb}
-use lib.ListN.{length, take, drop, length-take, length-drop, drop-of-length-le, take-append-drop}
+use lib.ListN.{length, take, drop, replicate, length-take, length-drop, drop-of-length-le, take-append-drop}
 use lib.Seq.{take-at, drop-drop}
 use Rattle.frame.proofs.Choice.{pick-true}
 use Rattle.pack.proofs.Laws.{length-events, read-most, read-whole}
-use Rattle.pack.specs.Pack as pack
-use Rattle.pack.specs.Pack.{Contents, held, bodiesOf, messageOf, eventsOf}
+use Rattle.pack.specs.Pack.{messageOf, eventsOf}
 use Rattle.pack.specs.declared.Bodies.{Bodies}
 use Rattle.player.proofs.Bounds.{event-short, text-fits}
-use Rattle.player.specs.Calls.{playerFor, Progressed, progressed, beginOf, playing, nextEvents, playOf}
-use Rattle.delivery.specs.Claim.{runFrom}
-use Rattle.player.specs.Played.{Start, refused, begun, startEnds, startBodies, startOf, zeros, playedStart, played}
+use Rattle.player.proofs.Opened.{opened}
+use Rattle.player.specs.Calls.{Progressed, progressed, beginOf, playing, nextEvents, playOf}
+use Rattle.player.specs.Events.{turnFor, eventsFrom, worldAfter, runFrom}
+use Rattle.player.specs.Played.{start, playerFor, runOf, playedOpened, played}
 use Rattle.player.specs.State.{Turned, printed}
 use Rattle.transport.specs.Capped.{cappedStep}
-use Rattle.delivery.specs.Turns.{turnFor, eventsFrom, worldAfter}
 use Rattle.player.specs.Text.{eventText, textOf}
-use Rattle.player.specs.Whole.{shown, leftOf, BeginPrints, PlayPrints, FinishedIsAll, PlayGoesOn}
+use Rattle.player.specs.Whole.{shown, leftOf, leftAfter, BeginPrints, PlayPrints, FinishedIsAll, PlayGoesOn}
 use Rattle.player.specs.declared.Player.{Player}
 use Rattle.text.proofs.Laws.{put-fits}
 use Rattle.text.specs.Page.{page, put}
 use Rattle.transport.proofs.Events.{whole-world}
-use Rattle.transport.proofs.Making.{AtStart, make-starts}
+use Rattle.transport.proofs.Making.{make-answers}
 use Rattle.transport.specs.Answer.{worldOf}
-use Rattle.transport.specs.Make.{Made, made, unmade, makeOf}
-use Rattle.transport.specs.World as transport
-use Rattle.transport.specs.World.{World, Call, Event, begin}
+use Rattle.transport.specs.World.{World, Event, begin}
+use Rattle.transport.specs.declared.Ends.{Ends}
 
 -- ---- part by part
 
@@ -108,40 +106,37 @@ play-prints bytes q forward back buffer out lf lb lo =
     suc-first : (a k : ℕ) → suc a + k ≡ suc (a + k)
     suc-first a k = omega arith
 
--- a pack that starts has ends at an empty line
-abbrev StartsEmpty : Start → Type 0
-StartsEmpty (refused number) = Unit
-StartsEmpty (begun ends b) =
-    (forward back buffer : List ℕ) → worldOf ends forward back buffer ≡ transport.startOf (ends .sender) (ends .receiver) buffer
-
-ends-empty : (b : Bodies) (x : Made) → AtStart x → StartsEmpty (startEnds b x)
-ends-empty b (unmade number) a = tt
-ends-empty b (made ends) a = a
-
-starts-empty : (bytes : List ℕ) (x : Contents) → StartsEmpty (startBodies bytes x)
-unfolding startBodies
-starts-empty bytes (pack.refused number) = tt
-starts-empty bytes (held b) =
-    let k = b .settings in
-    ends-empty b (makeOf (k .gap) (k .timeout) (k .limit) (k .patience) (k .window) (k .capacity) (messageOf bytes b))
-    (make-starts (k .gap) (k .timeout) (k .limit) (k .patience) (k .window) (k .capacity) (messageOf bytes b))
-
-pub begin-prints : BeginPrints
-unfolding beginOf leftOf played playedStart runFrom textOf startOf
-begin-prints bytes ends b started forward back out lf lo =
-    let w : World = transport.startOf (ends .sender) (ends .receiver) zeros in
+-- the begin, of a player that was just opened
+begin-from : (bytes : List ℕ) (ends : Ends) (b : Bodies) (forward back out : List ℕ)
+    → worldOf ends forward back (replicate 1785 0) ≡ start ends
+    → length forward ≡ 576
+    → length out ≡ 16384
+    → (let q = playerFor ends b in
+    let begun = beginOf bytes q forward back (replicate 1785 0) out in
+    textOf 0 (runOf bytes q) ≡ shown begun ++ leftAfter bytes begun)
+unfolding beginOf leftOf runOf runFrom textOf
+begin-from bytes ends b forward back out same lf lo =
     let m = messageOf bytes b in
-    let step = cappedStep w (begin m) in
-    let q = playerFor ends b in
-    let same : worldOf ends forward back zeros ≡ w = subst StartsEmpty started (starts-empty bytes (bodiesOf bytes)) forward back zeros in
-    let fits : length (eventText 0 (step .event)) ≤ length out = omega (arith, event-short w (begin m) 0 (record { forward = tt; back = tt })) in
-    rw started
-    (ap (λ (l : List ℕ). l ++ textOf 1 (eventsFrom (step .world) m (eventsOf bytes b))) (sym (page-shows out (eventText 0 (step .event)) fits))
+    let step = cappedStep (start ends) (begin m) in
+    let fits : length (eventText 0 (step .event)) ≤ length out = omega (arith, event-short (start ends) (begin m) 0 (record { forward = tt; back = tt })) in
+    ap (λ (l : List ℕ). l ++ textOf 1 (eventsFrom (step .world) m (eventsOf bytes b))) (sym (page-shows out (eventText 0 (step .event)) fits))
     ∙ ap (λ (t : Turned). take (t .page .place) (t .page .bytes) ++ textOf 1 (eventsFrom (t .world) m (eventsOf bytes b)))
-    (pick-true _ (lengths (length forward) (length out) lf lo) (ap (λ (v : World). printed (cappedStep v (begin m)) 0 (page out 0)) (sym same))))
+    (pick-true _ (lengths (length forward) (length out) lf lo) (ap (λ (v : World). printed (cappedStep v (begin m)) 0 (page out 0)) (sym same)))
   where
     lengths : (f o : ℕ) → f ≡ 576 → o ≡ 16384 → (eqb f 576 && eqb o 16384) ≡ true
     lengths f o e c = rw (e, c) refl
+
+pub begin-prints : BeginPrints
+unfolding played playedOpened
+begin-prints bytes q opens forward back out lf lo =
+    let o = opened bytes q opens in
+    let k = q .bodies .settings in
+    let made = make-answers (k .gap) (k .timeout) (k .limit) (k .patience) (k .window) (k .capacity) (q .ends) (o .made) in
+    rw opens
+    (subst
+    (λ (p : Player). let begun = beginOf bytes p forward back (replicate 1785 0) out in textOf 0 (runOf bytes p) ≡ shown begun ++ leftAfter bytes begun)
+    (o .just)
+    (begin-from bytes (q .ends) (q .bodies) forward back out (made .empty forward back (replicate 1785 0)) lf lo))
 
 pub finished-is-all : FinishedIsAll
 unfolding leftOf eventsFrom textOf

@@ -6,12 +6,12 @@ use mathlib.Core.List.{List}
 use lib.Dec.{eqb, leb}
 use lib.ListN.{length, take, drop}
 use Rattle.frame.specs.Choice.{pick}
+use Rattle.frame.specs.Result.{Result, accepted, refused}
 use Rattle.pack.specs.Pack.{messageOf, eventsOf}
 use Rattle.pack.specs.declared.Bodies.{Bodies}
-use Rattle.player.specs.Played.{Start, refused, begun, startOf}
+use Rattle.player.specs.Events.{eventsFrom, worldAfter}
 use Rattle.player.specs.State.{Turned, turned, printed}
 use Rattle.transport.specs.Capped.{cappedStep}
-use Rattle.delivery.specs.Turns.{eventsFrom, worldAfter}
 use Rattle.player.specs.Text.{textOf}
 use Rattle.player.specs.declared.Opening as opening
 use Rattle.player.specs.declared.Opening.the-variants as variants
@@ -19,31 +19,11 @@ use Rattle.player.specs.declared.Player.{Player}
 use Rattle.text.specs.Page.{Page, page, put}
 use Rattle.transport.specs.Answer.{worldOf}
 use Rattle.transport.specs.World.{World, begin}
-use Rattle.transport.specs.declared.Ends.{Ends}
-
--- ---- opening a pack
-
-pub data Opened : Type 0 where
-  ready : Player → Opened
-  unready : ℕ → Opened
 
 -- document 01's value for each case of the answer
-abbrev pub toldOpening : opening.Opening → Opened
-toldOpening (variants.Ready player) = ready player
-toldOpening (variants.Refused number) = unready number
-
--- nothing played
-abbrev pub playerFor : Ends → Bodies → Player
-playerFor ends b = record { ends = ends; bodies = b; played = 0 }
-
-abbrev pub openedAt : Start → Opened
-openedAt (refused number) = unready number
-openedAt (begun ends b) = ready (playerFor ends b)
-
-unfoldable pub openOf : List ℕ → Opened
-openOf bytes = openedAt (startOf bytes)
-
--- ---- beginning and playing
+abbrev pub toldOpening : opening.Opening → Result Player
+toldOpening (variants.Ready player) = accepted player
+toldOpening (variants.Refused number) = refused number
 
 -- the world, the bodies, the number of events played, and the page
 pub record Progressed : Type 0 where
@@ -65,10 +45,11 @@ playsOn forward back out = eqb (length forward) 576 && eqb (length back) 576 && 
 -- "0 is begin"
 unfoldable pub beginOf : List ℕ → Player → List ℕ → List ℕ → List ℕ → List ℕ → Progressed
 beginOf bytes q forward back buffer out =
+    let w = worldOf (q .ends) forward back buffer in
     progressed
     (pick (beginsOn forward out)
-    (printed (cappedStep (worldOf (q .ends) forward back buffer) (begin (messageOf bytes (q .bodies)))) 0 (page out 0))
-    (turned (worldOf (q .ends) forward back buffer) (page out 0)))
+    (printed (cappedStep w (begin (messageOf bytes (q .bodies)))) 0 (page out 0))
+    (turned w (page out 0)))
     (q .bodies) (q .played)
 
 -- events one after the other, numbered from here
@@ -82,11 +63,12 @@ nextEvents bytes q = take (min 128 (65535 - q .played)) (drop (q .played) (event
 
 unfoldable pub playOf : List ℕ → Player → List ℕ → List ℕ → List ℕ → List ℕ → Progressed
 playOf bytes q forward back buffer out =
+    let w = worldOf (q .ends) forward back buffer in
+    let events = nextEvents bytes q in
     pick (playsOn forward back out)
-    (progressed
-    (playing (worldOf (q .ends) forward back buffer) (messageOf bytes (q .bodies)) (nextEvents bytes q) (suc (q .played)) (page out 0))
-    (q .bodies) (q .played + length (nextEvents bytes q)))
-    (progressed (turned (worldOf (q .ends) forward back buffer) (page out 0)) (q .bodies) (q .played))
+    (progressed (playing w (messageOf bytes (q .bodies)) events (suc (q .played)) (page out 0))
+    (q .bodies) (q .played + length events))
+    (progressed (turned w (page out 0)) (q .bodies) (q .played))
 
 -- every event has been played
 abbrev pub isFinished : Player → Bool

@@ -1,47 +1,68 @@
--- Document 01, The player: what is printed of a run pack.
+-- Document 01, The player: a run pack is opened or refused, and what is printed of it.
 use Prim.Native.Nat.{ℕ}
 use mathlib.Core.List.{List}
 use lib.ListN.{replicate}
-use Rattle.pack.specs.Pack.{Contents, held, bodiesOf, messageOf, eventsOf}
-use Rattle.pack.specs.Pack as pack
+use Rattle.frame.specs.Result.{Result, accepted, refused}
+use Rattle.pack.specs.Pack.{bodiesOf, messageOf, eventsOf}
 use Rattle.pack.specs.declared.Bodies.{Bodies}
+use Rattle.player.specs.Events.{runFrom}
 use Rattle.player.specs.Text.{textOf}
+use Rattle.player.specs.declared.Player.{Player}
+use Rattle.sender.specs.Told as sender
 use Rattle.text.specs.Text.{refusedText}
-use Rattle.delivery.specs.Claim.{runFrom}
-use Rattle.transport.specs.Make.{Made, made, unmade, makeOf}
+use Rattle.transport.specs.Capped.{cappedStep}
+use Rattle.transport.specs.Make.{makeOf}
+use Rattle.transport.specs.World.{World, Event, begin, startOf}
 use Rattle.transport.specs.declared.Ends.{Ends}
 
--- what a pack starts: the ends and its bodies, or a refusal
-pub data Start : Type 0 where
-  refused : ℕ → Start
-  begun : Ends → Bodies → Start
-
--- "settings outside their limits are 1, a message of bad length 2": what making the ends for the message says
-abbrev pub startEnds : Bodies → Made → Start
-startEnds b (unmade number) = refused number
-startEnds b (made ends) = begun ends b
+-- ---- opening
 
 -- "settings (G byte, sender T, M, receiver T words, C byte, K word)"
-unfoldable pub startBodies : List ℕ → Contents → Start
-startBodies bytes (pack.refused number) = refused number
-startBodies bytes (held b) =
-    startEnds b
-    (makeOf (b .settings .gap) (b .settings .timeout) (b .settings .limit) (b .settings .patience) (b .settings .window) (b .settings .capacity) (messageOf bytes b))
+abbrev pub madeFor : Bodies → Result Ends
+madeFor b =
+    let settings = b .settings in
+    makeOf (settings .gap) (settings .timeout) (settings .limit) (settings .patience) (settings .window) (settings .capacity)
+
+-- the ends just made, at an empty line, and a receiving buffer of zeros
+abbrev pub start : Ends → World
+start ends = startOf (ends .sender) (ends .receiver) (replicate 1785 0)
+
+-- the ends and the bodies of a pack, nothing played
+abbrev pub playerFor : Ends → Bodies → Player
+playerFor ends b = record { ends = ends; bodies = b; played = 0 }
+
+-- "a message of bad length 2": by what the begin reports
+abbrev pub unlessRefused : sender.Outcome → Player → Result Player
+unlessRefused sender.quiet q = accepted q
+unlessRefused (sender.refused number) q = refused number
+unlessRefused (sender.sent ticks frames) q = accepted q
+unlessRefused (sender.failed cause ticks frames) q = accepted q
+
+-- "settings outside their limits are 1, a message of bad length 2"
+unfoldable pub openedWith : List ℕ → Bodies → Result Ends → Result Player
+openedWith message b (refused number) = refused number
+openedWith message b (accepted ends) =
+    unlessRefused (cappedStep (start ends) (begin message) .event .sender) (playerFor ends b)
 
 -- "Anything else is 12; after that settings outside their limits are 1, a message of bad length 2."
-unfoldable pub startOf : List ℕ → Start
-startOf bytes = startBodies bytes (bodiesOf bytes)
+unfoldable pub openedBodies : List ℕ → Result Bodies → Result Player
+openedBodies bytes (refused number) = refused number
+openedBodies bytes (accepted b) = openedWith (messageOf bytes b) b (madeFor b)
 
--- the receiving buffer at the start
-abbrev pub zeros : List ℕ
-zeros = replicate 1785 0
+unfoldable pub openOf : List ℕ → Result Player
+openOf bytes = openedBodies bytes (bodiesOf bytes)
+
+-- ---- what is printed
+
+-- the events of a pack's run
+unfoldable pub runOf : List ℕ → Player → List Event
+runOf bytes q = runFrom (start (q .ends)) (messageOf bytes (q .bodies)) (eventsOf bytes (q .bodies))
 
 -- "It prints `refused n` alone, or" the lines of the begin, number 0, and of each event
-unfoldable pub playedStart : List ℕ → Start → List ℕ
-playedStart bytes (refused number) = refusedText number
-playedStart bytes (begun ends b) =
-    textOf 0 (runFrom (ends .sender) (ends .receiver) zeros (messageOf bytes b) (eventsOf bytes b))
+unfoldable pub playedOpened : List ℕ → Result Player → List ℕ
+playedOpened bytes (refused number) = refusedText number
+playedOpened bytes (accepted q) = textOf 0 (runOf bytes q)
 
 -- what is printed of these bytes, whatever they are
 unfoldable pub played : List ℕ → List ℕ
-played bytes = playedStart bytes (startOf bytes)
+played bytes = playedOpened bytes (openOf bytes)

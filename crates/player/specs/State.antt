@@ -1,18 +1,19 @@
 -- The world and the page after an event.
 use Prim.Native.Nat.{ℕ}
-use mathlib.Core.Bool.{Bool, _&&_, _||_, false}
+use mathlib.Core.Bool.{Bool, _&&_, _||_}
 use mathlib.Core.List.{List, _++_}
 use lib.Dec.{leb}
 use Rattle.frame.specs.Choice.{pick}
-use Rattle.frame.specs.declared.Frame.{Frame}
+use Rattle.player.specs.Events.{callFor, turnFor}
 use Rattle.player.specs.Text.{eventText}
 use Rattle.receiver.specs.Told as receiver
 use Rattle.sender.specs.Told as sender
 use Rattle.text.specs.Page.{Page, put}
-use Rattle.text.specs.Text.{letterS, letterR, emittedText, senderReport, receiverReport, senderSays, receiverSays}
-use Rattle.delivery.specs.Turns.{turnFor}
+use Rattle.text.specs.Text.{letterS, letterR, emittedText, senderReport, receiverReport, hasSenderReport, hasReceiverReport}
+use Rattle.transport.specs.Answer.{Told, answerOf}
 use Rattle.transport.specs.Step.{Stepped}
 use Rattle.transport.specs.World.{World}
+use Rattle.transport.specs.declared.Said.{Said}
 
 -- the world after an event, and the page with what is printed of it
 pub record Turned : Type 0 where
@@ -26,18 +27,28 @@ turned w p = record { world = w; page = p }
 abbrev pub printed : Stepped → ℕ → Page → Turned
 printed s number p = turned (s .world) (put p (eventText number (s .event)))
 
+-- an event, printed under its number
 unfoldable pub turnOf : World → List ℕ → ℕ → ℕ → Page → Turned
 turnOf w message event number p = printed (turnFor w message event) number p
+
+-- what the transport answers to an event
+unfoldable pub calledOf : World → List ℕ → ℕ → Told
+calledOf w message event = answerOf w (callFor w message event)
 
 -- the letter of the end that an event is for: 2 to 5 are the receiver's
 abbrev pub letterFor : ℕ → ℕ
 letterFor event = pick (leb 2 event && leb event 5) letterR letterS
 
--- what is printed of an answer
-unfoldable pub answerText : ℕ → ℕ → Bool → Frame → sender.Outcome → receiver.Outcome → List ℕ → List ℕ
-answerText number letter emits f s r bytes =
-    emittedText number letter emits f ++ (senderReport number s ++ receiverReport number r bytes)
+-- what is printed of an answer: the frame's line, then the reports
+unfoldable pub saidText : ℕ → ℕ → Said → List ℕ
+saidText number letter a =
+    emittedText number letter (a .emits) (a .frame)
+    ++ (senderReport number (sender.toldOutcome (a .sender))
+    ++ receiverReport number (receiver.toldOutcome (a .receiver)) (a .bytes))
 
 -- whether there is anything to print
-abbrev pub says : Bool → sender.Outcome → receiver.Outcome → Bool
-says emits s r = senderSays emits s || receiverSays false r
+abbrev pub says : Said → Bool
+says a =
+    a .emits
+    || hasSenderReport (sender.toldOutcome (a .sender))
+    || hasReceiverReport (receiver.toldOutcome (a .receiver))

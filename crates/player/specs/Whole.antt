@@ -4,17 +4,17 @@ use Prim.Native.Nat.{ℕ, suc, _<_}
 use mathlib.Core.Bool.{true, false}
 use mathlib.Core.List.{List, [], _++_}
 use mathlib.Core.Path.{_≡_}
-use lib.ListN.{length, take, drop}
-use Rattle.pack.specs.Pack.{held, bodiesOf, messageOf, eventsOf}
+use lib.ListN.{length, take, drop, replicate}
+use Rattle.frame.specs.Result.{accepted}
+use Rattle.pack.specs.Pack.{bodiesOf, messageOf, eventsOf}
 use Rattle.pack.specs.declared.Bodies.{Bodies}
-use Rattle.player.specs.Calls.{playerFor, Progressed, beginOf, playOf, isFinished}
-use Rattle.player.specs.Played.{begun, startOf, zeros, played}
-use Rattle.delivery.specs.Turns.{eventsFrom}
+use Rattle.player.specs.Calls.{Progressed, beginOf, playOf, isFinished}
+use Rattle.player.specs.Events.{eventsFrom}
+use Rattle.player.specs.Played.{openOf, played}
 use Rattle.player.specs.Text.{textOf}
 use Rattle.player.specs.declared.Player.{Player}
 use Rattle.transport.specs.Answer.{worldOf}
 use Rattle.transport.specs.World.{World}
-use Rattle.transport.specs.declared.Ends.{Ends}
 
 -- what a call prints: the written part of its page
 abbrev pub shown : Progressed → List ℕ
@@ -30,13 +30,13 @@ leftAfter bytes g = leftOf bytes (g .world) (g .bodies) (g .played)
 -- the begin, on a buffer of zeros
 abbrev pub BeginPrints : Type 0
 BeginPrints =
-    (bytes : List ℕ) (ends : Ends) (b : Bodies)
-    → startOf bytes ≡ begun ends b
+    (bytes : List ℕ) (q : Player)
+    → openOf bytes ≡ accepted q
     → (forward back out : List ℕ)
     → length forward ≡ 576
     → length out ≡ 16384
-    → played bytes
-    ≡ shown (beginOf bytes (playerFor ends b) forward back zeros out) ++ leftAfter bytes (beginOf bytes (playerFor ends b) forward back zeros out)
+    → (let begun = beginOf bytes q forward back (replicate 1785 0) out in
+    played bytes ≡ shown begun ++ leftAfter bytes begun)
 
 -- a call of play
 abbrev pub PlayPrints : Type 0
@@ -45,14 +45,14 @@ PlayPrints =
     → length forward ≡ 576
     → length back ≡ 576
     → length out ≡ 16384
-    → leftOf bytes (worldOf (q .ends) forward back buffer) (q .bodies) (q .played)
-    ≡ shown (playOf bytes q forward back buffer out) ++ leftAfter bytes (playOf bytes q forward back buffer out)
+    → (let on = playOf bytes q forward back buffer out in
+    leftOf bytes (worldOf (q .ends) forward back buffer) (q .bodies) (q .played) ≡ shown on ++ leftAfter bytes on)
 
 -- a finished player has nothing left to print of its pack
 abbrev pub FinishedIsAll : Type 0
 FinishedIsAll =
     (bytes : List ℕ) (q : Player) (w : World)
-    → bodiesOf bytes ≡ held (q .bodies)
+    → bodiesOf bytes ≡ accepted (q .bodies)
     → isFinished q ≡ true
     → leftOf bytes w (q .bodies) (q .played) ≡ []
 
@@ -63,6 +63,6 @@ PlayGoesOn =
     → length forward ≡ 576
     → length back ≡ 576
     → length out ≡ 16384
-    → bodiesOf bytes ≡ held (q .bodies)
+    → bodiesOf bytes ≡ accepted (q .bodies)
     → isFinished q ≡ false
     → q .played < playOf bytes q forward back buffer out .played

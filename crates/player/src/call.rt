@@ -63,7 +63,10 @@ impl Player {
 
     // After a step, with so many events played.
     fn after(self, turn: Turn, played: u16) -> Progress
-        ensures { λ r. ⌜ (r .player .ends ≡ turn .ends) × (r .player .bodies ≡ self .bodies) × (r .player .played ≡ played) × (r .written ≡ turn .at) ⌝ }
+        ensures { λ r. ⌜ (r .player .ends ≡ turn .ends)
+            × (r .player .bodies ≡ self .bodies)
+            × (r .player .played ≡ played)
+            × (r .written ≡ turn .at) ⌝ }
     {
         let ends = turn.ends;
         let bodies = self.bodies;
@@ -81,7 +84,11 @@ impl Player {
     // Begins the pack's message, whatever back and the buffer hold.
     pub fn begin(self, pack: &[u8], forward: &mut [u8], out: &mut [u8]) -> Progress
         ensures { λ r. ⌜ ((back buffer : List ℕ) →
-            progressed (turned (worldOf (r .player .ends) (now (forward .exit)) back buffer) (page (now (out .exit)) (r .written))) (r .player .bodies) (r .player .played)
+            progressed
+            (turned
+            (worldOf (r .player .ends) (now (forward .exit)) back buffer)
+            (page (now (out .exit)) (r .written)))
+            (r .player .bodies) (r .player .played)
             ≡ beginOf (now (pack .entry)) self (now (forward .entry)) back buffer (now (out .entry))) ⌝ }
     {
         if begins_on(forward.len(), out.len()) {
@@ -104,8 +111,13 @@ impl Player {
         back: &mut [u8],
         out: &mut [u8],
     ) -> Progress
-        ensures { λ r. ⌜ progressed (turned (worldOf (r .player .ends) (now (forward .exit)) (now (back .exit)) (now (buffer .exit))) (page (now (out .exit)) (r .written))) (r .player .bodies) (r .player .played)
-            ≡ playOf (now (pack .entry)) self (now (forward .entry)) (now (back .entry)) (now (buffer .entry)) (now (out .entry)) ⌝ }
+        ensures { λ r. ⌜ progressed
+            (turned
+            (worldOf (r .player .ends) (now (forward .exit)) (now (back .exit)) (now (buffer .exit)))
+            (page (now (out .exit)) (r .written)))
+            (r .player .bodies) (r .player .played)
+            ≡ playOf (now (pack .entry)) self
+            (now (forward .entry)) (now (back .entry)) (now (buffer .entry)) (now (out .entry)) ⌝ }
     {
         if plays_on(forward.len(), back.len(), out.len()) {
             let bodies = self.bodies;

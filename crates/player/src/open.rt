@@ -1,8 +1,9 @@
-// Opening a run pack: its bodies are read, and the ends made for its message.
+// Opening a run pack: its bodies are read, the ends made of its settings, and a begin of its message tried.
 ghost use mathlib.Core.Path.{_≡_};
-ghost use Rattle.player.specs.Calls.{toldOpening, openedAt, openOf};
-ghost use Rattle.player.specs.Played.{startBodies};
-ghost use Rattle.pack.specs.Pack.{held};
+ghost use Rattle.frame.specs.Result.{accepted};
+ghost use Rattle.player.specs.Calls.{toldOpening};
+ghost use Rattle.player.specs.Played.{unlessRefused, openedWith, openedBodies, openOf};
+ghost use Rattle.sender.specs.Told as sender-told;
 use crate::Opening;
 use crate::Player;
 use crate::parts::part;
@@ -10,12 +11,45 @@ use pack::Bodies;
 use transport::Ends;
 use transport::Made;
 
-// The ends are made of the pack's settings.
+// By what the begin reported.
+fn unless_refused(outcome: sender::Outcome, player: Player) -> Opening
+    ensures { λ o. ⌜ toldOpening o ≡ unlessRefused (sender-told.toldOutcome outcome) player ⌝ }
+{
+    match outcome {
+        sender::Outcome::Quiet => Opening::Ready(player),
+        sender::Outcome::Refused(number) => Opening::Refused(number),
+        sender::Outcome::Sent {
+            ticks: _,
+            frames: _,
+        } => Opening::Ready(player),
+        sender::Outcome::Failed {
+            cause: _,
+            ticks: _,
+            frames: _,
+        } => Opening::Ready(player),
+    }
+}
+
+// The begin is tried on a line of its own: the ends are handed on as they were made.
+fn try_begin(message: &[u8], bodies: Bodies, ends: Ends) -> Opening
+    ensures { λ o. ⌜ toldOpening o ≡ openedWith (now (message .entry)) bodies (accepted ends) ⌝ }
+{
+    let mut line = [0u8; 576];
+    let begun = ends.begin(message, &mut line);
+    let said = begun.said;
+    let outcome = said.sender;
+    let player = Player {
+        ends,
+        bodies,
+        played: 0,
+    };
+    unless_refused(outcome, player)
+}
+
 fn open_bodies(pack: &[u8], bodies: Bodies) -> Opening
-    ensures { λ o. ⌜ toldOpening o ≡ openedAt (startBodies (now (pack .entry)) (held bodies)) ⌝ }
+    ensures { λ o. ⌜ toldOpening o ≡ openedBodies (now (pack .entry)) (accepted bodies) ⌝ }
 {
     let settings = bodies.settings;
-    let message = part(pack, 23, bodies.message as usize);
     let made = Ends::make(
         settings.gap as u16,
         settings.timeout,
@@ -23,17 +57,12 @@ fn open_bodies(pack: &[u8], bodies: Bodies) -> Opening
         settings.patience,
         settings.window as u16,
         settings.capacity,
-        message,
     );
     match made {
         Made::Refused(number) => Opening::Refused(number),
         Made::Ready(ends) => {
-            let player = Player {
-                ends,
-                bodies,
-                played: 0,
-            };
-            Opening::Ready(player)
+            let message = part(pack, 23, bodies.message as usize);
+            try_begin(message, bodies, ends)
         }
     }
 }

@@ -21,9 +21,14 @@ pub(crate) fn run(
     back: &mut [u8],
     out: &mut [u8],
 ) -> Turn
-    requires { ⌜ (length (now forward) ≡ 576) × (length (now back) ≡ 576) × (played + length (now events) ≤ 65535) ⌝ }
-    ensures { λ r. ⌜ turned (worldOf (r .ends) (now (forward .exit)) (now (back .exit)) (now (buffer .exit))) (page (now (out .exit)) (r .at))
-        ≡ playing (worldOf ends (now (forward .entry)) (now (back .entry)) (now (buffer .entry))) (now (message .entry)) (now (events .entry)) (suc played) (page (now (out .entry)) 0) ⌝ }
+    requires { ⌜ (length (now forward) ≡ 576)
+        × (length (now back) ≡ 576)
+        × (played + length (now events) ≤ 65535) ⌝ }
+    ensures { λ r. ⌜ turned
+        (worldOf (r .ends) (now (forward .exit)) (now (back .exit)) (now (buffer .exit)))
+        (page (now (out .exit)) (r .at))
+        ≡ playing (worldOf ends (now (forward .entry)) (now (back .entry)) (now (buffer .entry)))
+        (now (message .entry)) (now (events .entry)) (suc played) (page (now (out .entry)) 0) ⌝ }
 {
     let mut turn = Turn { ends, at: 0 };
     let mut number = played;

@@ -5,16 +5,22 @@ ghost use mathlib.Core.List.{List};
 ghost use Prim.Native.Nat.{ℕ};
 ghost use lib.Dec.{leb};
 ghost use lib.ListN.{length};
-ghost use Rattle.player.specs.State.{turned, printed, turnOf, letterFor, answerText, says};
-ghost use Rattle.receiver.specs.Told as receiver-told;
-ghost use Rattle.sender.specs.Told as sender-told;
+ghost use Rattle.player.specs.State.{
+  turned,
+  printed,
+  calledOf,
+  turnOf,
+  letterFor,
+  saidText,
+  says,
+};
 ghost use Rattle.text.specs.Page.{page, put};
-ghost use Rattle.transport.specs.Answer.{worldOf, told, answerOf};
+ghost use Rattle.transport.specs.Answer.{worldOf, told};
 ghost use Rattle.transport.specs.Capped.{cappedStep};
-ghost use Rattle.delivery.specs.Example.{callFor};
 ghost use Rattle.transport.specs.World.{begin};
 use transport::Answer;
 use transport::Ends;
+use transport::Said;
 
 pub(crate) struct Turn {
     pub ends: Ends,
@@ -36,23 +42,24 @@ fn letter_of(event: u8) -> u8
 
 // Whether there is anything to print of an answer.
 fn says(a: Answer) -> bool
-    ensures { λ r. ⌜ r ≡ says (a .emits) (sender-told.toldOutcome (a .sender)) (receiver-told.toldOutcome (a .receiver)) ⌝ }
+    ensures { λ r. ⌜ r ≡ says (a .said) ⌝ }
 {
-    let s = a.sender;
-    let r = a.receiver;
-    text::sender_says(a.emits, s) | text::receiver_says(false, r)
+    let said = a.said;
+    let s = said.sender;
+    let r = said.receiver;
+    said.emits | text::has_sender_report(s) | text::has_receiver_report(r)
 }
 
 // What is printed of an answer: the frame's line, then the reports.
-fn lines(a: Answer, letter: u8, number: u16, out: &mut [u8], at: usize) -> usize
+fn lines(said: Said, letter: u8, number: u16, out: &mut [u8], at: usize) -> usize
     ensures { λ r. ⌜ page (now (out .exit)) r
-        ≡ put (page (now (out .entry)) at) (answerText number letter (a .emits) (a .frame) (sender-told.toldOutcome (a .sender)) (receiver-told.toldOutcome (a .receiver)) (a .bytes)) ⌝ }
+        ≡ put (page (now (out .entry)) at) (saidText number letter said) ⌝ }
 {
-    let f = a.frame;
-    let s = a.sender;
-    let r = a.receiver;
-    let bytes = a.bytes;
-    let first = text::emitted_line(number, letter, a.emits, f, out, at);
+    let f = said.frame;
+    let s = said.sender;
+    let r = said.receiver;
+    let bytes = said.bytes;
+    let first = text::emitted_line(number, letter, said.emits, f, out, at);
     let second = text::sender_report(number, s, out, first);
     text::receiver_report(number, r, bytes, out, second)
 }
@@ -62,10 +69,13 @@ pub(crate) fn first_turn(ends: Ends, message: &[u8], forward: &mut [u8], out: &m
     requires { ⌜ length (now forward) ≡ 576 ⌝ }
     ensures { λ r. ⌜ ((back buffer : List ℕ) →
         turned (worldOf (r .ends) (now (forward .exit)) back buffer) (page (now (out .exit)) (r .at))
-        ≡ printed (cappedStep (worldOf ends (now (forward .entry)) back buffer) (begin (now (message .entry)))) 0 (page (now (out .entry)) 0)) ⌝ }
+        ≡ printed
+        (cappedStep (worldOf ends (now (forward .entry)) back buffer) (begin (now (message .entry))))
+        0 (page (now (out .entry)) 0)) ⌝ }
 {
     let a = ends.begin(message, forward);
-    let at = lines(a, b'S', 0, out, 0);
+    let said = a.said;
+    let at = lines(said, b'S', 0, out, 0);
     let ends = a.next;
     Turn { ends, at }
 }
@@ -81,7 +91,8 @@ fn call(
 ) -> Answer
     requires { ⌜ (length (now forward) ≡ 576) × (length (now back) ≡ 576) ⌝ }
     ensures { λ r. ⌜ told r (now (forward .exit)) (now (back .exit)) (now (buffer .exit))
-        ≡ answerOf (worldOf ends (now (forward .entry)) (now (back .entry)) (now (buffer .entry))) (callFor (worldOf ends (now (forward .entry)) (now (back .entry)) (now (buffer .entry))) (now (message .entry)) event) ⌝ }
+        ≡ calledOf (worldOf ends (now (forward .entry)) (now (back .entry)) (now (buffer .entry)))
+        (now (message .entry)) event ⌝ }
 {
     match event {
         1 => ends.tick_sender(message, forward),
@@ -106,13 +117,17 @@ pub(crate) fn next_turn(
     at: usize,
 ) -> Turn
     requires { ⌜ (length (now forward) ≡ 576) × (length (now back) ≡ 576) ⌝ }
-    ensures { λ r. ⌜ turned (worldOf (r .ends) (now (forward .exit)) (now (back .exit)) (now (buffer .exit))) (page (now (out .exit)) (r .at))
-        ≡ turnOf (worldOf ends (now (forward .entry)) (now (back .entry)) (now (buffer .entry))) (now (message .entry)) event number (page (now (out .entry)) at) ⌝ }
+    ensures { λ r. ⌜ turned
+        (worldOf (r .ends) (now (forward .exit)) (now (back .exit)) (now (buffer .exit)))
+        (page (now (out .exit)) (r .at))
+        ≡ turnOf (worldOf ends (now (forward .entry)) (now (back .entry)) (now (buffer .entry)))
+        (now (message .entry)) event number (page (now (out .entry)) at) ⌝ }
 {
     let a = call(ends, event, message, buffer, forward, back);
     let next = a.next;
     if says(a) {
-        let place = lines(a, letter_of(event), number, out, at);
+        let said = a.said;
+        let place = lines(said, letter_of(event), number, out, at);
         Turn {
             ends: next,
             at: place,

@@ -17,7 +17,7 @@ use Rattle.frame.specs.declared.Frame.{Frame}
 use Rattle.receiver.specs.Told as receiver-told
 use Rattle.sender.specs.Told as sender-told
 use Rattle.text.specs.Page.{Page, page, byteAt, put}
-use Rattle.text.specs.Text.{digitsIn, decimal, spaced, hexes, letterS, letterR, headOf, frameLine, emittedText, sentLine, failedLine, deliveredLine, closedLine, shortLine, senderReport, receiverReport, refusedText, senderSays, receiverSays}
+use Rattle.text.specs.Text.{digitsIn, decimal, spaced, hexes, letterS, letterR, headOf, frameLine, emittedText, sentLine, failedLine, deliveredLine, closedLine, shortLine, senderReport, receiverReport, refusedText, hasSenderReport, hasReceiverReport}
 
 -- ---- the page
 
@@ -120,21 +120,24 @@ module _ (number : ℕ) where
   unfolding refusedText
   refused-text-length = simp length-append (omega (arith, spaced-length number))
 
--- ---- an answer that says nothing prints nothing
+-- ---- what is not there is not printed
 
-pub silent-sender : (number letter : ℕ) (emits : Bool) (f : Frame) (o : sender-told.Outcome) → senderSays emits o ≡ false
-    → (emittedText number letter emits f ≡ []) × (senderReport number o ≡ [])
-unfolding emittedText senderReport
-silent-sender number letter emits f sender-told.quiet q = (rw q refl, refl)
-silent-sender number letter emits f (sender-told.refused n) q = absurd (false≢true (sym q))
-silent-sender number letter emits f (sender-told.sent ticks frames) q = absurd (false≢true (sym q))
-silent-sender number letter emits f (sender-told.failed cause ticks frames) q = absurd (false≢true (sym q))
+pub no-frame : (number letter : ℕ) (emits : Bool) (f : Frame) → emits ≡ false → emittedText number letter emits f ≡ []
+unfolding emittedText
+no-frame number letter emits f e = rw e refl
 
-pub silent-receiver : (number : ℕ) (emits : Bool) (o : receiver-told.Outcome) (bytes : List ℕ) → receiverSays emits o ≡ false
+pub no-sender-report : (number : ℕ) (o : sender-told.Outcome) → hasSenderReport o ≡ false → senderReport number o ≡ []
+unfolding senderReport
+no-sender-report number sender-told.quiet q = refl
+no-sender-report number (sender-told.refused n) q = refl
+no-sender-report number (sender-told.sent ticks frames) q = absurd (false≢true (sym q))
+no-sender-report number (sender-told.failed cause ticks frames) q = absurd (false≢true (sym q))
+
+pub no-receiver-report : (number : ℕ) (o : receiver-told.Outcome) (bytes : List ℕ) → hasReceiverReport o ≡ false
     → receiverReport number o bytes ≡ []
 unfolding receiverReport
-silent-receiver number emits receiver-told.quiet bytes q = refl
-silent-receiver number emits (receiver-told.refused n) bytes q = absurd (false≢true (sym q))
-silent-receiver number emits (receiver-told.delivered l) bytes q = absurd (false≢true (sym q))
-silent-receiver number emits (receiver-told.failed cause) bytes q = absurd (false≢true (sym q))
-silent-receiver number emits receiver-told.short bytes q = absurd (false≢true (sym q))
+no-receiver-report number receiver-told.quiet bytes q = refl
+no-receiver-report number (receiver-told.refused n) bytes q = refl
+no-receiver-report number (receiver-told.delivered l) bytes q = absurd (false≢true (sym q))
+no-receiver-report number (receiver-told.failed cause) bytes q = absurd (false≢true (sym q))
+no-receiver-report number receiver-told.short bytes q = absurd (false≢true (sym q))

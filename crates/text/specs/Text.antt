@@ -125,16 +125,16 @@ receiverReport number receiver-told.short bytes = shortLine number bytes
 unfoldable pub refusedText : ℕ → List ℕ
 refusedText number = refusedWord ++ (spaced number ++ (newline ∷ []))
 
--- an answer that emits no frame and reports nothing has nothing to print
-abbrev pub senderSays : Bool → sender-told.Outcome → Bool
-senderSays emits sender-told.quiet = emits
-senderSays emits (sender-told.refused number) = true
-senderSays emits (sender-told.sent ticks frames) = true
-senderSays emits (sender-told.failed cause ticks frames) = true
+-- whether there is a report to print: of a refused call there is none
+abbrev pub hasSenderReport : sender-told.Outcome → Bool
+hasSenderReport sender-told.quiet = false
+hasSenderReport (sender-told.refused number) = false
+hasSenderReport (sender-told.sent ticks frames) = true
+hasSenderReport (sender-told.failed cause ticks frames) = true
 
-abbrev pub receiverSays : Bool → receiver-told.Outcome → Bool
-receiverSays emits receiver-told.quiet = emits
-receiverSays emits (receiver-told.refused number) = true
-receiverSays emits (receiver-told.delivered length) = true
-receiverSays emits (receiver-told.failed cause) = true
-receiverSays emits receiver-told.short = true
+abbrev pub hasReceiverReport : receiver-told.Outcome → Bool
+hasReceiverReport receiver-told.quiet = false
+hasReceiverReport (receiver-told.refused number) = false
+hasReceiverReport (receiver-told.delivered length) = true
+hasReceiverReport (receiver-told.failed cause) = true
+hasReceiverReport receiver-told.short = true

@@ -1,6 +1,6 @@
 // The lines that the player prints, written into a lent slice from a place on. Each function answers the place after what
 // it wrote; bytes that find the slice full are left out.
-mod line;
+mod lines;
 mod number;
 mod page;
 
@@ -8,21 +8,29 @@ ghost use mathlib.Core.Path.{_≡_};
 ghost use Rattle.receiver.specs.Told as receiver-told;
 ghost use Rattle.sender.specs.Told as sender-told;
 ghost use Rattle.text.specs.Page.{page, put};
-ghost use Rattle.text.specs.Text.{emittedText, senderReport, receiverReport, refusedText, senderSays, receiverSays};
-use crate::line::NEWLINE;
-use crate::line::closed_line;
-use crate::line::delivered_line;
-use crate::line::failed_line;
-use crate::line::frame_line;
-use crate::line::sent_line;
-use crate::line::short_line;
+ghost use Rattle.text.specs.Text.{
+  emittedText,
+  senderReport,
+  receiverReport,
+  refusedText,
+  hasSenderReport,
+  hasReceiverReport,
+};
+use crate::lines::NEWLINE;
+use crate::lines::closed_line;
+use crate::lines::delivered_line;
+use crate::lines::failed_line;
+use crate::lines::frame_line;
+use crate::lines::sent_line;
+use crate::lines::short_line;
 use crate::number::put_spaced;
 use crate::page::put_byte;
 use crate::page::put_text;
 use frame::Frame;
 
 pub fn sender_report(number: u16, outcome: sender::Outcome, out: &mut [u8], at: usize) -> usize
-    ensures { λ r. ⌜ page (now (out .exit)) r ≡ put (page (now (out .entry)) at) (senderReport number (sender-told.toldOutcome outcome)) ⌝ }
+    ensures { λ r. ⌜ page (now (out .exit)) r
+        ≡ put (page (now (out .entry)) at) (senderReport number (sender-told.toldOutcome outcome)) ⌝ }
 {
     match outcome {
         sender::Outcome::Quiet => at,
@@ -55,13 +63,13 @@ pub fn receiver_report(
     }
 }
 
-// Whether an answer has anything to print: a frame or a report.
-pub fn sender_says(emits: bool, outcome: sender::Outcome) -> bool
-    ensures { λ r. ⌜ r ≡ senderSays emits (sender-told.toldOutcome outcome) ⌝ }
+// Whether there is a report to print.
+pub fn has_sender_report(outcome: sender::Outcome) -> bool
+    ensures { λ r. ⌜ r ≡ hasSenderReport (sender-told.toldOutcome outcome) ⌝ }
 {
     match outcome {
-        sender::Outcome::Quiet => emits,
-        sender::Outcome::Refused(_) => true,
+        sender::Outcome::Quiet => false,
+        sender::Outcome::Refused(_) => false,
         sender::Outcome::Sent {
             ticks: _,
             frames: _,
@@ -74,12 +82,12 @@ pub fn sender_says(emits: bool, outcome: sender::Outcome) -> bool
     }
 }
 
-pub fn receiver_says(emits: bool, outcome: receiver::Outcome) -> bool
-    ensures { λ r. ⌜ r ≡ receiverSays emits (receiver-told.toldOutcome outcome) ⌝ }
+pub fn has_receiver_report(outcome: receiver::Outcome) -> bool
+    ensures { λ r. ⌜ r ≡ hasReceiverReport (receiver-told.toldOutcome outcome) ⌝ }
 {
     match outcome {
-        receiver::Outcome::Quiet => emits,
-        receiver::Outcome::Refused(_) => true,
+        receiver::Outcome::Quiet => false,
+        receiver::Outcome::Refused(_) => false,
         receiver::Outcome::Delivered(_) => true,
         receiver::Outcome::Failed(_) => true,
         receiver::Outcome::Short => true,
@@ -104,7 +112,8 @@ pub fn emitted_line(
     out: &mut [u8],
     at: usize,
 ) -> usize
-    ensures { λ r. ⌜ page (now (out .exit)) r ≡ put (page (now (out .entry)) at) (emittedText number letter emits f) ⌝ }
+    ensures { λ r. ⌜ page (now (out .exit)) r
+        ≡ put (page (now (out .entry)) at) (emittedText number letter emits f) ⌝ }
 {
     if emits {
         frame_line(number, letter, f, out, at)

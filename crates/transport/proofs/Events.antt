@@ -2,7 +2,7 @@
 -- emitted, what each end reported and the bytes of a short delivery.
 -- Assumes nothing.
 use Prim.Native.Nat.{ℕ, zero, suc}
-use mathlib.Core.Path.{_≡_, refl, _∙_}
+use mathlib.Core.Path.{_≡_, refl, ap, _∙_}
 use mathlib.Core.Bool.{Bool, true, false}
 use mathlib.Core.List.{List, [], _∷_, _++_}
 use lib.ListN.{length, take}
@@ -12,7 +12,6 @@ use Rattle.line.specs.Ring.{frameAt, framesFrom, framesIn}
 use Rattle.receiver.specs.Hear as hearing
 use Rattle.receiver.specs.Tick as ticking
 use Rattle.receiver.specs.Told as receiver
-use Rattle.receiver.specs.declared.Receiver.{Receiver}
 use Rattle.sender.specs.Begin.{beginOf}
 use Rattle.sender.specs.Hear.{hearOf}
 use Rattle.sender.specs.Tick.{tickOf}
@@ -22,7 +21,7 @@ use Rattle.transport.proofs.Eight.{Eight, begin-eight, tick-eight, hear
 use Rattle.transport.specs.Answer.{worldOf, Told, answerOf, lentOf}
 use Rattle.transport.specs.Capped.{capped, cappedStep}
 use Rattle.transport.specs.Step.{emission, Stepped, unheard, bySender, byReceiver, Rest, gone, still, leaving, dropped, givenForward, givenBack, stepOf}
-use Rattle.transport.specs.World.{World, Call, begin, senderTick, receiverTick, hearForward, repeatForward, loseForward, hearBack, repeatBack, loseBack, Given, nobody, toSender, toReceiver, Event}
+use Rattle.transport.specs.World.{World, Call, begin, senderTick, receiverTick, hearForward, repeatForward, loseForward, hearBack, repeatBack, loseBack, Given, nobody, toSender, toReceiver}
 use Rattle.transport.specs.declared.Ends.{Ends}
 
 -- ---- lines of frames of eight bytes
@@ -56,7 +55,7 @@ frames-eight bytes zero p = tt
 frames-eight bytes (suc n) p = (refl, frames-eight bytes n (suc p))
 
 pub whole-world : (ends : Ends) (forward back buffer : List ℕ) → Whole (worldOf ends forward back buffer)
-unfolding framesIn
+unfolding framesIn worldOf
 whole-world ends forward back buffer = record { forward = frames-eight forward _ _; back = frames-eight back _ _ }
 
 -- ---- one call
@@ -156,6 +155,11 @@ pub call-whole : (w : World) (c : Call) → Whole w → Whole (cappedStep w c .w
 unfolding cappedStep
 call-whole w c a = of-call w c a .whole
 
+-- what a begin reports depends on the sender and the message alone
+pub begin-reports : (w v : World) (m : List ℕ) → w .sender ≡ v .sender → stepOf w (begin m) .event .sender ≡ stepOf v (begin m) .event .sender
+unfolding stepOf
+begin-reports w v m e = ap (λ (s : Sender). beginOf s m .outcome) e
+
 -- what is lent a line in its length is answered
 pub lent-answer : {fits : Bool} (w : World) (c : Call) {x : Told} → fits ≡ true → x ≡ lentOf fits w c → x ≡ answerOf w c
 unfolding lentOf pick
@@ -172,8 +176,8 @@ unfolding givenBack
 back-call k c w [] = refl
 back-call k c w (f ∷ fs) = refl
 
-pub call-of : (w : World) (c : Call) → cappedStep w c .event .call ≡ c
-unfolding cappedStep stepOf
+pub call-of : (w : World) (c : Call) → stepOf w c .event .call ≡ c
+unfolding stepOf
 call-of w (begin m) = refl
 call-of w (senderTick m) = refl
 call-of w receiverTick = refl

@@ -1,19 +1,15 @@
--- Document 01, The player: what one event does to both ends and the line, and what a list of events does.
+-- Document 01, The player: the line of 64.
 use lib.ListN.{take}
-use Rattle.transport.specs.Step.{Stepped, stepOf}
+use Rattle.transport.specs.Step.{Stepped, withLines, stepOf}
 use Rattle.transport.specs.World.{World, Call}
 
 -- "Its line loses a frame that finds 64 before it": of a list that a frame joined, the first 64 stay
 unfoldable pub capped : World → World
-capped w =
-    record {
-      sender = w .sender;
-      receiver = w .receiver;
-      forward = take 64 (w .forward);
-      back = take 64 (w .back);
-      buffer = w .buffer;
-    }
+capped w = withLines w (take 64 (w .forward)) (take 64 (w .back))
 
--- a call at the player's line: what the transport says, at a line of 64. A frame that is lost was emitted all the same.
+-- a step at a line of 64; a frame that is lost was emitted all the same
+abbrev pub atLine : Stepped → Stepped
+atLine s = record { world = capped (s .world); event = s .event }
+
 unfoldable pub cappedStep : World → Call → Stepped
-cappedStep w c = record { world = capped (stepOf w c .world); event = stepOf w c .event }
+cappedStep w c = atLine (stepOf w c)

@@ -1,5 +1,5 @@
--- What each call does to the ends, the line and the buffer, and what is seen of it. The ends' own definitions say what
--- an end does; here stands only what document 01, The line, adds.
+-- Document 01, The line: what each call does to the ends, the line and the buffer, and what is seen of it. What an end
+-- does is said by its own definitions; here stands only what the line adds.
 use Prim.Native.Nat.{ℕ}
 use mathlib.Core.Bool.{Bool, true, false}
 use mathlib.Core.List.{List, [], _∷_, _++_}
@@ -24,16 +24,29 @@ abbrev pub emission : Bool → Frame → List Frame
 emission true f = f ∷ []
 emission false f = []
 
--- nothing happens: "On an empty list nothing happens", and a loss is no call of an end
-abbrev pub unheard : Call → World → Stepped
-unheard c w =
+-- what is seen where no end is called: "On an empty list nothing happens", and a loss calls none
+abbrev pub uncalled : Call → Event
+uncalled c =
     record {
-      world = w;
-      event =
-          record { call = c; given = nobody; emitted = []; frame = blankOf; sender = sender.quiet; receiver = receiver.quiet; bytes = receiver.noBytes; lent = [] };
+      call = c;
+      given = nobody;
+      emitted = [];
+      frame = blankOf;
+      sender = sender.quiet;
+      receiver = receiver.quiet;
+      bytes = receiver.noBytes;
+      lent = [];
     }
 
--- a call of the sender, its frame given or none: "Emitted frames join the end" of forward
+abbrev pub unheard : Call → World → Stepped
+unheard c w = record { world = w; event = uncalled c }
+
+-- the same ends and buffer, with other lines
+abbrev pub withLines : World → List Frame → List Frame → World
+withLines w forward back =
+    record { sender = w .sender; receiver = w .receiver; forward = forward; back = back; buffer = w .buffer }
+
+-- a call of the sender, given a frame or none: "Emitted frames join the end", here of forward
 abbrev pub bySender : Call → World → Given → List Frame → sender.Told → Stepped
 bySender c w given back t =
     record {
@@ -58,7 +71,7 @@ bySender c w given back t =
           };
     }
 
--- was the receiver's call refused
+-- whether the receiver's call was refused
 abbrev pub wasRefused : receiver.Outcome → Bool
 wasRefused receiver.quiet = false
 wasRefused (receiver.refused number) = true
@@ -66,13 +79,13 @@ wasRefused (receiver.delivered length) = false
 wasRefused (receiver.failed cause) = false
 wasRefused receiver.short = false
 
--- the receiving buffer after a call: what the call left of the lent one, or, where it was refused, what it was: "ends and
+-- the receiving buffer after a call of the receiver: what the call left of the lent one; refused, what it was: "ends and
 -- buffer stay"
 abbrev pub bufferAfter : Bool → List ℕ → List ℕ → List ℕ
 bufferAfter true buffer left = buffer
 bufferAfter false buffer left = left
 
--- a call of the receiver, its frame given or none: "Emitted frames join the end" of back
+-- a call of the receiver, given a frame or none: its frame joins back
 abbrev pub byReceiver : Call → World → Given → List Frame → receiver.Heard → Stepped
 byReceiver c w given forward h =
     record {
@@ -122,6 +135,7 @@ abbrev pub dropped : List Frame → List Frame
 dropped [] = []
 dropped (f ∷ rest) = rest
 
+-- a call, by what it is: the ends' own definitions say what the called end does
 unfoldable pub stepOf : World → Call → Stepped
 stepOf w (begin message) = bySender (begin message) w nobody (w .back) (beginOf (w .sender) message)
 stepOf w (senderTick message) = bySender (senderTick message) w nobody (w .back) (tickOf (w .sender) message)
@@ -129,37 +143,7 @@ stepOf w receiverTick =
     byReceiver receiverTick w nobody (w .forward) (receiver.heard (ticking.tickOf (w .receiver)) (w .buffer))
 stepOf w (hearForward buffer) = givenForward gone (hearForward buffer) w buffer (w .forward)
 stepOf w (repeatForward buffer) = givenForward still (repeatForward buffer) w buffer (w .forward)
-stepOf w loseForward =
-    unheard loseForward
-    (record {
-      sender = w .sender;
-      receiver = w .receiver;
-      forward = dropped (w .forward);
-      back = w .back;
-      buffer = w .buffer;
-    })
+stepOf w loseForward = unheard loseForward (withLines w (dropped (w .forward)) (w .back))
 stepOf w hearBack = givenBack gone hearBack w (w .back)
 stepOf w repeatBack = givenBack still repeatBack w (w .back)
-stepOf w loseBack =
-    unheard loseBack
-    (record {
-      sender = w .sender;
-      receiver = w .receiver;
-      forward = w .forward;
-      back = dropped (w .back);
-      buffer = w .buffer;
-    })
-
--- a world, and the events that led to it, the newest first
-pub record Past : Type 0 where
-  pub world : World
-  pub events : List Event
-
-abbrev pub next : Past → Call → Past
-next p c =
-    record { world = stepOf (p .world) c .world; events = stepOf (p .world) c .event ∷ p .events }
-
--- "Each call finds the ends, the line and the buffer as the call before left them": a list of calls, the first first
-unfoldable pub runOf : Past → List Call → Past
-runOf p [] = p
-runOf p (c ∷ calls) = runOf (next p c) calls
+stepOf w loseBack = unheard loseBack (withLines w (w .forward) (dropped (w .back)))

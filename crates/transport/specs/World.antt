@@ -35,17 +35,21 @@ pub data Given : Type 0 where
   toSender : Frame → Given
   toReceiver : Frame → Given
 
--- What is seen of a call from outside: the call, the frame that an end heard, the frame that an end emitted (none or one),
--- the frame that it answered with (blank where none was emitted), what each end reported (quiet at the end that was not called), the bytes of a short delivery, and the lent buffer as a
--- hearing of the receiver leaves it.
+-- What is seen of a call from outside.
 pub record Event : Type 0 where
   pub call : Call
+  -- the frame that an end heard, if one did
   pub given : Given
+  -- the frame that an end emitted: none or one
   pub emitted : List Frame
+  -- the frame that it answered with: blank where none was emitted
   pub frame : Frame
+  -- what each end reported: quiet at an end that was not called
   pub sender : sender.Outcome
   pub receiver : receiver.Outcome
+  -- those of a short delivery, else eight zeros
   pub bytes : List ℕ
+  -- the lent buffer as the receiver's call leaves it; empty where the receiver was not called
   pub lent : List ℕ
 
 -- "The start is two ends just made .., forward and back empty, and a buffer of 1785 bytes of any content."

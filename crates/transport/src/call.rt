@@ -1,11 +1,22 @@
-// The calls. Lent a line of another length than 576, nothing happens and all stays.
+// The calls, each lent what it needs. Lent a line of another length than 576, nothing happens and all stays. What a call
+// is not lent may hold anything: the promise is for all of it.
 ghost use mathlib.Core.Path.{_≡_};
 ghost use mathlib.Core.Bool.{_&&_};
 ghost use mathlib.Core.List.{List};
 ghost use Prim.Native.Nat.{ℕ};
 ghost use Rattle.frame.specs.Choice.{pick};
 ghost use Rattle.transport.specs.Answer.{worldOf, told, answerOf, isLine, lentOf};
-ghost use Rattle.transport.specs.World.{begin, senderTick, receiverTick, hearForward, repeatForward, loseForward, hearBack, repeatBack, loseBack};
+ghost use Rattle.transport.specs.World.{
+  begin,
+  senderTick,
+  receiverTick,
+  hearForward,
+  repeatForward,
+  loseForward,
+  hearBack,
+  repeatBack,
+  loseBack,
+};
 use crate::Answer;
 use crate::Ends;
 
@@ -13,11 +24,13 @@ use crate::Ends;
 const LINE: usize = 576;
 
 impl Ends {
-    // Begins a message, whatever back and the buffer hold.
+    // Begins a message.
     pub fn begin(self, message: &[u8], forward: &mut [u8]) -> Answer
         ensures { λ r. ⌜ ((back buffer : List ℕ) →
             told r (now (forward .exit)) back buffer
-            ≡ lentOf (isLine (now (forward .entry))) (worldOf self (now (forward .entry)) back buffer) (begin (now (message .entry)))) ⌝ }
+            ≡ lentOf (isLine (now (forward .entry)))
+            (worldOf self (now (forward .entry)) back buffer)
+            (begin (now (message .entry)))) ⌝ }
     {
         if forward.len() != LINE {
             return self.unheard();
@@ -27,11 +40,13 @@ impl Ends {
         self.sender_spoke(a, forward)
     }
 
-    // A tick of the sender, whatever back and the buffer hold.
+    // A tick of the sender.
     pub fn tick_sender(self, message: &[u8], forward: &mut [u8]) -> Answer
         ensures { λ r. ⌜ ((back buffer : List ℕ) →
             told r (now (forward .exit)) back buffer
-            ≡ lentOf (isLine (now (forward .entry))) (worldOf self (now (forward .entry)) back buffer) (senderTick (now (message .entry)))) ⌝ }
+            ≡ lentOf (isLine (now (forward .entry)))
+            (worldOf self (now (forward .entry)) back buffer)
+            (senderTick (now (message .entry)))) ⌝ }
     {
         if forward.len() != LINE {
             return self.unheard();
@@ -41,11 +56,13 @@ impl Ends {
         self.sender_spoke(a, forward)
     }
 
-    // A tick of the receiver, whatever forward and the buffer hold.
+    // A tick of the receiver.
     pub fn tick_receiver(self, back: &mut [u8]) -> Answer
         ensures { λ r. ⌜ ((forward buffer : List ℕ) →
             told r forward (now (back .exit)) buffer
-            ≡ lentOf (isLine (now (back .entry))) (worldOf self forward (now (back .entry)) buffer) receiverTick) ⌝ }
+            ≡ lentOf (isLine (now (back .entry)))
+            (worldOf self forward (now (back .entry)) buffer)
+            receiverTick) ⌝ }
     {
         if back.len() != LINE {
             return self.unheard();
@@ -64,7 +81,8 @@ impl Ends {
         back: &mut [u8],
     ) -> Answer
         ensures { λ r. ⌜ told r (now (forward .entry)) (now (back .exit)) (now (buffer .exit))
-            ≡ lentOf (isLine (now (forward .entry)) && isLine (now (back .entry))) (worldOf self (now (forward .entry)) (now (back .entry)) (now (buffer .entry)))
+            ≡ lentOf (isLine (now (forward .entry)) && isLine (now (back .entry)))
+            (worldOf self (now (forward .entry)) (now (back .entry)) (now (buffer .entry)))
             (pick takes (hearForward (now (buffer .entry))) (repeatForward (now (buffer .entry)))) ⌝ }
     {
         if forward.len() != LINE {
@@ -80,7 +98,9 @@ impl Ends {
         let given = self.give_forward(buffer, forward, back);
         if takes {
             let ends = given.next;
-            given.with_ends(ends.without_forward())
+            let said = given.said;
+            let next = ends.without_forward();
+            Answer { next, said }
         } else {
             given
         }
@@ -90,7 +110,8 @@ impl Ends {
     pub fn hear_back(self, takes: bool, forward: &mut [u8], back: &[u8]) -> Answer
         ensures { λ r. ⌜ ((buffer : List ℕ) →
             told r (now (forward .exit)) (now (back .entry)) buffer
-            ≡ lentOf (isLine (now (forward .entry)) && isLine (now (back .entry))) (worldOf self (now (forward .entry)) (now (back .entry)) buffer)
+            ≡ lentOf (isLine (now (forward .entry)) && isLine (now (back .entry)))
+            (worldOf self (now (forward .entry)) (now (back .entry)) buffer)
             (pick takes hearBack repeatBack)) ⌝ }
     {
         if forward.len() != LINE {
@@ -106,13 +127,15 @@ impl Ends {
         let given = self.give_back(forward, back);
         if takes {
             let ends = given.next;
-            given.with_ends(ends.without_back())
+            let said = given.said;
+            let next = ends.without_back();
+            Answer { next, said }
         } else {
             given
         }
     }
 
-    // The first frame of forward is lost, if there is one, whatever the lines and the buffer hold.
+    // The first frame of forward is lost, if there is one.
     pub fn lose_forward(self) -> Answer
         ensures { λ r. ⌜ ((forward back buffer : List ℕ) →
             told r forward back buffer ≡ answerOf (worldOf self forward back buffer) loseForward) ⌝ }
@@ -120,7 +143,7 @@ impl Ends {
         self.without_forward().unheard()
     }
 
-    // The first frame of back is lost, if there is one, whatever the lines and the buffer hold.
+    // The first frame of back is lost, if there is one.
     pub fn lose_back(self) -> Answer
         ensures { λ r. ⌜ ((forward back buffer : List ℕ) →
             told r forward back buffer ≡ answerOf (worldOf self forward back buffer) loseBack) ⌝ }

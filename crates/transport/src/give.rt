@@ -14,7 +14,8 @@ use crate::Ends;
 impl Ends {
     pub(crate) fn without_forward(self) -> Ends
         ensures { λ r. ⌜ ((forward back buffer : List ℕ) →
-            worldOf r forward back buffer ≡ cappedStep (worldOf self forward back buffer) loseForward .world) ⌝ }
+            worldOf r forward back buffer
+            ≡ cappedStep (worldOf self forward back buffer) loseForward .world) ⌝ }
     {
         let line = self.forward;
         let forward = line.rest();
@@ -31,7 +32,8 @@ impl Ends {
 
     pub(crate) fn without_back(self) -> Ends
         ensures { λ r. ⌜ ((forward back buffer : List ℕ) →
-            worldOf r forward back buffer ≡ cappedStep (worldOf self forward back buffer) loseBack .world) ⌝ }
+            worldOf r forward back buffer
+            ≡ cappedStep (worldOf self forward back buffer) loseBack .world) ⌝ }
     {
         let line = self.back;
         let back = line.rest();
@@ -48,9 +50,12 @@ impl Ends {
 
     // The first frame of forward is heard, and stays where it is.
     pub(crate) fn give_forward(self, buffer: &mut [u8], forward: &[u8], back: &mut [u8]) -> Answer
-        requires { ⌜ (length (now forward) ≡ 576) × (length (now back) ≡ 576) × (eqb (self .forward .count) 0 ≡ false) ⌝ }
+        requires { ⌜ (length (now forward) ≡ 576)
+            × (length (now back) ≡ 576)
+            × (eqb (self .forward .count) 0 ≡ false) ⌝ }
         ensures { λ r. ⌜ told r (now (forward .entry)) (now (back .exit)) (now (buffer .exit))
-            ≡ answerOf (worldOf self (now (forward .entry)) (now (back .entry)) (now (buffer .entry))) (repeatForward (now (buffer .entry))) ⌝ }
+            ≡ answerOf (worldOf self (now (forward .entry)) (now (back .entry)) (now (buffer .entry)))
+            (repeatForward (now (buffer .entry))) ⌝ }
     {
         let line = self.forward;
         let f = line.head(forward);
@@ -61,7 +66,9 @@ impl Ends {
 
     // The first frame of back is heard, and stays where it is.
     pub(crate) fn give_back(self, forward: &mut [u8], back: &[u8]) -> Answer
-        requires { ⌜ (length (now forward) ≡ 576) × (length (now back) ≡ 576) × (eqb (self .back .count) 0 ≡ false) ⌝ }
+        requires { ⌜ (length (now forward) ≡ 576)
+            × (length (now back) ≡ 576)
+            × (eqb (self .back .count) 0 ≡ false) ⌝ }
         ensures { λ r. ⌜ ((buffer : List ℕ) →
             told r (now (forward .exit)) (now (back .entry)) buffer
             ≡ answerOf (worldOf self (now (forward .entry)) (now (back .entry)) buffer) repeatBack) ⌝ }

@@ -1,4 +1,4 @@
-// Both ends and both directions of the line: one function for each call. Each answers the ends and what the called end said.
+// Both ends and both directions of the line: one function for each call. Each answers the ends and what was said.
 mod call;
 mod give;
 mod make;
@@ -17,15 +17,20 @@ pub struct Ends {
     pub back: Ring,
 }
 
-// What a call answers. Where emits is false, frame is the blank frame; bytes are those of a short delivery, else eight
-// zeros.
-pub struct Answer {
-    pub next: Ends,
+// What the called end said. Where emits is false, frame is the blank frame; the outcome of an end that was not called is
+// quiet; bytes are those of a short delivery, else eight zeros.
+pub struct Said {
     pub emits: bool,
     pub frame: Frame,
     pub sender: sender::Outcome,
     pub receiver: receiver::Outcome,
     pub bytes: [u8; 8],
+}
+
+// What a call answers.
+pub struct Answer {
+    pub next: Ends,
+    pub said: Said,
 }
 
 // What making answers: the ends, or the number of the refusal.

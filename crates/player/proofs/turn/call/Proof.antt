@@ -1,5 +1,5 @@
 use borrow.Author.Needs.{needs}
-use Rattle.player.proofs.Turns.{call-1, call-2, call-3-5, call-4, call-6-8, call-7}
+use Rattle.player.proofs.Turns.{call-1, call-2, call-3-5, call-4, call-6-8, call-7, lent-buffer}
 use Rattle.player.proofs.turn.call.Statement.{statement}
 use Rattle.player.proofs.turn.call.Tie as tie
 
@@ -46,7 +46,7 @@ same-length-5 c = search needs
 
 returns-3 : tie.Need-returns-3
 returns-3 c =
-    call-3-5 _ (c .before .before .before .before .before .before .before .before .before .before .before .before .before .args .message .now) _ _ _ (c .before .before .before .before .before .before .before .before .match .keys3) (c .before .before .before .before .before .before .before .before .before .before .before .before .before .pre .0) (c .before .before .before .before .before .before .before .before .before .before .before .before .before .pre .1) (c .before .before .before .before .hear-forward .ensures)
+    call-3-5 _ (c .before .before .before .before .before .before .before .before .before .before .before .before .before .args .message .now) _ _ _ _ (lent-buffer _ _ _ _) (c .before .before .before .before .before .before .before .before .match .keys3) (c .before .before .before .before .before .before .before .before .before .before .before .before .before .pre .0) (c .before .before .before .before .before .before .before .before .before .before .before .before .before .pre .1) (c .before .before .before .before .hear-forward .ensures)
 
 returns-4 : tie.Need-returns-4
 returns-4 c =

@@ -1,5 +1,5 @@
 use borrow.Author.Needs.{needs}
-use Rattle.player.proofs.Turns.{begin-said}
+use Rattle.player.proofs.Turns.{turns}
 use Rattle.player.proofs.turn.first_turn.Statement.{statement}
 use Rattle.player.proofs.turn.first_turn.Tie as tie
 
@@ -16,8 +16,7 @@ same-length-2 : tie.Need-same-length-2
 same-length-2 c = search needs
 
 returns : tie.Need-returns
-returns c =
-    begin-said (c .before .before .before .before .before .before .before .begin .result) _ _ _ _ _ _ (c .before .before .before .before .before .before .before .before .before .before .before .before .pre) (c .before .before .before .before .before .before .before .begin .ensures) (c .before .before .before .lines .ensures)
+returns c = search turns
 
 pub first-turn-spec : {M : Type 1} → statement M
 first-turn-spec =

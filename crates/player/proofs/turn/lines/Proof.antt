@@ -1,5 +1,5 @@
 use borrow.Author.Needs.{needs}
-use Rattle.player.proofs.Turns.{lines-put}
+use Rattle.player.proofs.Turns.{turns}
 use Rattle.player.proofs.turn.lines.Statement.{statement}
 use Rattle.player.proofs.turn.lines.Tie as tie
 
@@ -16,8 +16,7 @@ same-length : tie.Need-same-length
 same-length c = search needs
 
 returns : tie.Need-returns
-returns c =
-    lines-put _ _ _ _ _ _ _ _ _ _ _ (c .before .before .before .before .before .before .before .before .before .before .emitted-line .ensures) (c .before .before .before .before .before .before .sender-report .ensures) (c .before .before .receiver-report .ensures)
+returns c = search turns
 
 pub lines-spec : {M : Type 1} → statement M
 lines-spec =

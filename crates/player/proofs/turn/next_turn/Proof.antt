@@ -1,5 +1,5 @@
 use borrow.Author.Needs.{needs}
-use Rattle.player.proofs.Turns.{turn-said, turn-silent}
+use Rattle.player.proofs.Turns.{turns}
 use Rattle.player.proofs.turn.next_turn.Statement.{statement}
 use Rattle.player.proofs.turn.next_turn.Tie as tie
 
@@ -28,8 +28,7 @@ same-length-4 : tie.Need-same-length-4
 same-length-4 c = search needs
 
 returns : tie.Need-returns
-returns c =
-    turn-said (c .before .before .before .before .before .before .before .before .before .before .before .before .before .before .call .result) _ _ _ _ _ _ _ _ _ _ _ _ _ (c .before .before .before .before .before .before .before .before .before .before .before .before .before .before .call .ensures) (c .before .before .before .before .letter-of .ensures) (c .before .before .lines .ensures)
+returns c = search turns
 
 same-length-5 : tie.Need-same-length-5
 same-length-5 c = search needs
@@ -41,8 +40,7 @@ same-length-7 : tie.Need-same-length-7
 same-length-7 c = search needs
 
 returns-2 : tie.Need-returns-2
-returns-2 c =
-    turn-silent (c .before .before .before .before .before .before .before .before .before .call .result) _ _ _ _ _ _ _ _ _ _ _ _ (c .before .before .before .before .before .before .before .before .before .call .ensures) (c .before .says .ensures) (c .if1 .left)
+returns-2 c = search turns
 
 pub next-turn-spec : {M : Type 1} → statement M
 next-turn-spec =

@@ -1,5 +1,5 @@
 use borrow.Author.Needs.{needs}
-use Rattle.transport.proofs.Calls.{give-back-some}
+use Rattle.transport.proofs.Calls.{gives}
 use Rattle.transport.proofs.Ends.give_back.Statement.{statement}
 use Rattle.transport.proofs.Ends.give_back.Tie as tie
 
@@ -16,8 +16,7 @@ same-length : tie.Need-same-length
 same-length c = search needs
 
 returns : tie.Need-returns
-returns c =
-    give-back-some _ _ _ _ _ _ (c .before .before .before .before .before .before .before .before .before .before .pre .2) (c .before .before .before .before .before .before .before .before .before .before .pre .1) (c .before .before .before .before .before .before .head .ensures) (c .before .before .before .before .hear .ensures) (c .before .before .sender-spoke .ensures)
+returns c = search gives
 
 pub give-back-spec : {M : Type 1} → statement M
 give-back-spec =

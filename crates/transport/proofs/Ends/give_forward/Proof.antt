@@ -20,7 +20,11 @@ same-length-2 c = search needs
 
 returns : tie.Need-returns
 returns c =
-    give-forward-some _ _ _ _ _ _ _ _ (c .before .before .before .before .before .before .before .before .before .before .before .before .before .before .pre .2) (c .before .before .before .before .before .before .before .before .before .before .before .before .before .before .pre .0) (c .before .before .before .before .before .before .before .before .before .head .ensures) (c .before .before .before .before .before .before .hear .ensures) (c .before .before .receiver-spoke .ensures)
+    let spoken = c .before .before in
+    let heard = spoken .before .before .before .before in
+    let given = heard .before .before .before in
+    let start = given .before .before .before .before .before in
+    give-forward-some _ _ _ _ _ _ _ _ _ (start .pre .2) (start .pre .0) (given .head .ensures) (heard .hear .ensures) (spoken .receiver-spoke .ensures)
 
 pub give-forward-spec : {M : Type 1} → statement M
 give-forward-spec =

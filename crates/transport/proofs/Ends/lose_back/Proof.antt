@@ -10,8 +10,7 @@ unheard-requires : tie.Need-unheard-requires
 unheard-requires c κs = search needs
 
 returns : tie.Need-returns
-returns c =
-    lose-back-answer _ _ _ (c .before .without-back .ensures) (c .unheard .ensures)
+returns c = lose-back-answer _ _ _ (c .unheard .ensures) (c .before .without-back .ensures)
 
 pub lose-back-spec : {M : Type 1} → statement M
 lose-back-spec = tie.close (tie.spec without-back-requires unheard-requires returns)

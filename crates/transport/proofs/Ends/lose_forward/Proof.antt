@@ -10,8 +10,7 @@ unheard-requires : tie.Need-unheard-requires
 unheard-requires c κs = search needs
 
 returns : tie.Need-returns
-returns c =
-    lose-forward-answer _ _ _ (c .before .without-forward .ensures) (c .unheard .ensures)
+returns c = lose-forward-answer _ _ _ (c .unheard .ensures) (c .before .without-forward .ensures)
 
 pub lose-forward-spec : {M : Type 1} → statement M
 lose-forward-spec = tie.close (tie.spec without-forward-requires unheard-requires returns)

@@ -21,8 +21,8 @@ enum-known-answered c = search needs
 enum-known-answered-2 : tie.Need-enum-known-answered-2
 enum-known-answered-2 c = search needs
 
-try-begin-requires : tie.Need-try-begin-requires
-try-begin-requires c κs = search needs
+empty-requires : tie.Need-empty-requires
+empty-requires c κs = search needs
 
 returns : tie.Need-returns
 returns c = search makings
@@ -43,7 +43,7 @@ make-spec =
     enum-known-made-2
     enum-known-answered
     enum-known-answered-2
-    try-begin-requires
+    empty-requires
     returns
     returns-2
     returns-3)

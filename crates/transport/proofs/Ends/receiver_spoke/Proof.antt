@@ -1,5 +1,5 @@
 use borrow.Author.Needs.{needs}
-use Rattle.transport.proofs.Calls.{receiver-answered}
+use Rattle.transport.proofs.Calls.{answers}
 use Rattle.transport.proofs.Ends.receiver_spoke.Statement.{statement}
 use Rattle.transport.proofs.Ends.receiver_spoke.Tie as tie
 
@@ -10,7 +10,7 @@ same-length : tie.Need-same-length
 same-length c = search needs
 
 returns : tie.Need-returns
-returns c = receiver-answered _ _ _ _ _ (search needs)
+returns c = search answers
 
 pub receiver-spoke-spec : {M : Type 1} → statement M
 receiver-spoke-spec = tie.close (tie.spec line-after-requires same-length returns)

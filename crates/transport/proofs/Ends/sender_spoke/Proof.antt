@@ -1,5 +1,5 @@
 use borrow.Author.Needs.{needs}
-use Rattle.transport.proofs.Calls.{sender-answered}
+use Rattle.transport.proofs.Calls.{answers}
 use Rattle.transport.proofs.Ends.sender_spoke.Statement.{statement}
 use Rattle.transport.proofs.Ends.sender_spoke.Tie as tie
 
@@ -10,7 +10,7 @@ same-length : tie.Need-same-length
 same-length c = search needs
 
 returns : tie.Need-returns
-returns c = sender-answered _ _ _ _ _ (search needs)
+returns c = search answers
 
 pub sender-spoke-spec : {M : Type 1} → statement M
 sender-spoke-spec = tie.close (tie.spec line-after-requires same-length returns)

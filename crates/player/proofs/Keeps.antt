@@ -1,0 +1,121 @@
+-- The player's events are calls that meet the conditions of demand 3: one begin comes, at empty lines and to an idle
+-- receiver, and every call is lent the one message and the one buffer. So demand 3's promise holds of what is printed.
+-- Assumes nothing.
+use Prim.Native.Nat.{ℕ}
+use mathlib.Core.Bool.{Bool, true, false}
+use mathlib.Core.List.{List, [], _∷_}
+use mathlib.Core.Path.{_≡_, refl, subst}
+use lib.ListN.{replicate}
+use Rattle.delivery.proofs.Runs.{capped-demand-3}
+use Rattle.delivery.specs.Demand3.{LentMessage, Condition, Conditions, Promise}
+use Rattle.delivery.specs.Run.{Past, fresh, next, runOf}
+use Rattle.delivery.specs.Seen.{Sort, begins, ticksSender, ticksReceiver, other, sortOf, taken, Begun, further, begunBy, begunIn, begunAfter, openedIn}
+use Rattle.frame.proofs.Choice.{pick-elim}
+use Rattle.player.proofs.Opened.{opened}
+use Rattle.player.specs.Claim.{PlayerMeets, newestFirst, PlayerKeeps, PackKeeps}
+use Rattle.player.specs.Events.{callFor, turnFor, eventsFrom, runFrom, callsFor, callsFrom}
+use Rattle.player.specs.Played as played
+use Rattle.transport.proofs.Events.{call-of}
+use Rattle.transport.proofs.Making.{make-answers}
+use Rattle.transport.specs.Capped.{cappedStep}
+use Rattle.transport.specs.Step.{stepOf}
+use Rattle.transport.specs.World.{World, Call, begin, Event}
+
+-- ---- the conditions
+
+-- the begun message, if any, is m
+abbrev About : List ℕ → Begun → Type 0
+About m Begun.never = Unit
+About m (Begun.since message ticks reports deliveries) = m ≡ message
+
+about-further : (m : List ℕ) (b : Begun) (ticks reports : ℕ) (ds : List (List ℕ)) → About m b → About m (further b ticks reports ds)
+about-further m Begun.never ticks reports ds a = tt
+about-further m (Begun.since message t r d) ticks reports ds a = a
+
+-- no other begin comes
+abbrev Goes : Sort → Type 0
+Goes (begins message) = ⊥
+Goes ticksSender = Unit
+Goes ticksReceiver = Unit
+Goes other = Unit
+
+about-by : (m : List ℕ) (s : Sort) (accepted : Bool) (b : Begun) → Goes s → About m b → About m (begunBy s accepted b)
+about-by m (begins message) accepted b g a = absurd g
+about-by m ticksSender accepted b g a = a
+about-by m ticksReceiver accepted b g a = a
+about-by m other accepted b g a = a
+
+about-step : (m : List ℕ) (w : World) (c : Call) (events : List Event) → Goes (sortOf c) → About m (begunIn events)
+    → About m (begunIn (cappedStep w c .event ∷ events))
+unfolding begunIn begunAfter cappedStep
+about-step m w c events g a =
+    about-by m (sortOf (stepOf w c .event .call)) _ _ (rw call-of g) (about-further m (begunIn events) _ _ _ a)
+
+lent-message : (m : List ℕ) (b : Begun) → About m b → LentMessage b m
+lent-message m Begun.never a = tt
+lent-message m (Begun.since message ticks reports ds) a = λ _. a
+
+-- an event's call: no begin, and it meets its condition
+goes-event : (m : List ℕ) (w : World) (event : ℕ) → Goes (sortOf (callFor w m event))
+unfolding callFor
+goes-event m w event =
+    let P : Call → Type 0 = λ c. Goes (sortOf c) in
+    pick-elim P _ (λ _. tt)
+    (λ _. pick-elim P _ (λ _. tt)
+    (λ _. pick-elim P _ (λ _. tt)
+    (λ _. pick-elim P _ (λ _. tt)
+    (λ _. pick-elim P _ (λ _. tt) (λ _. pick-elim P _ (λ _. tt) (λ _. pick-elim P _ (λ _. tt) (λ _. tt)))))))
+
+meets-event : (m : List ℕ) (p : Past) (event : ℕ) → About m (begunIn (p .events))
+    → Condition p (callFor (p .world) m event) (turnFor (p .world) m event .event)
+unfolding callFor turnFor
+meets-event m p event a =
+    let P : Call → Type 0 = λ c. Condition p c (cappedStep (p .world) c .event) in
+    pick-elim P _ (λ _. λ _. lent-message m (begunIn (p .events)) a)
+    (λ _. pick-elim P _ (λ _. tt)
+    (λ _. pick-elim P _ (λ _. λ _. refl)
+    (λ _. pick-elim P _ (λ _. tt)
+    (λ _. pick-elim P _ (λ _. λ _. refl) (λ _. pick-elim P _ (λ _. tt) (λ _. pick-elim P _ (λ _. tt) (λ _. tt)))))))
+
+meets-events : (m events : List ℕ) (p : Past) → About m (begunIn (p .events)) → Conditions cappedStep p (callsFor (p .world) m events)
+unfolding callsFor turnFor
+meets-events m [] p a = tt
+meets-events m (event ∷ events) p a =
+    let c = callFor (p .world) m event in (
+      meets-event m p event a,
+      meets-events m events (next cappedStep p c) (about-step m (p .world) c (p .events) (goes-event m (p .world) event) a),
+    )
+
+about-begin : (m : List ℕ) (accepted : Bool) → About m (begunBy (begins m) accepted Begun.never)
+about-begin m true = refl
+about-begin m false = tt
+
+pub player-meets : PlayerMeets
+unfolding callsFrom cappedStep stepOf begunIn begunAfter openedIn
+player-meets ends buffer m events =
+    let p = fresh (ends .sender) (ends .receiver) buffer in (
+      λ _. (refl, refl, refl),
+      meets-events m events (next cappedStep p (begin m)) (about-begin m (taken (cappedStep (p .world) (begin m) .event .sender))),
+    )
+
+-- ---- the promise
+
+-- the events of the calls are those that the player prints
+newest-run : (m events : List ℕ) (p : Past) → runOf cappedStep p (callsFor (p .world) m events) .events ≡ newestFirst (p .events) (eventsFrom (p .world) m events)
+unfolding runOf callsFor eventsFrom newestFirst turnFor
+newest-run m [] p = refl
+newest-run m (event ∷ events) p = newest-run m events (next cappedStep p (callFor (p .world) m event))
+
+pub player-keeps : PlayerKeeps
+unfolding runFrom callsFrom runOf newestFirst
+player-keeps gap timeout limit patience window capacity ends e buffer m events size =
+    let made = make-answers gap timeout limit patience window capacity ends e in
+    let p = fresh (ends .sender) (ends .receiver) buffer in
+    subst (Promise limit patience) (newest-run m events (next cappedStep p (begin m)))
+    (capped-demand-3 gap timeout limit (ends .sender) (made .sender) patience window capacity (ends .receiver) (made .receiver) buffer size (callsFrom (p .world) m events) (player-meets ends buffer m events))
+
+pub pack-keeps : PackKeeps
+unfolding played.runOf
+pack-keeps bytes q e =
+    let k = q .bodies .settings in
+    player-keeps (k .gap) (k .timeout) (k .limit) (k .patience) (k .window) (k .capacity) (q .ends) (opened bytes q e .made) (replicate 1785 0) _ _ refl

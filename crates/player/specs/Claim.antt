@@ -1,0 +1,45 @@
+-- Demand 3 of what the player prints: its events are calls at a line of 64 that meet the conditions, so the promise holds of
+-- the events that it prints.
+use Prim.Native.Nat.{ℕ}
+use mathlib.Core.List.{List, [], _∷_}
+use mathlib.Core.Path.{_≡_}
+use lib.ListN.{length}
+use Rattle.delivery.specs.Demand3.{Conditions, Promise}
+use Rattle.delivery.specs.Run.{fresh}
+use Rattle.frame.specs.Result.{accepted}
+use Rattle.player.specs.Events.{runFrom, callsFrom}
+use Rattle.player.specs.Played.{openOf, runOf}
+use Rattle.player.specs.declared.Player.{Player}
+use Rattle.transport.specs.Capped.{cappedStep}
+use Rattle.transport.specs.Make.{makeOf}
+use Rattle.transport.specs.World.{Event, startOf}
+use Rattle.transport.specs.declared.Ends.{Ends}
+
+-- whatever the ends, the buffer, the message and the events
+abbrev pub PlayerMeets : Type 0
+PlayerMeets =
+    (ends : Ends) (buffer message events : List ℕ)
+    → (let s = ends .sender in
+    let r = ends .receiver in
+    Conditions cappedStep (fresh s r buffer) (callsFrom (startOf s r buffer) message events))
+
+-- demand 3 reads events with the newest first
+unfoldable pub newestFirst : List Event → List Event → List Event
+newestFirst past [] = past
+newestFirst past (e ∷ events) = newestFirst (e ∷ past) events
+
+-- for the ends that making answers, every buffer, message and list of events; limit is M, patience the receiver's T
+abbrev pub PlayerKeeps : Type 0
+PlayerKeeps =
+    (gap timeout limit patience window capacity : ℕ) (ends : Ends)
+    → makeOf gap timeout limit patience window capacity ≡ accepted ends
+    → (buffer message events : List ℕ)
+    → length buffer ≡ 1785
+    → Promise limit patience (newestFirst [] (runFrom (startOf (ends .sender) (ends .receiver) buffer) message events))
+
+-- so of every pack that is opened
+abbrev pub PackKeeps : Type 0
+PackKeeps =
+    (bytes : List ℕ) (q : Player)
+    → openOf bytes ≡ accepted q
+    → Promise (q .bodies .settings .limit) (q .bodies .settings .patience) (newestFirst [] (runOf bytes q))
