@@ -95,6 +95,7 @@ fn lent_to(phase: Phase, message: &[u8]) -> bool
 }
 
 impl Sender {
+    // The wait for an LM_ACK goes on.
     fn opening_on(self, x: Announced) -> Answer
         ensures { λ r. ⌜ told r ≡ openingOn self x ⌝ }
     {
@@ -136,6 +137,7 @@ impl Sender {
         self.in_phase(x.after_frame()).emitting(frame)
     }
 
+    // The gap before the next frame goes on.
     fn sending_on(self, x: Streamed) -> Answer
         ensures { λ r. ⌜ told r ≡ sendingOn self x ⌝ }
     {
@@ -157,6 +159,7 @@ impl Sender {
         self.sending_on(x)
     }
 
+    // The wait after the window goes on.
     fn waiting_on(self, x: Awaited) -> Answer
         ensures { λ r. ⌜ told r ≡ waitingOn self x ⌝ }
     {
@@ -191,6 +194,7 @@ impl Sender {
         self.waiting_again(x, message)
     }
 
+    // The wait for an SM_ACK goes on.
     fn short_on(self, x: Single) -> Answer
         ensures { λ r. ⌜ told r ≡ shortOn self x ⌝ }
     {
