@@ -3,7 +3,7 @@
 -- Assumes nothing.
 use Prim.Native.Nat.{ℕ, _+_, _-_, _*_, _<_, _≤_}
 use mathlib.Core.Path.{_≡_, refl, sym, ap, _∙_}
-use mathlib.Core.Bool.{Bool, true, false}
+use mathlib.Core.Bool.{Bool, true, false, _&&_, and-assoc}
 use mathlib.Core.Logic.{_⊎_, inl, inr}
 use mathlib.Core.List.{List, _++_, map, append-nil, append-assoc}
 use native.Mathlib.Nat.{le-refl}
@@ -18,7 +18,7 @@ use lib.Seq.{drop-cons, drop-drop, take-suc, take-all, set-at, append-snoc, leng
 use Rattle.frame.specs.Result.{accepted, refused, refusalOf}
 use Rattle.frame.proofs.Choice.{pick-true, pick-false}
 use Rattle.frame.specs.Choice.{pick}
-use Rattle.frame.specs.Count.{incrementOf, wordOf}
+use Rattle.frame.specs.Count.{incrementOf, wordOf, within}
 use Rattle.frame.specs.Frames.{byteOf, lmNackOf, smAckOf}
 use Rattle.frame.specs.Reading.{readOf, toldReading}
 use Rattle.frame.specs.declared.Frame.{Frame}
@@ -36,6 +36,12 @@ use Rattle.receiver.specs.declared.Phase.the-variants.{Idle, Done, Open}
 use Rattle.receiver.specs.declared.Receiver.{Receiver}
 
 -- ---- making
+
+-- the code tests from the left
+pub fits-all : (timeout window capacity : ℕ) {t w k : Bool} → t ≡ within 1 timeout 10000 → w ≡ within 1 window 255
+    → k ≡ within 9 capacity 1785
+    → (t && w && k) ≡ settingsFit timeout window capacity
+fits-all timeout window capacity {t} {w} {k} a b c = cc (and-assoc t w k)
 
 pub make-made : (timeout window capacity : ℕ) {fit : Bool} → fit ≡ settingsFit timeout window capacity → fit ≡ true
     → accepted (idleWith timeout window capacity) ≡ makeOf timeout window capacity

@@ -12,7 +12,7 @@ use frame::count::within;
 fn settings_fit(timeout: u16, window: u16, capacity: u16) -> bool
     ensures { λ r. ⌜ r ≡ settingsFit timeout window capacity ⌝ }
 {
-    within(1, timeout, 10000) & (within(1, window, 255) & within(9, capacity, 1785))
+    within(1, timeout, 10000) & within(1, window, 255) & within(9, capacity, 1785)
 }
 
 impl Receiver {
