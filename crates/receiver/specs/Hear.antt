@@ -64,8 +64,8 @@ hearAnnouncement r (Open x) frames length = announceOpen r x frames length
 -- "At N: EndofACK, delivered L, Idle."
 abbrev pub ending : Receiver → Connection → Told
 ending r x =
-    let last : Delivery = record { frames = x .frames; length = x .length } in
-    delivering (inPhase r (Done last)) (endOfAckOf (x .frames) (x .length)) (x .length)
+    let delivery : Delivery = record { frames = x .frames; length = x .length } in
+    delivering (inPhase r (Done delivery)) (endOfAckOf (x .frames) (x .length)) (x .length)
 
 -- "wait and misses 0", "At w: e grows by 1, w is the smaller of e + C − 1 and N, LM_ACK e, w − e + 1."
 abbrev pub askingNext : Receiver → Connection → Told
@@ -97,7 +97,7 @@ informationOpen r x number bytes buffer =
     (pick (eqb number (x .expected)) (heard (stored r x) (storing buffer number (x .length) bytes))
     (heard (silently r) buffer))
 
--- "EndofACK"
+-- "EndofACK" once more
 abbrev pub endingAgain : Receiver → Delivery → Told
 endingAgain r x = emitting r (endOfAckOf (x .frames) (x .length))
 
