@@ -19,7 +19,9 @@ pub data Losses (events : List Event) : List Event → Type 0 where
 -- the events that are seen, and the same with losses before some of them
 pub data Among : List Event → List Event → Type 0 where
   start : Among [] []
-  follows : (e : Event) {seen all later : List Event} → Among seen all → Losses all later → Among (e ∷ seen) (e ∷ later)
+  follows :
+      (e : Event) {seen all later : List Event} → Among seen all → Losses all later
+      → Among (e ∷ seen) (e ∷ later)
 
 -- calls that meet the conditions of demand 3, and of whose events those that are seen are all but losses
 pub record Run (s : Sender) (r : Receiver) (buffer : List ℕ) (seen : List Event) : Type 0 where

@@ -25,7 +25,9 @@ use Rattle.sender.specs.declared.Sender.{Sender}
 use Rattle.delivery.specs.Run.{Line, Past, fresh, next, runOf}
 use Rattle.delivery.specs.Seen.{taken, Begun, Opened, begunIn, openedIn, idle, listened, Sort, begins, ticksSender, ticksReceiver, other, sortOf}
 use Rattle.transport.specs.Step.{stepOf}
-use Rattle.transport.specs.World.{Call, begin, senderTick, receiverTick, hearForward, repeatForward, loseForward, hearBack, repeatBack, loseBack, Event}
+use Rattle.transport.specs.World.{Call, Event}
+use Rattle.transport.specs.World.{begin, senderTick, receiverTick}
+use Rattle.transport.specs.World.{hearForward, repeatForward, loseForward, hearBack, repeatBack, loseBack}
 
 -- ---- the conditions
 
@@ -94,7 +96,8 @@ AgainAfter other any b = Unit
 -- the last connection has at most one report, and exactly one once 3 × T × N ticks have passed
 abbrev pub Finished : ℕ → Opened → Type 0
 Finished timeout Opened.never = Unit
-Finished timeout (Opened.since frames ticks reports) = (reports ≤ 1) × (3 * timeout * frames ≤ ticks → reports ≡ 1)
+Finished timeout (Opened.since frames ticks reports) =
+    (reports ≤ 1) × (3 * timeout * frames ≤ ticks → reports ≡ 1)
 
 -- the two clauses that speak of the newest event
 abbrev pub Sent : List Event → Type 0

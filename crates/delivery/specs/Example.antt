@@ -29,7 +29,8 @@ frameOf kind bytes = record { kind = kind; bytes = bytes }
 
 -- an event that emits a frame, and one that emits none, with no report
 abbrev pub emits : ℕ → List ℕ → Shown
-emits kind bytes = record { emitted = frameOf kind bytes ∷ []; sender = sender.quiet; receiver = receiver.quiet }
+emits kind bytes =
+    record { emitted = frameOf kind bytes ∷ []; sender = sender.quiet; receiver = receiver.quiet }
 
 abbrev pub nothing : Shown
 nothing = record { emitted = []; sender = sender.quiet; receiver = receiver.quiet }
@@ -39,7 +40,8 @@ abbrev pub exampleSender : Sender
 exampleSender = record { settings = record { gap = 1; timeout = 10; limit = 100 }; phase = Idle }
 
 abbrev pub exampleReceiver : Receiver
-exampleReceiver = record { settings = record { timeout = 10; window = 2; capacity = 1785 }; phase = receiver-at.Idle }
+exampleReceiver =
+    record { settings = record { timeout = 10; window = 2; capacity = 1785 }; phase = receiver-at.Idle }
 
 abbrev pub exampleMessage : List ℕ
 exampleMessage = 1 ∷ 2 ∷ 3 ∷ 4 ∷ 5 ∷ 6 ∷ 7 ∷ 8 ∷ 9 ∷ []

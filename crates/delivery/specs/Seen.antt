@@ -10,7 +10,9 @@ use Rattle.frame.specs.declared.Frame.{Frame}
 use Rattle.receiver.specs.Told as receiver
 use Rattle.sender.specs.Told as sender
 use Rattle.transport.specs.Step.{wasRefused}
-use Rattle.transport.specs.World.{Call, begin, senderTick, receiverTick, hearForward, repeatForward, loseForward, hearBack, repeatBack, loseBack, Given, nobody, toSender, toReceiver, Event}
+use Rattle.transport.specs.World.{Call, Given, nobody, toSender, toReceiver, Event}
+use Rattle.transport.specs.World.{begin, senderTick, receiverTick}
+use Rattle.transport.specs.World.{hearForward, repeatForward, loseForward, hearBack, repeatBack, loseBack}
 
 -- ---- the calls, by what the words below ask of them
 
@@ -89,8 +91,10 @@ begunBy other accepted counted = counted
 
 unfoldable pub begunAfter : Event → Begun → Begun
 begunAfter e b =
-    begunBy (sortOf (e .call)) (taken (e .sender))
-    (further b (senderTicksBy (sortOf (e .call)) (taken (e .sender))) (senderReports (e .sender)) (deliveriesBy (e .receiver) (e .bytes) (e .lent)))
+    let sort = sortOf (e .call) in
+    let accepted = taken (e .sender) in
+    let deliveries = deliveriesBy (e .receiver) (e .bytes) (e .lent) in
+    begunBy sort accepted (further b (senderTicksBy sort accepted) (senderReports (e .sender)) deliveries)
 
 unfoldable pub begunIn : List Event → Begun
 begunIn [] = never

@@ -67,7 +67,8 @@ impl Ring {
         self.count == 0
     }
 
-    // The frame at the first place: the first frame, where there is one. Lent anything but 576 bytes, the blank frame.
+    // The frame at the first place: the first frame, where there is one. Lent anything but 576 bytes, the blank
+    // frame.
     pub fn head(self, bytes: &[u8]) -> Frame
         ensures { λ f. ⌜ f ≡ headOf self (now (bytes .entry)) ⌝ }
     {
@@ -96,8 +97,8 @@ impl Ring {
         }
     }
 
-    // With a frame more at its end; a frame that finds 64 before it is lost, and so is one that is lent anything but 576
-    // bytes.
+    // With a frame more at its end; a frame that finds 64 before it is lost, and so is one that is lent anything
+    // but 576 bytes.
     pub fn join(self, f: Frame, bytes: &mut [u8]) -> Ring
         ensures { λ r. ⌜ kept r (now (bytes .exit)) ≡ joinOf self f (now (bytes .entry)) ⌝ }
     {

@@ -44,11 +44,17 @@ lines-put number letter a p q t x d e h =
     let second = receiverReport number (receiver.toldOutcome (a .receiver)) (a .bytes) in
     rw (h, e, d, ← put-append p frame (first ++ second), ← put-append (put p frame) first second) refl
 
--- whether there is anything to print
-pub says-any : (a : Said) {x y : Bool} → x ≡ hasSenderReport (sender.toldOutcome (a .sender))
+-- whether there is anything to print: a frame, or a report
+pub says-frame : (a : Said) → a .emits ≡ true → true ≡ says a
+says-frame a e = rw e refl
+
+pub says-sender : (a : Said) {x : Bool} → a .emits ≡ false → x ≡ hasSenderReport (sender.toldOutcome (a .sender)) → x ≡ true → true ≡ says a
+says-sender a n e t = rw (n, ← e, t) refl
+
+pub says-receiver : (a : Said) {x y : Bool} → a .emits ≡ false → x ≡ hasSenderReport (sender.toldOutcome (a .sender)) → x ≡ false
     → y ≡ hasReceiverReport (receiver.toldOutcome (a .receiver))
-    → (a .emits || x || y) ≡ says a
-says-any a e d = rw (e, d) refl
+    → y ≡ says a
+says-receiver a n e t d = rw (n, ← e, t, d) refl
 
 silent-text : (number letter : ℕ) (a : Said) → says a ≡ false → saidText number letter a ≡ []
 unfolding saidText
@@ -195,4 +201,4 @@ pub lent-buffer : (ends : Ends) (forward back buffer : List ℕ) → buffer ≡ 
 unfolding worldOf
 lent-buffer ends forward back buffer = refl
 
-pub ruleset turns = (lines-put, says-any, letter-receiver, letter-sender, turn-said, turn-silent, begin-said)
+pub ruleset turns = (lines-put, says-frame, says-sender, says-receiver, letter-receiver, letter-sender, turn-said, turn-silent, begin-said)

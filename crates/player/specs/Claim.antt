@@ -35,7 +35,8 @@ PlayerKeeps =
     → makeOf gap timeout limit patience window capacity ≡ accepted ends
     → (buffer message events : List ℕ)
     → length buffer ≡ 1785
-    → Promise limit patience (newestFirst [] (runFrom (startOf (ends .sender) (ends .receiver) buffer) message events))
+    → (let w = startOf (ends .sender) (ends .receiver) buffer in
+    Promise limit patience (newestFirst [] (runFrom w message events)))
 
 -- so of every pack that is opened
 abbrev pub PackKeeps : Type 0

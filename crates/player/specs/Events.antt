@@ -5,7 +5,9 @@ use lib.Dec.{eqb}
 use Rattle.frame.specs.Choice.{pick}
 use Rattle.transport.specs.Capped.{cappedStep}
 use Rattle.transport.specs.Step.{Stepped}
-use Rattle.transport.specs.World.{World, Call, begin, senderTick, receiverTick, hearForward, repeatForward, loseForward, hearBack, repeatBack, loseBack, Event}
+use Rattle.transport.specs.World.{World, Call, Event}
+use Rattle.transport.specs.World.{begin, senderTick, receiverTick}
+use Rattle.transport.specs.World.{hearForward, repeatForward, loseForward, hearBack, repeatBack, loseBack}
 
 -- "events (1, 2 sender, receiver tick; 3, 4, 5 forward hear, lose, repeat; 6, 7, 8 back)", each lent the one message and the
 -- one buffer

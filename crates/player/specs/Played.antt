@@ -20,8 +20,8 @@ use Rattle.transport.specs.declared.Ends.{Ends}
 -- "settings (G byte, sender T, M, receiver T words, C byte, K word)"
 abbrev pub madeFor : Bodies → Result Ends
 madeFor b =
-    let settings = b .settings in
-    makeOf (settings .gap) (settings .timeout) (settings .limit) (settings .patience) (settings .window) (settings .capacity)
+    let s = b .settings in
+    makeOf (s .gap) (s .timeout) (s .limit) (s .patience) (s .window) (s .capacity)
 
 -- the ends just made, at an empty line, and a receiving buffer of zeros
 abbrev pub start : Ends → World

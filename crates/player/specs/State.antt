@@ -9,7 +9,8 @@ use Rattle.player.specs.Text.{eventText}
 use Rattle.receiver.specs.Told as receiver
 use Rattle.sender.specs.Told as sender
 use Rattle.text.specs.Page.{Page, put}
-use Rattle.text.specs.Text.{letterS, letterR, emittedText, senderReport, receiverReport, hasSenderReport, hasReceiverReport}
+use Rattle.text.specs.Text.{letterS, letterR, emittedText, senderReport, receiverReport}
+use Rattle.text.specs.Text.{hasSenderReport, hasReceiverReport}
 use Rattle.transport.specs.Answer.{Told, answerOf}
 use Rattle.transport.specs.Step.{Stepped}
 use Rattle.transport.specs.World.{World}

@@ -3,7 +3,9 @@ use Prim.Native.Nat.{ℕ, suc}
 use mathlib.Core.List.{List, [], _∷_, _++_}
 use Rattle.frame.specs.declared.Frame.{Frame}
 use Rattle.text.specs.Text.{letterS, letterR, frameLine, senderReport, receiverReport}
-use Rattle.transport.specs.World.{Call, begin, senderTick, receiverTick, hearForward, repeatForward, loseForward, hearBack, repeatBack, loseBack, Event}
+use Rattle.transport.specs.World.{Call, Event}
+use Rattle.transport.specs.World.{begin, senderTick, receiverTick}
+use Rattle.transport.specs.World.{hearForward, repeatForward, loseForward, hearBack, repeatBack, loseBack}
 
 -- "end": the end that is called, S or R; a loss calls none and prints nothing
 abbrev pub letterOf : Call → ℕ

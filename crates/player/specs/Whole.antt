@@ -22,7 +22,8 @@ shown g = take (g .page .place) (g .page .bytes)
 
 -- what is still to be printed of a pack, from a world in which so many events have been played
 unfoldable pub leftOf : List ℕ → World → Bodies → ℕ → List ℕ
-leftOf bytes w b played = textOf (suc played) (eventsFrom w (messageOf bytes b) (drop played (eventsOf bytes b)))
+leftOf bytes w b played =
+    textOf (suc played) (eventsFrom w (messageOf bytes b) (drop played (eventsOf bytes b)))
 
 abbrev pub leftAfter : List ℕ → Progressed → List ℕ
 leftAfter bytes g = leftOf bytes (g .world) (g .bodies) (g .played)
@@ -45,8 +46,9 @@ PlayPrints =
     → length forward ≡ 576
     → length back ≡ 576
     → length out ≡ 16384
-    → (let on = playOf bytes q forward back buffer out in
-    leftOf bytes (worldOf (q .ends) forward back buffer) (q .bodies) (q .played) ≡ shown on ++ leftAfter bytes on)
+    → (let w = worldOf (q .ends) forward back buffer in
+    let on = playOf bytes q forward back buffer out in
+    leftOf bytes w (q .bodies) (q .played) ≡ shown on ++ leftAfter bytes on)
 
 -- a finished player has nothing left to print of its pack
 abbrev pub FinishedIsAll : Type 0

@@ -88,7 +88,8 @@ emittedText number letter false f = []
 
 -- "sent ticks frames"
 unfoldable pub sentLine : ℕ → ℕ → ℕ → List ℕ
-sentLine number ticks frames = headOf number letterS ++ (sentWord ++ (spaced ticks ++ (spaced frames ++ (newline ∷ []))))
+sentLine number ticks frames =
+    headOf number letterS ++ (sentWord ++ (spaced ticks ++ (spaced frames ++ (newline ∷ []))))
 
 -- "failed cause ticks frames"
 unfoldable pub failedLine : ℕ → ℕ → ℕ → ℕ → List ℕ

@@ -43,7 +43,8 @@ pub(crate) fn frame_line(number: u16, letter: u8, f: Frame, out: &mut [u8], at: 
 }
 
 pub(crate) fn sent_line(number: u16, ticks: u16, frames: u16, out: &mut [u8], at: usize) -> usize
-    ensures { λ r. ⌜ page (now (out .exit)) r ≡ put (page (now (out .entry)) at) (sentLine number ticks frames) ⌝ }
+    ensures { λ r. ⌜ page (now (out .exit)) r
+        ≡ put (page (now (out .entry)) at) (sentLine number ticks frames) ⌝ }
 {
     let head = put_head(number, SENDER, out, at);
     let word = put_text(b" sent", out, head);
@@ -60,7 +61,8 @@ pub(crate) fn failed_line(
     out: &mut [u8],
     at: usize,
 ) -> usize
-    ensures { λ r. ⌜ page (now (out .exit)) r ≡ put (page (now (out .entry)) at) (failedLine number cause ticks frames) ⌝ }
+    ensures { λ r. ⌜ page (now (out .exit)) r
+        ≡ put (page (now (out .entry)) at) (failedLine number cause ticks frames) ⌝ }
 {
     let head = put_head(number, SENDER, out, at);
     let word = put_text(b" failed", out, head);
@@ -71,7 +73,8 @@ pub(crate) fn failed_line(
 }
 
 pub(crate) fn delivered_line(number: u16, length: u16, out: &mut [u8], at: usize) -> usize
-    ensures { λ r. ⌜ page (now (out .exit)) r ≡ put (page (now (out .entry)) at) (deliveredLine number length) ⌝ }
+    ensures { λ r. ⌜ page (now (out .exit)) r
+        ≡ put (page (now (out .entry)) at) (deliveredLine number length) ⌝ }
 {
     let head = put_head(number, RECEIVER, out, at);
     let word = put_text(b" delivered", out, head);

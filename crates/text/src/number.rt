@@ -55,7 +55,8 @@ fn put_hex(byte: u8, out: &mut [u8], at: usize) -> usize
 
 // Every byte, each after a space.
 pub(crate) fn put_hexes(bytes: &[u8], out: &mut [u8], at: usize) -> usize
-    ensures { λ r. ⌜ page (now (out .exit)) r ≡ put (page (now (out .entry)) at) (hexes (now (bytes .entry))) ⌝ }
+    ensures { λ r. ⌜ page (now (out .exit)) r
+        ≡ put (page (now (out .entry)) at) (hexes (now (bytes .entry))) ⌝ }
 {
     let mut next = at;
     let mut i = 0;

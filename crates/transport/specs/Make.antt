@@ -19,7 +19,8 @@ toldMade (Refused number) = refused number
 unfoldable pub joined : Result Sender → Result Receiver → Result Ends
 joined (refused number) r = refused number
 joined (accepted s) (refused number) = refused number
-joined (accepted s) (accepted r) = accepted (record { sender = s; receiver = r; forward = emptyOf; back = emptyOf })
+joined (accepted s) (accepted r) =
+    accepted (record { sender = s; receiver = r; forward = emptyOf; back = emptyOf })
 
 -- G, the sender's T, M; the receiver's T, C, K: "making an end: 1 setting"
 unfoldable pub makeOf : ℕ → ℕ → ℕ → ℕ → ℕ → ℕ → Result Ends

@@ -12,7 +12,9 @@ use Rattle.sender.specs.Begin.{beginOf}
 use Rattle.sender.specs.Hear.{hearOf}
 use Rattle.sender.specs.Tick.{tickOf}
 use Rattle.sender.specs.Told as sender
-use Rattle.transport.specs.World.{World, Call, begin, senderTick, receiverTick, hearForward, repeatForward, loseForward, hearBack, repeatBack, loseBack, Given, nobody, toSender, toReceiver, Event}
+use Rattle.transport.specs.World.{World, Call, Given, nobody, toSender, toReceiver, Event}
+use Rattle.transport.specs.World.{begin, senderTick, receiverTick}
+use Rattle.transport.specs.World.{hearForward, repeatForward, loseForward, hearBack, repeatBack, loseBack}
 
 -- the world after a call and what is seen of the call
 pub record Stepped : Type 0 where

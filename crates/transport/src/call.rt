@@ -72,7 +72,8 @@ impl Ends {
         self.receiver_spoke(a, back)
     }
 
-    // The first frame of forward is heard, if there is one: taken away where `takes` is true (hear), else kept (repeat).
+    // The first frame of forward is heard, if there is one: taken away where `takes` is true (hear), else kept
+    // (repeat).
     pub fn hear_forward(
         self,
         takes: bool,
@@ -106,7 +107,8 @@ impl Ends {
         }
     }
 
-    // The first frame of back is heard, if there is one: taken away where `takes` is true (hear), else kept (repeat).
+    // The first frame of back is heard, if there is one: taken away where `takes` is true (hear), else kept
+    // (repeat).
     pub fn hear_back(self, takes: bool, forward: &mut [u8], back: &[u8]) -> Answer
         ensures { λ r. ⌜ ((buffer : List ℕ) →
             told r (now (forward .exit)) (now (back .entry)) buffer

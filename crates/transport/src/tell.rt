@@ -42,7 +42,8 @@ impl Ends {
         Answer { next: self, said }
     }
 
-    // The sender has answered a call, given a frame or none: its frame joins forward. Whatever back and the buffer hold.
+    // The sender has answered a call, given a frame or none: its frame joins forward. Whatever back and the
+    // buffer hold.
     pub(crate) fn sender_spoke(self, a: sender::Answer, forward: &mut [u8]) -> Answer
         requires { ⌜ length (now forward) ≡ 576 ⌝ }
         ensures { λ r. ⌜ ((c : Call) (given : Given) (back buffer : List ℕ) →
@@ -73,8 +74,8 @@ impl Ends {
         Answer { next, said }
     }
 
-    // The receiver has answered a call, given a frame or none: its frame joins back. Whatever forward holds, and the
-    // buffer as the call left it.
+    // The receiver has answered a call, given a frame or none: its frame joins back. Whatever forward holds, and
+    // the buffer as the call left it.
     pub(crate) fn receiver_spoke(self, a: receiver::Answer, back: &mut [u8]) -> Answer
         requires { ⌜ length (now back) ≡ 576 ⌝ }
         ensures { λ r. ⌜ ((c : Call) (given : Given) (forward buffer : List ℕ) →
