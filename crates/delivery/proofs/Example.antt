@@ -17,22 +17,14 @@ use Rattle.sender.specs.Hear as sender-hear
 use Rattle.sender.specs.Tick as sender-tick
 use Rattle.transport.specs.Step.{givenForward, givenBack, stepOf}
 
-pub example : shownBefore (runOf stepOf exampleStart exampleCalls .events) [] ≡ exampleShown
-unfolding
-    shownBefore exampleCalls exampleBuffer runOf stepOf givenForward givenBack
-    pick frameCountOf incrementOf
-    fillTo blankOf announcementOf informationOf lmAckOf endOfAckOf
-    namedOf allFiller readOf
-    sender-begin.beginOf sender-begin.beginPhase sender-begin.beginIdle sender-begin.beginLong
-    sender-tick.tickOf sender-tick.lentTo sender-tick.tickPhase sender-tick.tickSending sender-tick.unlessOver sender-tick.atLimit sender-tick.afterFrame
-    sender-hear.hearOf sender-hear.hearRead sender-hear.hearKind sender-hear.hearAck sender-hear.ackOpening sender-hear.taking sender-hear.hearEnd sender-hear.ifWhole
-    receiver-hear.hearOf receiver-hear.hearRead receiver-hear.hearKind receiver-hear.hearNumbered receiver-hear.hearAnnouncement receiver-hear.announceIdle receiver-hear.hearInformation receiver-hear.informationOpen receiver-hear.stored receiver-hear.storing
-    receiver-window.windowOf
-example = refl
+-- its calls show what document 01 prints, and meet the conditions
+pub record Holds : Type 0 where
+  pub shows : shownBefore (runOf stepOf exampleStart exampleCalls .events) [] ≡ exampleShown
+  pub meets : Conditions stepOf exampleStart exampleCalls
 
-pub example-meets : Conditions stepOf exampleStart exampleCalls
+pub example : Holds
 unfolding
-    exampleCalls exampleBuffer stepOf givenForward givenBack begunIn begunAfter openedIn
+    shownBefore exampleCalls exampleBuffer runOf stepOf givenForward givenBack begunIn begunAfter openedIn
     pick frameCountOf incrementOf
     fillTo blankOf announcementOf informationOf lmAckOf endOfAckOf
     namedOf allFiller readOf
@@ -41,5 +33,9 @@ unfolding
     sender-hear.hearOf sender-hear.hearRead sender-hear.hearKind sender-hear.hearAck sender-hear.ackOpening sender-hear.taking sender-hear.hearEnd sender-hear.ifWhole
     receiver-hear.hearOf receiver-hear.hearRead receiver-hear.hearKind receiver-hear.hearNumbered receiver-hear.hearAnnouncement receiver-hear.announceIdle receiver-hear.hearInformation receiver-hear.informationOpen receiver-hear.stored receiver-hear.storing
     receiver-window.windowOf
-example-meets =
-    (λ _. (refl, refl, refl), (λ _. refl, (tt, (λ _. λ _. refl, (λ _. refl, (λ _. λ _. refl, (λ _. refl, (tt, tt))))))))
+example =
+    record {
+      shows = refl;
+      meets =
+          (λ _. (refl, refl, refl), (λ _. refl, (tt, (λ _. λ _. refl, (λ _. refl, (λ _. λ _. refl, (λ _. refl, (tt, tt))))))));
+    }
