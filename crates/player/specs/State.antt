@@ -1,17 +1,14 @@
 -- The world and the page after an event.
 use Prim.Native.Nat.{ℕ}
-use mathlib.Core.Bool.{Bool, _&&_, _||_}
+use mathlib.Core.Bool.{Bool, _||_}
 use mathlib.Core.List.{List, _++_}
-use lib.Dec.{leb}
-use Rattle.frame.specs.Choice.{pick}
-use Rattle.player.specs.Events.{callFor, turnFor}
+use Rattle.player.specs.Events.{turnFor}
 use Rattle.player.specs.Text.{eventText}
 use Rattle.receiver.specs.Told as receiver
 use Rattle.sender.specs.Told as sender
 use Rattle.text.specs.Page.{Page, put}
-use Rattle.text.specs.Text.{letterS, letterR, emittedText, senderReport, receiverReport}
+use Rattle.text.specs.Text.{emittedText, senderReport, receiverReport}
 use Rattle.text.specs.Text.{hasSenderReport, hasReceiverReport}
-use Rattle.transport.specs.Answer.{Told, answerOf}
 use Rattle.transport.specs.Step.{Stepped}
 use Rattle.transport.specs.World.{World}
 use Rattle.transport.specs.declared.Said.{Said}
@@ -31,14 +28,6 @@ printed s number p = turned (s .world) (put p (eventText number (s .event)))
 -- an event, printed under its number
 unfoldable pub turnOf : World → List ℕ → ℕ → ℕ → Page → Turned
 turnOf w message event number p = printed (turnFor w message event) number p
-
--- what the transport answers to an event
-unfoldable pub calledOf : World → List ℕ → ℕ → Told
-calledOf w message event = answerOf w (callFor w message event)
-
--- the letter of the end that an event is for: 2 to 5 are the receiver's
-abbrev pub letterFor : ℕ → ℕ
-letterFor event = pick (leb 2 event && leb event 5) letterR letterS
 
 -- what is printed of an answer: the frame's line, then the reports
 unfoldable pub saidText : ℕ → ℕ → Said → List ℕ

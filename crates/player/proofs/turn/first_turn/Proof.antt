@@ -1,5 +1,5 @@
 use borrow.Author.Needs.{needs}
-use Rattle.player.proofs.Turns.{turns}
+use Rattle.player.proofs.Turns.{prints}
 use Rattle.player.proofs.turn.first_turn.Statement.{statement}
 use Rattle.player.proofs.turn.first_turn.Tie as tie
 
@@ -16,7 +16,7 @@ same-length-2 : tie.Need-same-length-2
 same-length-2 c = search needs
 
 returns : tie.Need-returns
-returns c = search turns
+returns c = search prints
 
 pub first-turn-spec : {M : Type 1} → statement M
 first-turn-spec =

@@ -1,5 +1,5 @@
 use borrow.Author.Needs.{needs}
-use Rattle.player.proofs.Turns.{turns}
+use Rattle.player.proofs.Turns.{prints}
 use Rattle.player.proofs.turn.lines.Statement.{statement}
 use Rattle.player.proofs.turn.lines.Tie as tie
 
@@ -16,7 +16,7 @@ same-length : tie.Need-same-length
 same-length c = search needs
 
 returns : tie.Need-returns
-returns c = search turns
+returns c = search prints
 
 pub lines-spec : {M : Type 1} → statement M
 lines-spec =
