@@ -1,7 +1,7 @@
-/* Kospelna for programs in C: link target/staticlib/libbench_face.a, which `rt staticlib bench_face` makes for x86-64.
+/* Kospelna for programs in C: link target/staticlib/libkospelna.a, which `rt staticlib kospelna` makes for x86-64.
  *
  * Every function is proved total: it takes every value of its parameters, and its answer is that of document 01's rules
- * (crates/bench_face/specs/ has the equations). No function keeps anything between calls; states go in and come back by
+ * (crates/kospelna/specs/ has the equations). No function keeps anything between calls; states go in and come back by
  * value, so a state can be copied, kept and used again.
  *
  * The caller's part: a pointer is not null and has as many bytes behind it as the length beside it says, also where that

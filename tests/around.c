@@ -1,6 +1,6 @@
 /* Identifier, version talk and parameter groups from C: every function once, with answers worked out by hand from document
  * 01 and 001. Exits 1 where something differs.
- *   cc -std=c11 -Wall -Wextra -Werror -pedantic -Iinclude tests/around.c target/staticlib/libbench_face.a -o target/around
+ *   cc -std=c11 -Wall -Wextra -Werror -pedantic -Iinclude tests/around.c target/staticlib/libkospelna.a -o target/around
  */
 #include "kospelna.h"
 

@@ -1,4 +1,4 @@
-//! The proved code: the functions that `crates/bench_face` exports, over `crate::values`.
+//! The proved code: the functions that `crates/kospelna` exports, over `crate::values`.
 
 use crate::interface::{through, Around, Ends};
 use crate::values::*;

@@ -1,4 +1,4 @@
-//! The declarations in `src/ffi.rs` and `src/values.rs` are those of `crates/bench_face/src/`: the same functions, with the
+//! The declarations in `src/ffi.rs` and `src/values.rs` are those of `crates/kospelna/src/`: the same functions, with the
 //! same parameters and results, down to the names, types and order of every struct's fields.
 
 use std::collections::BTreeMap;
@@ -100,7 +100,7 @@ fn functions(text: &str, before: &str, structs: &Structs) -> Functions {
 
 #[test]
 fn declarations_are_those_of_the_crate() {
-    let crate_text = text("../../crates/bench_face/src", "rt");
+    let crate_text = text("../../crates/kospelna/src", "rt");
     let exported = functions(&crate_text, "pub extern \"C\" fn ", &structs(&crate_text));
     let here = text("src", "rs");
     let block = after(&here, "extern \"C\" {", '}')[0];

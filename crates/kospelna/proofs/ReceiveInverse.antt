@@ -1,0 +1,73 @@
+-- The receiver's translations undo each other, so a run of calls over the face is a run of the definitions, and nothing
+-- of an answer is left open.
+-- Assumes nothing.
+use Prim.Native.Nat.{ℕ}
+use mathlib.Core.Path.{_≡_, refl, sym, ap, _∙_}
+use Rattle.frame.specs.Result as result
+use Rattle.frame.specs.Choice.{pick}
+use Rattle.kospelna.specs.Receive.{connectionFrom, phaseFrom, receiverFrom, flatOf, flatPhase, flatReceiver, Written, idle, done, opened, flatOutcome, flatAnswer, flatMade, outcomeFrom, answerFrom, madeFrom}
+use Rattle.kospelna.specs.declared.receive.FlatReceiver.{FlatReceiver}
+use Rattle.receiver.specs.Told.{Outcome, quiet, refused, delivered, failed, short, Told}
+use Rattle.kospelna.proofs.ReceivePaths.{reads-done, reads-open, reads-idle}
+use Rattle.receiver.specs.declared.Connection.{Connection}
+use Rattle.receiver.specs.declared.Phase.{Phase}
+use Rattle.receiver.specs.declared.Phase.the-variants.{Idle, Done, Open}
+use Rattle.receiver.specs.declared.Receiver.{Receiver}
+use Rattle.receiver.specs.declared.Settings.{Settings}
+use Rattle.kospelna.proofs.Numbers.{other}
+
+phase-back : (s : Settings) (p : Phase) → receiverFrom (flatPhase s p) ≡ record { settings = s; phase = p }
+unfolding flatPhase phaseFrom pick
+phase-back s Idle = refl
+phase-back s (Done x) = refl
+phase-back s (Open x) = refl
+
+-- reading what was written gives the same receiver back
+pub receiver-back : (r : Receiver) → receiverFrom (flatReceiver r) ≡ r
+receiver-back r = phase-back (r .settings) (r .phase)
+
+phase-written : (s : Settings) (p : Phase) → Written (flatPhase s p)
+unfolding flatPhase
+phase-written s Idle = idle refl refl
+phase-written s (Done x) = done refl refl
+phase-written s (Open x) = opened refl
+
+-- what is written is one of the flat receivers that writing makes
+pub receiver-written : (r : Receiver) → Written (flatReceiver r)
+receiver-written r = phase-written (r .settings) (r .phase)
+
+-- a flat receiver is made of its parts
+rebuilt : (r : FlatReceiver) {phase : ℕ} {x : Connection} → phase ≡ r .phase → x ≡ connectionFrom r
+    → flatOf (receiverFrom r .settings) phase x ≡ r
+rebuilt r p k = rw (p, k)
+
+-- writing what was read gives each of those back
+pub flat-back : (r : FlatReceiver) → Written r → flatReceiver (receiverFrom r) ≡ r
+unfolding flatPhase
+flat-back r (idle p k) = ap (flatPhase _) (sym (reads-idle r (other p) (other p))) ∙ rebuilt r (sym p) (sym k)
+flat-back r (done p k) = ap (flatPhase _) (sym (reads-done r p)) ∙ rebuilt r (sym p) (sym k)
+flat-back r (opened p) = ap (flatPhase _) (sym (reads-open r p _ refl)) ∙ rebuilt r (sym p) refl
+
+-- ---- answers
+
+outcome-back : (o : Outcome) → outcomeFrom (flatOutcome o) ≡ o
+unfolding outcomeFrom flatOutcome pick
+outcome-back quiet = refl
+outcome-back (refused number) = refl
+outcome-back (delivered length) = refl
+outcome-back (failed cause) = refl
+outcome-back short = refl
+
+-- a caller reads the definition's answer off the flat one, whole
+pub answer-back : (t : Told) → answerFrom (flatAnswer t) ≡ t
+unfolding answerFrom flatAnswer
+answer-back t =
+    ap (λ (r : Receiver). record { next = r; emits = t .emits; frame = t .frame; outcome = outcomeFrom (flatOutcome (t .outcome)); bytes = t .bytes })
+    (receiver-back (t .next))
+    ∙ ap (λ (o : Outcome). record { next = t .next; emits = t .emits; frame = t .frame; outcome = o; bytes = t .bytes })
+    (outcome-back (t .outcome))
+
+pub made-back : (m : result.Result Receiver) → madeFrom (flatMade m) ≡ m
+unfolding madeFrom flatMade pick
+made-back (result.accepted r) = ap result.accepted (receiver-back r)
+made-back (result.refused number) = refl

@@ -1,0 +1,151 @@
+-- The receiver over C's layouts: a law for each path through the code.
+-- Assumes nothing.
+use Prim.Native.Nat.{ℕ}
+use mathlib.Core.Path.{_≡_}
+use mathlib.Core.Bool.{true, false}
+use mathlib.Core.List.{List}
+use borrow.Author.Tests.{ne-eqb}
+use Rattle.frame.specs.Result.{Result}
+use Rattle.frame.specs.Choice.{pick}
+use Rattle.frame.specs.declared.Frame.{Frame}
+use Rattle.kospelna.specs.Frames.{frameFrom, flatFrame}
+use Rattle.kospelna.specs.Receive.{connectionFrom, phaseFrom, receiverFrom, remembering, flatOf, flatPhase, flatReceiver, flatOutcome, flatAnswer, noReceiver, flatMade, hearing, flatHeard}
+use Rattle.kospelna.specs.declared.frames.FlatFrame.{FlatFrame}
+use Rattle.kospelna.specs.declared.receive.FlatReceiver.{FlatReceiver}
+use Rattle.kospelna.specs.declared.receive.ReceiverAnswer.{ReceiverAnswer}
+use Rattle.kospelna.specs.declared.receive.ReceiverMade.{ReceiverMade}
+use Rattle.kospelna.specs.declared.receive.Report.{Report}
+use Rattle.receiver.specs.Hear.{hearOf}
+use Rattle.receiver.specs.Make.{makeOf}
+use Rattle.receiver.specs.Tick.{tickOf}
+use Rattle.receiver.specs.Told.{toldMade, toldOutcome, Told, told, heard}
+use Rattle.receiver.specs.declared.Answer.{Answer}
+use Rattle.receiver.specs.declared.Connection.{Connection}
+use Rattle.receiver.specs.declared.Delivery.{Delivery}
+use Rattle.receiver.specs.declared.Made as made-enum
+use Rattle.receiver.specs.declared.Made.the-variants as made-variants
+use Rattle.receiver.specs.declared.Outcome as outcome-enum
+use Rattle.receiver.specs.declared.Outcome.the-variants as outcome-variants
+use Rattle.receiver.specs.declared.Phase.{Phase}
+use Rattle.receiver.specs.declared.Phase.the-variants.{Idle, Done, Open}
+use Rattle.receiver.specs.declared.Receiver.{Receiver}
+use Rattle.kospelna.proofs.Numbers.{test}
+
+-- ---- reading, by the phase's number
+
+module _ (r : FlatReceiver) where
+  pub reads-done : r .phase ≡ 1 → Done (record { frames = r .frames; length = r .length }) ≡ phaseFrom r
+  unfolding phaseFrom pick
+  reads-done e = cc (test 1 e)
+
+  pub reads-open : r .phase ≡ 2 → (x : Connection) → x ≡ connectionFrom r → Open x ≡ phaseFrom r
+  unfolding phaseFrom pick
+  reads-open e x k = cc (test 1 e, test 2 e)
+
+  -- every other number is Idle
+  pub reads-idle : (r .phase ≡ 1 → ⊥) → (r .phase ≡ 2 → ⊥) → Idle ≡ phaseFrom r
+  unfolding phaseFrom pick
+  reads-idle n1 n2 = cc (ne-eqb _ _ n1, ne-eqb _ _ n2)
+
+pub ruleset reads = (reads-done, reads-open, reads-idle)
+
+pub reads-receiver : (r : FlatReceiver) (p : Phase) → p ≡ phaseFrom r
+    → _≡_ {A = Receiver}
+    (record { settings = record { timeout = r .timeout; window = r .window; capacity = r .capacity }; phase = p })
+    (receiverFrom r)
+reads-receiver r p e = cc
+
+-- ---- writing, by the phase
+
+module _ (a : FlatReceiver) (r : Receiver) where
+  module _ (k : Connection) where
+    pub writes-idle : k ≡ remembering 0 0 → a ≡ flatOf (r .settings) 0 k → r .phase ≡ Idle
+        → a ≡ flatPhase (r .settings) (r .phase)
+    unfolding flatPhase
+    writes-idle known e p = cc
+
+    pub writes-done : (x : Delivery) → k ≡ remembering (x .frames) (x .length) → a ≡ flatOf (r .settings) 1 k
+        → r .phase ≡ Done x → a ≡ flatPhase (r .settings) (r .phase)
+    unfolding flatPhase
+    writes-done x known e p = cc
+
+  pub writes-open : (x : Connection) → a ≡ flatOf (r .settings) 2 x → r .phase ≡ Open x
+      → a ≡ flatPhase (r .settings) (r .phase)
+  unfolding flatPhase
+  writes-open x e p = cc
+
+pub ruleset writes = (writes-idle, writes-done, writes-open)
+
+-- ---- answers
+
+module _ (r : Report) (o : outcome-enum.Outcome) where
+  pub tells-quiet : r ≡ record { outcome = 0; number = 0; length = 0 } → o ≡ outcome-variants.Quiet
+      → r ≡ flatOutcome (toldOutcome o)
+  unfolding flatOutcome
+  tells-quiet e p = cc
+
+  pub tells-refused : (n : ℕ) → r ≡ record { outcome = 1; number = n; length = 0 } → o ≡ outcome-variants.Refused n
+      → r ≡ flatOutcome (toldOutcome o)
+  unfolding flatOutcome
+  tells-refused n e p = cc
+
+  pub tells-delivered : (n : ℕ) → r ≡ record { outcome = 2; number = 0; length = n } → o ≡ outcome-variants.Delivered n
+      → r ≡ flatOutcome (toldOutcome o)
+  unfolding flatOutcome
+  tells-delivered n e p = cc
+
+  pub tells-failed : (n : ℕ) → r ≡ record { outcome = 3; number = n; length = 0 } → o ≡ outcome-variants.Failed n
+      → r ≡ flatOutcome (toldOutcome o)
+  unfolding flatOutcome
+  tells-failed n e p = cc
+
+  pub tells-short : r ≡ record { outcome = 4; number = 0; length = 0 } → o ≡ outcome-variants.Short
+      → r ≡ flatOutcome (toldOutcome o)
+  unfolding flatOutcome
+  tells-short e p = cc
+
+pub ruleset tells = (tells-quiet, tells-refused, tells-delivered, tells-failed, tells-short)
+
+pub writes-answer : (a : Answer) (next : FlatReceiver) (f : FlatFrame) (r : Report) → next ≡ flatReceiver (a .next)
+    → f ≡ flatFrame (a .frame) → r ≡ flatOutcome (toldOutcome (a .outcome))
+    → _≡_ {A = ReceiverAnswer}
+    (record { next = next; emits = a .emits; frame = f; outcome = r .outcome; number = r .number; length = r .length; bytes = a .bytes })
+    (flatAnswer (told a))
+unfolding flatAnswer
+writes-answer a next f r n k o = cc
+
+pub zeros : (a : FlatReceiver) (k : Connection) → k ≡ remembering 0 0
+    → a ≡ flatOf (record { timeout = 0; window = 0; capacity = 0 }) 0 k → a ≡ noReceiver
+zeros a k known e = cc
+
+module _ (a : FlatReceiver) (m : made-enum.Made) where
+  pub makes : (r : Receiver) → a ≡ flatReceiver r → m ≡ made-variants.End r
+      → _≡_ {A = ReceiverMade} (record { made = true; number = 0; end = a }) (flatMade (toldMade m))
+  unfolding flatMade
+  makes r e p = cc
+
+  pub makes-none : (n : ℕ) → a ≡ noReceiver → m ≡ made-variants.Refused n
+      → _≡_ {A = ReceiverMade} (record { made = false; number = n; end = a }) (flatMade (toldMade m))
+  unfolding flatMade
+  makes-none n e p = cc
+
+pub ruleset makings = (makes, makes-none)
+
+-- ---- the calls: read, called, written
+
+pub made-so : (a : ReceiverMade) (m : Result Receiver) (timeout window capacity : ℕ) → a ≡ flatMade m
+    → m ≡ makeOf timeout window capacity → a ≡ flatMade (makeOf timeout window capacity)
+made-so a m timeout window capacity e k = cc
+
+module _ (a : ReceiverAnswer) (t : Told) (r : FlatReceiver) (q : Receiver) (answered : a ≡ flatAnswer t)
+    (read : q ≡ receiverFrom r) where
+  pub ticked : t ≡ tickOf q → a ≡ flatAnswer (tickOf (receiverFrom r))
+  ticked e = cc
+
+  pub heard-so : (f : FlatFrame) (g : Frame) (before after : List ℕ) → g ≡ frameFrom f
+      → heard t after ≡ hearOf q g before
+      → hearing a after ≡ flatHeard (hearOf (receiverFrom r) (frameFrom f) before)
+  unfolding flatHeard
+  heard-so f g before after frame e = cc
+
+pub ruleset calls = (made-so, ticked, heard-so)

@@ -1,0 +1,421 @@
+-- A law for each path through the functions of version talk; what is written flat is read back, and the other way round.
+-- Assumes nothing.
+use Prim.Native.Nat.{ℕ, zero, suc, _≤_}
+use mathlib.Core.List.{List}
+use mathlib.Core.Logic.{inl, inr}
+use mathlib.Core.Path.{_≡_, refl, ap, _∙_}
+use native.Mathlib.Omega.{arith}
+use borrow.Author.Tests.{ne-eqb}
+use Rattle.frame.specs.Choice.{pick}
+use Rattle.frame.specs.Result as result
+use Rattle.frame.specs.Result.{Result, accepted}
+use Rattle.version.specs.List.{listOf, listedOf}
+use Rattle.version.specs.Message.{verdictByte, toldReading, writeOf, readOf}
+use Rattle.version.specs.Talk.{makeOf, connectOf, tickOf, hearOf, stopOf, greetOf, functionsHeardOf}
+use Rattle.version.specs.Told.{Told, Outcome, quiet, refused, agreed, failed, left, toldOutcome, told}
+use Rattle.version.specs.declared.Answer.{Answer}
+use Rattle.version.specs.declared.ListOutcome.{ListOutcome}
+use Rattle.version.specs.declared.ListOutcome.the-variants.{Accepted, Refused}
+use Rattle.version.specs.declared.Listed.{Listed}
+use Rattle.version.specs.declared.Message.{Message}
+use Rattle.version.specs.declared.MessageReading.{MessageReading}
+use Rattle.version.specs.declared.MessageReading.the-variants as readings
+use Rattle.version.specs.declared.Side.{Side}
+use Rattle.version.specs.declared.Side.the-variants.{Charger, Vehicle}
+use Rattle.version.specs.declared.State.{State}
+use Rattle.version.specs.declared.State.the-variants.{S0, S1, S2, S3, S4, S5}
+use Rattle.version.specs.declared.Talker.{Talker}
+use Rattle.version.specs.declared.Verdict.{Verdict}
+use Rattle.version.specs.declared.Verdict.the-variants.{Continue, Success, Failure}
+use Rattle.version.specs.declared.Versions.{Versions}
+use Rattle.kospelna.specs.Talk.{sideNumber, sideIn, stateNumber, stateIn, verdictIn, versionsIn, versionsOut, listOutcome, listRefusal, listOutcomeIn, listingOut, listingIn, ListingMade, messageIn, messageOut, MessageMade, bytesIn, bytesOut, noMessage, readingOut, readingIn, ReadingMade, talkerIn, talkerOut, TalkerMade, outcomeNumber, outcomeRefusal, outcomeVersion, outcomeIn, answerOut, answerIn, AnswerMade}
+use Rattle.kospelna.specs.declared.talk.FlatVersions.{FlatVersions}
+use Rattle.kospelna.specs.declared.talk.FlatListing.{FlatListing}
+use Rattle.kospelna.specs.declared.talk.FlatMessage.{FlatMessage}
+use Rattle.kospelna.specs.declared.talk.FlatBytes.{FlatBytes}
+use Rattle.kospelna.specs.declared.talk.FlatMessageReading.{FlatMessageReading}
+use Rattle.kospelna.specs.declared.talk.FlatTalker.{FlatTalker}
+use Rattle.kospelna.specs.declared.talk.FlatAnswer.{FlatAnswer}
+
+-- ---- paths: numbers
+
+pub side-1 : {n : ℕ} → n ≡ 1 → Vehicle ≡ sideIn n
+unfolding sideIn pick
+side-1 e = rw e
+
+pub side-other : {n : ℕ} → (n ≡ 1 → ⊥) → Charger ≡ sideIn n
+unfolding sideIn pick
+side-other {n} a = rw (ne-eqb n 1 a)
+
+pub state-1 : {n : ℕ} → n ≡ 1 → S1 ≡ stateIn n
+unfolding stateIn pick
+state-1 e = rw e
+
+pub state-2 : {n : ℕ} → n ≡ 2 → S2 ≡ stateIn n
+unfolding stateIn pick
+state-2 e = rw e
+
+pub state-3 : {n : ℕ} → n ≡ 3 → S3 ≡ stateIn n
+unfolding stateIn pick
+state-3 e = rw e
+
+pub state-4 : {n : ℕ} → n ≡ 4 → S4 ≡ stateIn n
+unfolding stateIn pick
+state-4 e = rw e
+
+pub state-5 : {n : ℕ} → n ≡ 5 → S5 ≡ stateIn n
+unfolding stateIn pick
+state-5 e = rw e
+
+pub state-other : {n : ℕ} → (n ≡ 1 → ⊥) → (n ≡ 2 → ⊥) → (n ≡ 3 → ⊥) → (n ≡ 4 → ⊥) → (n ≡ 5 → ⊥) → S0 ≡ stateIn n
+unfolding stateIn pick
+state-other {n} a b c d e = rw (ne-eqb n 1 a, ne-eqb n 2 b, ne-eqb n 3 c, ne-eqb n 4 d, ne-eqb n 5 e)
+
+pub verdict-1 : {n : ℕ} → n ≡ 1 → Success ≡ verdictIn n
+unfolding verdictIn pick
+verdict-1 e = rw e
+
+pub verdict-2 : {n : ℕ} → n ≡ 2 → Failure ≡ verdictIn n
+unfolding verdictIn pick
+verdict-2 e = rw e
+
+pub verdict-other : {n : ℕ} → (n ≡ 1 → ⊥) → (n ≡ 2 → ⊥) → Continue ≡ verdictIn n
+unfolding verdictIn pick
+verdict-other {n} a b = rw (ne-eqb n 1 a, ne-eqb n 2 b)
+
+pub ruleset number-paths = (
+  side-1,
+  side-other,
+  state-1,
+  state-2,
+  state-3,
+  state-4,
+  state-5,
+  state-other,
+  verdict-1,
+  verdict-2,
+  verdict-other,
+)
+
+-- ---- paths: the list and the message
+
+pub listing-out : (l : Listed) {o r : ℕ} {v : FlatVersions} → v ≡ versionsOut (l .versions)
+    → o ≡ listOutcome (l .outcome)
+    → r ≡ listRefusal (l .outcome)
+    → record { outcome = o; refusal = r; versions = v } ≡ listingOut l
+unfolding listingOut
+listing-out l v o r = rw (v, o, r)
+
+pub list-through : (s : List ℕ) {l : Listed} {r : FlatListing} → r ≡ listingOut l → l ≡ listedOf (listOf s)
+    → r ≡ listingOut (listedOf (listOf s))
+list-through s w e = w ∙ ap listingOut e
+
+pub message-in : (f : FlatMessage) {v : Verdict} → v ≡ verdictIn (f .verdict)
+    → record { verdict = v; version = f .version; control = f .control } ≡ messageIn f
+unfolding messageIn
+message-in f v = rw v
+
+pub message-out : (m : Message) {v : ℕ} → v ≡ verdictByte (m .verdict)
+    → record { verdict = v; version = m .version; control = m .control } ≡ messageOut m
+unfolding messageOut
+message-out m v = rw v
+
+pub write-through : {b : List ℕ} {m n : Message} → b ≡ writeOf m → m ≡ n
+    → record { bytes = b } ≡ bytesOut (writeOf n)
+write-through e m = ap bytesOut (e ∙ ap writeOf m)
+
+module _ {r : MessageReading} where
+  pub read-message : {m : Message} {f : FlatMessage} → f ≡ messageOut m → r ≡ readings.Message m
+      → record { outcome = 0; refusal = 0; message = f } ≡ readingOut (toldReading r)
+  read-message w e = rw (e, w)
+
+  pub read-refused : {n : ℕ} → r ≡ readings.Refused n
+      → record { outcome = 1; refusal = n; message = noMessage } ≡ readingOut (toldReading r)
+  read-refused e = rw e
+
+pub read-through : (s : List ℕ) {f : FlatMessageReading} {j : Result Message} → f ≡ readingOut j → j ≡ readOf s
+    → f ≡ readingOut (readOf s)
+read-through s w e = w ∙ ap readingOut e
+
+pub ruleset message-paths = (
+  listing-out,
+  list-through,
+  message-in,
+  message-out,
+  write-through,
+  read-message,
+  read-refused,
+  read-through,
+)
+
+-- ---- paths: the talker
+
+pub talker-in : (f : FlatTalker) {side : Side} {versions : Versions} {state : State} {verdict : Verdict}
+    → side ≡ sideIn (f .side) → versions ≡ versionsIn (f .versions) → state ≡ stateIn (f .state) → verdict ≡ verdictIn (f .verdict)
+    → record {
+      side = side;
+      versions = versions;
+      control = f .control;
+      state = state;
+      place = f .place;
+      verdict = verdict;
+      period = f .period;
+      age = f .age;
+      timing = f .timing;
+    }
+    ≡ talkerIn f
+unfolding talkerIn
+talker-in f a b c d = rw (a, b, c, d)
+
+pub talker-out : (t : Talker) {side state verdict : ℕ} {versions : FlatVersions}
+    → side ≡ sideNumber (t .side) → versions ≡ versionsOut (t .versions) → state ≡ stateNumber (t .state)
+    → verdict ≡ verdictByte (t .verdict)
+    → record {
+      side = side;
+      versions = versions;
+      control = t .control;
+      state = state;
+      place = t .place;
+      verdict = verdict;
+      period = t .period;
+      age = t .age;
+      timing = t .timing;
+    }
+    ≡ talkerOut t
+unfolding talkerOut
+talker-out t a b c d = rw (a, b, c, d)
+
+pub answer-out : (a : Answer) {next : FlatTalker} {o r v : ℕ} → next ≡ talkerOut (a .next)
+    → o ≡ outcomeNumber (toldOutcome (a .outcome)) → r ≡ outcomeRefusal (toldOutcome (a .outcome))
+    → v ≡ outcomeVersion (toldOutcome (a .outcome))
+    → record { next = next; emits = a .emits; bytes = a .bytes; outcome = o; refusal = r; version = v } ≡ answerOut (told a)
+unfolding answerOut
+answer-out a n o r v = rw (n, o, r, v)
+
+pub make-through : (control : ℕ) {f : FlatTalker} {t : Talker} {side a : Side} {versions b : Versions} → f ≡ talkerOut t
+    → t ≡ makeOf side versions control → side ≡ a → versions ≡ b → f ≡ talkerOut (makeOf a b control)
+make-through control w e a b = w ∙ ap talkerOut (rw (← a, ← b) e)
+
+module _ {a : Told} {f : FlatAnswer} {t u : Talker} (w : f ≡ answerOut a) where
+  through : (call : Talker → Told) → a ≡ call t → t ≡ u → f ≡ answerOut (call u)
+  through call e x = w ∙ ap answerOut (e ∙ ap call x)
+
+  pub connect-through : a ≡ connectOf t → t ≡ u → f ≡ answerOut (connectOf u)
+  connect-through = through connectOf
+
+  pub tick-through : a ≡ tickOf t → t ≡ u → f ≡ answerOut (tickOf u)
+  tick-through = through tickOf
+
+  pub hear-through : (s : List ℕ) → a ≡ hearOf t s → t ≡ u → f ≡ answerOut (hearOf u s)
+  hear-through s = through (λ (x : Talker). hearOf x s)
+
+  pub stop-through : a ≡ stopOf t → t ≡ u → f ≡ answerOut (stopOf u)
+  stop-through = through stopOf
+
+  pub greet-through : a ≡ greetOf t → t ≡ u → f ≡ answerOut (greetOf u)
+  greet-through = through greetOf
+
+  pub functions-through : a ≡ functionsHeardOf t → t ≡ u → f ≡ answerOut (functionsHeardOf u)
+  functions-through = through functionsHeardOf
+
+pub ruleset talker-paths = (
+  talker-in,
+  talker-out,
+  answer-out,
+  make-through,
+  connect-through,
+  tick-through,
+  hear-through,
+  stop-through,
+  greet-through,
+  functions-through,
+)
+
+-- ---- back and forth: numbers
+
+side-read : (s : Side) → sideIn (sideNumber s) ≡ s
+unfolding sideIn pick
+side-read Charger = refl
+side-read Vehicle = refl
+
+side-made : (s : Side) → sideNumber s ≤ 1
+side-made Charger = omega arith
+side-made Vehicle = omega arith
+
+side-written : (n : ℕ) → n ≤ 1 → sideNumber (sideIn n) ≡ n
+unfolding sideIn pick
+side-written zero h = refl
+side-written (suc zero) h = refl
+side-written (suc (suc n)) h = absurd (omega arith)
+
+state-read : (s : State) → stateIn (stateNumber s) ≡ s
+unfolding stateIn pick
+state-read S0 = refl
+state-read S1 = refl
+state-read S2 = refl
+state-read S3 = refl
+state-read S4 = refl
+state-read S5 = refl
+
+state-made : (s : State) → stateNumber s ≤ 5
+state-made S0 = omega arith
+state-made S1 = omega arith
+state-made S2 = omega arith
+state-made S3 = omega arith
+state-made S4 = omega arith
+state-made S5 = omega arith
+
+state-written : (n : ℕ) → n ≤ 5 → stateNumber (stateIn n) ≡ n
+unfolding stateIn pick
+state-written zero h = refl
+state-written (suc zero) h = refl
+state-written (suc (suc zero)) h = refl
+state-written (suc (suc (suc zero))) h = refl
+state-written (suc (suc (suc (suc zero)))) h = refl
+state-written (suc (suc (suc (suc (suc zero))))) h = refl
+state-written (suc (suc (suc (suc (suc (suc n)))))) h = absurd (omega arith)
+
+verdict-read : (v : Verdict) → verdictIn (verdictByte v) ≡ v
+unfolding verdictIn pick
+verdict-read Continue = refl
+verdict-read Success = refl
+verdict-read Failure = refl
+
+verdict-made : (v : Verdict) → verdictByte v ≤ 2
+verdict-made Continue = omega arith
+verdict-made Success = omega arith
+verdict-made Failure = omega arith
+
+verdict-written : (n : ℕ) → n ≤ 2 → verdictByte (verdictIn n) ≡ n
+unfolding verdictIn pick
+verdict-written zero h = refl
+verdict-written (suc zero) h = refl
+verdict-written (suc (suc zero)) h = refl
+verdict-written (suc (suc (suc n))) h = absurd (omega arith)
+
+-- ---- back and forth: the list and the message. Every value comes back; a flat value that writing makes comes back; and
+-- writing makes no others.
+
+pub versions-read : (v : Versions) → versionsIn (versionsOut v) ≡ v
+versions-read v = refl
+
+pub versions-written : (f : FlatVersions) → versionsOut (versionsIn f) ≡ f
+versions-written f = refl
+
+pub listing-read : (l : Listed) → listingIn (listingOut l) ≡ l
+unfolding listingIn listingOut listOutcomeIn pick
+listing-read l = ap (λ (o : ListOutcome). record { versions = l .versions; outcome = o }) (go (l .outcome))
+  where
+    go : (o : ListOutcome) → listOutcomeIn (listOutcome o) (listRefusal o) ≡ o
+    go Accepted = refl
+    go (Refused n) = refl
+
+pub listing-made : (l : Listed) → ListingMade (listingOut l)
+unfolding listingOut
+listing-made l = go (l .outcome)
+  where
+    go : (o : ListOutcome) → ListingMade (record { outcome = listOutcome o; refusal = listRefusal o; versions = versionsOut (l .versions) })
+    go Accepted = inl (refl, refl)
+    go (Refused n) = inr refl
+
+pub listing-written : (f : FlatListing) → ListingMade f → listingOut (listingIn f) ≡ f
+unfolding listingIn listingOut listOutcomeIn pick
+listing-written f made = go (f .outcome) (f .refusal) (f .versions) made
+  where
+    go : (o r : ℕ) (v : FlatVersions) → ListingMade (record { outcome = o; refusal = r; versions = v })
+        → listingOut (listingIn (record { outcome = o; refusal = r; versions = v })) ≡ record { outcome = o; refusal = r; versions = v }
+    go o r v (inl h) = rw (h .0, h .1)
+    go o r v (inr h) = rw h
+
+pub message-read : (m : Message) → messageIn (messageOut m) ≡ m
+unfolding messageIn messageOut
+message-read m = rw (verdict-read (m .verdict))
+
+pub message-made : (m : Message) → MessageMade (messageOut m)
+unfolding messageOut
+message-made m = verdict-made (m .verdict)
+
+pub message-written : (f : FlatMessage) → MessageMade f → messageOut (messageIn f) ≡ f
+unfolding messageIn messageOut
+message-written f h = rw (verdict-written (f .verdict) h)
+
+pub bytes-read : (s : List ℕ) → bytesIn (bytesOut s) ≡ s
+bytes-read s = refl
+
+pub bytes-written : (f : FlatBytes) → bytesOut (bytesIn f) ≡ f
+bytes-written f = refl
+
+pub reading-read : (j : Result Message) → readingIn (readingOut j) ≡ j
+unfolding readingIn pick
+reading-read (accepted m) = ap accepted (message-read m)
+reading-read (result.refused n) = refl
+
+pub reading-made : (j : Result Message) → ReadingMade (readingOut j)
+reading-made (accepted m) = inl (refl, refl, message-made m)
+reading-made (result.refused n) = inr (refl, refl)
+
+pub reading-written : (f : FlatMessageReading) → ReadingMade f → readingOut (readingIn f) ≡ f
+unfolding readingIn pick
+reading-written f made = go (f .outcome) (f .refusal) (f .message) made
+  where
+    go : (o r : ℕ) (m : FlatMessage) → ReadingMade (record { outcome = o; refusal = r; message = m })
+        → readingOut (readingIn (record { outcome = o; refusal = r; message = m })) ≡ record { outcome = o; refusal = r; message = m }
+    go o r m (inl h) =
+        rw (h .0, h .1) (ap (λ (x : FlatMessage). record { outcome = 0; refusal = 0; message = x }) (message-written m (h .2)))
+    go o r m (inr h) = rw (h .0, h .1)
+
+-- ---- back and forth: the talker and a call's answer
+
+pub talker-read : (t : Talker) → talkerIn (talkerOut t) ≡ t
+unfolding talkerIn talkerOut
+talker-read t = rw (side-read (t .side), state-read (t .state), verdict-read (t .verdict))
+
+pub talker-made : (t : Talker) → TalkerMade (talkerOut t)
+unfolding talkerOut
+talker-made t = (side-made (t .side), state-made (t .state), verdict-made (t .verdict))
+
+pub talker-written : (f : FlatTalker) → TalkerMade f → talkerOut (talkerIn f) ≡ f
+unfolding talkerIn talkerOut
+talker-written f h = rw (side-written (f .side) (h .0), state-written (f .state) (h .1), verdict-written (f .verdict) (h .2))
+
+outcome-read : (o : Outcome) → outcomeIn (outcomeNumber o) (outcomeRefusal o) (outcomeVersion o) ≡ o
+unfolding outcomeIn pick
+outcome-read quiet = refl
+outcome-read (refused n) = refl
+outcome-read (agreed v) = refl
+outcome-read failed = refl
+outcome-read left = refl
+
+pub answer-read : (a : Told) → answerIn (answerOut a) ≡ a
+unfolding answerIn answerOut
+answer-read a = rw (talker-read (a .next), outcome-read (a .outcome))
+
+outcome-made : (o : Outcome)
+    → (outcomeNumber o ≤ 4) × ((outcomeNumber o ≡ 1 → ⊥) → outcomeRefusal o ≡ 0) × ((outcomeNumber o ≡ 2 → ⊥) → outcomeVersion o ≡ 0)
+outcome-made quiet = (omega arith, λ h. refl, λ h. refl)
+outcome-made (refused n) = (omega arith, λ h. absurd (h refl), λ h. refl)
+outcome-made (agreed v) = (omega arith, λ h. refl, λ h. absurd (h refl))
+outcome-made failed = (omega arith, λ h. refl, λ h. refl)
+outcome-made left = (omega arith, λ h. refl, λ h. refl)
+
+pub answer-made : (a : Told) → AnswerMade (answerOut a)
+unfolding answerOut
+answer-made a =
+    let o = outcome-made (a .outcome) in
+    record { next = talker-made (a .next); outcome = o .0; refusal = o .1; version = o .2 }
+
+outcome-written : (n r v : ℕ) → n ≤ 4 → ((n ≡ 1 → ⊥) → r ≡ 0) → ((n ≡ 2 → ⊥) → v ≡ 0)
+    → (outcomeNumber (outcomeIn n r v) ≡ n) × (outcomeRefusal (outcomeIn n r v) ≡ r) × (outcomeVersion (outcomeIn n r v) ≡ v)
+unfolding outcomeIn pick
+outcome-written zero r v h a b = rw (a (λ e. omega arith), b (λ e. omega arith)) (refl, refl, refl)
+outcome-written (suc zero) r v h a b = rw (b (λ e. omega arith)) (refl, refl, refl)
+outcome-written (suc (suc zero)) r v h a b = rw (a (λ e. omega arith)) (refl, refl, refl)
+outcome-written (suc (suc (suc zero))) r v h a b = rw (a (λ e. omega arith), b (λ e. omega arith)) (refl, refl, refl)
+outcome-written (suc (suc (suc (suc zero)))) r v h a b = rw (a (λ e. omega arith), b (λ e. omega arith)) (refl, refl, refl)
+outcome-written (suc (suc (suc (suc (suc n))))) r v h a b = absurd (omega arith)
+
+pub answer-written : (f : FlatAnswer) → AnswerMade f → answerOut (answerIn f) ≡ f
+unfolding answerIn answerOut
+answer-written f made =
+    let o = outcome-written (f .outcome) (f .refusal) (f .version) (made .outcome) (made .refusal) (made .version) in
+    rw (talker-written (f .next) (made .next), o .0, o .1, o .2)

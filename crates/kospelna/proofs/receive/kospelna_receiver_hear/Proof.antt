@@ -1,0 +1,35 @@
+-- `kospelna::receive::kospelna_receiver_hear` meets its contract. What is read, the end's promise, what is written.
+-- Assumes nothing.
+use borrow.Author.Needs.{needs}
+use Rattle.kospelna.proofs.ReceivePaths.{calls}
+use Rattle.kospelna.proofs.receive.kospelna_receiver_hear.Statement.{statement}
+use Rattle.kospelna.proofs.receive.kospelna_receiver_hear.Tie as tie
+
+read-receiver-requires : tie.Need-read-receiver-requires
+read-receiver-requires c κs = search needs
+
+read-frame-requires : tie.Need-read-frame-requires
+read-frame-requires c κs = search needs
+
+hear-requires : tie.Need-hear-requires
+hear-requires c κs = search needs
+
+write-answer-requires : tie.Need-write-answer-requires
+write-answer-requires c κs = search needs
+
+same-length : tie.Need-same-length
+same-length c = search needs
+
+returns : tie.Need-returns
+returns c = search calls
+
+pub kospelna-receiver-hear-spec : {M : Type 1} → statement M
+kospelna-receiver-hear-spec =
+    tie.close
+    (tie.spec
+    read-receiver-requires
+    read-frame-requires
+    hear-requires
+    write-answer-requires
+    same-length
+    returns)

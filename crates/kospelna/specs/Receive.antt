@@ -1,0 +1,147 @@
+-- The receiver in C's layouts: what a flat receiver is read as, and how the receiver and its answers are written.
+use Prim.Native.Nat.{ℕ}
+use mathlib.Core.Path.{_≡_}
+use mathlib.Core.Bool.{true, false}
+use mathlib.Core.List.{List}
+use lib.Dec.{eqb}
+use Rattle.frame.specs.Result as result
+use Rattle.frame.specs.Choice.{pick}
+use Rattle.kospelna.specs.Frames.{frameFrom, flatFrame}
+use Rattle.kospelna.specs.declared.receive.FlatReceiver.{FlatReceiver}
+use Rattle.kospelna.specs.declared.receive.ReceiverAnswer.{ReceiverAnswer}
+use Rattle.kospelna.specs.declared.receive.ReceiverMade.{ReceiverMade}
+use Rattle.kospelna.specs.declared.receive.Report.{Report}
+use Rattle.receiver.specs.Told.{Outcome, quiet, refused, delivered, failed, short, Told, Heard}
+use Rattle.receiver.specs.declared.Connection.{Connection}
+use Rattle.receiver.specs.declared.Phase.{Phase}
+use Rattle.receiver.specs.declared.Phase.the-variants.{Idle, Done, Open}
+use Rattle.receiver.specs.declared.Receiver.{Receiver}
+use Rattle.receiver.specs.declared.Settings.{Settings}
+
+-- ---- reading
+
+abbrev pub connectionFrom : FlatReceiver → Connection
+connectionFrom r =
+    record {
+      frames = r .frames;
+      length = r .length;
+      expected = r .expected;
+      last = r .last;
+      wait = r .wait;
+      misses = r .misses;
+    }
+
+-- 1 Idle with the N and L last delivered, 2 Open; every other number is read as Idle
+unfoldable pub phaseFrom : FlatReceiver → Phase
+phaseFrom r =
+    pick (eqb (r .phase) 1) (Done (record { frames = r .frames; length = r .length }))
+    (pick (eqb (r .phase) 2) (Open (connectionFrom r)) Idle)
+
+abbrev pub receiverFrom : FlatReceiver → Receiver
+receiverFrom r =
+    record {
+      settings = record { timeout = r .timeout; window = r .window; capacity = r .capacity };
+      phase = phaseFrom r;
+    }
+
+-- ---- writing
+
+abbrev pub flatOf : Settings → ℕ → Connection → FlatReceiver
+flatOf settings phase x =
+    record {
+      timeout = settings .timeout;
+      window = settings .window;
+      capacity = settings .capacity;
+      phase = phase;
+      frames = x .frames;
+      length = x .length;
+      expected = x .expected;
+      last = x .last;
+      wait = x .wait;
+      misses = x .misses;
+    }
+
+-- N and L, and 0 for what a delivery has not
+abbrev pub remembering : ℕ → ℕ → Connection
+remembering frames length =
+    record { frames = frames; length = length; expected = 0; last = 0; wait = 0; misses = 0 }
+
+-- 0 Idle, 1 Idle with a delivery remembered, 2 Open
+unfoldable pub flatPhase : Settings → Phase → FlatReceiver
+flatPhase settings Idle = flatOf settings 0 (remembering 0 0)
+flatPhase settings (Done x) = flatOf settings 1 (remembering (x .frames) (x .length))
+flatPhase settings (Open x) = flatOf settings 2 x
+
+abbrev pub flatReceiver : Receiver → FlatReceiver
+flatReceiver r = flatPhase (r .settings) (r .phase)
+
+-- The flat receivers that writing makes: a known phase number, and 0 in what the phase has not.
+pub data Written (r : FlatReceiver) : Type 0 where
+  idle : r .phase ≡ 0 → connectionFrom r ≡ remembering 0 0 → Written r
+  done : r .phase ≡ 1 → connectionFrom r ≡ remembering (r .frames) (r .length) → Written r
+  opened : r .phase ≡ 2 → Written r
+
+-- ---- answers
+
+-- 0 quiet, 1 refused, 2 delivered, 3 failed, 4 short; the refusal's number or the cause; the delivered length
+unfoldable pub flatOutcome : Outcome → Report
+flatOutcome quiet = record { outcome = 0; number = 0; length = 0 }
+flatOutcome (refused number) = record { outcome = 1; number = number; length = 0 }
+flatOutcome (delivered length) = record { outcome = 2; number = 0; length = length }
+flatOutcome (failed cause) = record { outcome = 3; number = cause; length = 0 }
+flatOutcome short = record { outcome = 4; number = 0; length = 0 }
+
+abbrev pub answerOf : FlatReceiver → Told → Report → ReceiverAnswer
+answerOf next t r =
+    record {
+      next = next;
+      emits = t .emits;
+      frame = flatFrame (t .frame);
+      outcome = r .outcome;
+      number = r .number;
+      length = r .length;
+      bytes = t .bytes;
+    }
+
+unfoldable pub flatAnswer : Told → ReceiverAnswer
+flatAnswer t = answerOf (flatReceiver (t .next)) t (flatOutcome (t .outcome))
+
+-- all zeros, where no receiver was made
+abbrev pub noReceiver : FlatReceiver
+noReceiver = flatOf (record { timeout = 0; window = 0; capacity = 0 }) 0 (remembering 0 0)
+
+unfoldable pub flatMade : result.Result Receiver → ReceiverMade
+flatMade (result.accepted r) = record { made = true; number = 0; end = flatReceiver r }
+flatMade (result.refused number) = record { made = false; number = number; end = noReceiver }
+
+-- a hearing's answer, and the lent buffer as the hearing leaves it
+pub record FlatHeard : Type 0 where
+  pub answer : ReceiverAnswer
+  pub buffer : List ℕ
+
+abbrev pub hearing : ReceiverAnswer → List ℕ → FlatHeard
+hearing a buffer = record { answer = a; buffer = buffer }
+
+unfoldable pub flatHeard : Heard → FlatHeard
+flatHeard h = hearing (flatAnswer (h .told)) (h .buffer)
+
+-- ---- what a caller reads off an answer
+
+unfoldable pub outcomeFrom : Report → Outcome
+outcomeFrom r =
+    pick (eqb (r .outcome) 1) (refused (r .number))
+    (pick (eqb (r .outcome) 2) (delivered (r .length))
+    (pick (eqb (r .outcome) 3) (failed (r .number)) (pick (eqb (r .outcome) 4) short quiet)))
+
+unfoldable pub answerFrom : ReceiverAnswer → Told
+answerFrom a =
+    record {
+      next = receiverFrom (a .next);
+      emits = a .emits;
+      frame = frameFrom (a .frame);
+      outcome = outcomeFrom (record { outcome = a .outcome; number = a .number; length = a .length });
+      bytes = a .bytes;
+    }
+
+unfoldable pub madeFrom : ReceiverMade → result.Result Receiver
+madeFrom m = pick (m .made) (result.accepted (receiverFrom (m .end))) (result.refused (m .number))

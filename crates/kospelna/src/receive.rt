@@ -1,0 +1,262 @@
+// The receiver over C's layouts: each call reads the flat receiver, calls the receiver and writes its answer.
+ghost use mathlib.Core.Path.{_≡_};
+ghost use Rattle.kospelna.specs.Frames.{frameFrom};
+ghost use Rattle.kospelna.specs.Receive.{
+  connectionFrom,
+  phaseFrom,
+  receiverFrom,
+  flatOf,
+  remembering,
+  flatReceiver,
+  flatOutcome,
+  flatAnswer,
+  noReceiver,
+  flatMade,
+  hearing,
+  flatHeard,
+};
+ghost use Rattle.receiver.specs.Hear.{hearOf};
+ghost use Rattle.receiver.specs.Make.{makeOf};
+ghost use Rattle.receiver.specs.Tick.{tickOf};
+ghost use Rattle.receiver.specs.Told.{toldMade, toldOutcome, told};
+use crate::frames::FlatFrame;
+use crate::frames::read_frame;
+use crate::frames::write_frame;
+use receiver::Answer;
+use receiver::Connection;
+use receiver::Delivery;
+use receiver::Made;
+use receiver::Outcome;
+use receiver::Phase;
+use receiver::Receiver;
+use receiver::Settings;
+
+// A receiver: timeout T, window C and capacity K; the phase's number (0 Idle, 1 Idle with a delivery remembered, 2 Open;
+// any other is read as Idle); N and L; the frame expected, the window's last, wait and misses. What a phase has not is
+// written as 0 and not read.
+#[repr(C)]
+pub struct FlatReceiver {
+    pub timeout: u16,
+    pub window: u16,
+    pub capacity: u16,
+    pub phase: u8,
+    pub frames: u8,
+    pub length: u16,
+    pub expected: u8,
+    pub last: u8,
+    pub wait: u16,
+    pub misses: u16,
+}
+
+// What making answers: a receiver, or the refusal's number and zeros for the receiver.
+#[repr(C)]
+pub struct ReceiverMade {
+    pub made: bool,
+    pub number: u8,
+    pub end: FlatReceiver,
+}
+
+// What a call answers: the next state; whether a frame goes out, and which (zeros where none does); the outcome's number
+// (0 quiet, 1 refused, 2 delivered, 3 failed, 4 short); the refusal's number or the cause; the delivered length; the bytes
+// of a short delivery (zeros where there is none).
+#[repr(C)]
+pub struct ReceiverAnswer {
+    pub next: FlatReceiver,
+    pub emits: bool,
+    pub frame: FlatFrame,
+    pub outcome: u8,
+    pub number: u8,
+    pub length: u16,
+    pub bytes: [u8; 8],
+}
+
+// An outcome's numbers.
+pub(crate) struct Report {
+    pub outcome: u8,
+    pub number: u8,
+    pub length: u16,
+}
+
+fn read_connection(r: FlatReceiver) -> Connection
+    ensures { λ x. ⌜ x ≡ connectionFrom r ⌝ }
+{
+    Connection {
+        frames: r.frames,
+        length: r.length,
+        expected: r.expected,
+        last: r.last,
+        wait: r.wait,
+        misses: r.misses,
+    }
+}
+
+// By the phase's number; an unknown one is Idle.
+fn read_phase(r: FlatReceiver) -> Phase
+    ensures { λ p. ⌜ p ≡ phaseFrom r ⌝ }
+{
+    let phase = r.phase;
+    match phase {
+        1 => Phase::Done(Delivery {
+            frames: r.frames,
+            length: r.length,
+        }),
+        2 => Phase::Open(read_connection(r)),
+        _ => Phase::Idle,
+    }
+}
+
+fn read_receiver(r: FlatReceiver) -> Receiver
+    ensures { λ n. ⌜ n ≡ receiverFrom r ⌝ }
+{
+    let phase = read_phase(r);
+    Receiver {
+        settings: Settings {
+            timeout: r.timeout,
+            window: r.window,
+            capacity: r.capacity,
+        },
+        phase,
+    }
+}
+
+fn flat(settings: Settings, phase: u8, x: Connection) -> FlatReceiver
+    ensures { λ r. ⌜ r ≡ flatOf settings phase x ⌝ }
+{
+    FlatReceiver {
+        timeout: settings.timeout,
+        window: settings.window,
+        capacity: settings.capacity,
+        phase,
+        frames: x.frames,
+        length: x.length,
+        expected: x.expected,
+        last: x.last,
+        wait: x.wait,
+        misses: x.misses,
+    }
+}
+
+// Of a delivery N and L alone are known.
+fn remembering(frames: u8, length: u16) -> Connection
+    ensures { λ r. ⌜ r ≡ remembering frames length ⌝ }
+{
+    Connection {
+        frames,
+        length,
+        expected: 0,
+        last: 0,
+        wait: 0,
+        misses: 0,
+    }
+}
+
+fn write_receiver(r: Receiver) -> FlatReceiver
+    ensures { λ n. ⌜ n ≡ flatReceiver r ⌝ }
+{
+    let settings = r.settings;
+    let phase = r.phase;
+    match phase {
+        Phase::Idle => flat(settings, 0, remembering(0, 0)),
+        Phase::Done(x) => flat(settings, 1, remembering(x.frames, x.length)),
+        Phase::Open(x) => flat(settings, 2, x),
+    }
+}
+
+fn reported(outcome: u8, number: u8, length: u16) -> Report
+    ensures { λ r. ⌜ r ≡ record { outcome = outcome; number = number; length = length } ⌝ }
+{
+    Report {
+        outcome,
+        number,
+        length,
+    }
+}
+
+fn write_outcome(outcome: Outcome) -> Report
+    ensures { λ r. ⌜ r ≡ flatOutcome (toldOutcome outcome) ⌝ }
+{
+    match outcome {
+        Outcome::Quiet => reported(0, 0, 0),
+        Outcome::Refused(number) => reported(1, number, 0),
+        Outcome::Delivered(length) => reported(2, 0, length),
+        Outcome::Failed(cause) => reported(3, cause, 0),
+        Outcome::Short => reported(4, 0, 0),
+    }
+}
+
+fn write_answer(a: Answer) -> ReceiverAnswer
+    ensures { λ r. ⌜ r ≡ flatAnswer (told a) ⌝ }
+{
+    let next = write_receiver(a.next);
+    let frame = write_frame(a.frame);
+    let outcome = a.outcome;
+    let report = write_outcome(outcome);
+    let bytes = a.bytes;
+    ReceiverAnswer {
+        next,
+        emits: a.emits,
+        frame,
+        outcome: report.outcome,
+        number: report.number,
+        length: report.length,
+        bytes,
+    }
+}
+
+// Zeros, where no receiver was made.
+fn no_receiver() -> FlatReceiver
+    ensures { λ r. ⌜ r ≡ noReceiver ⌝ }
+{
+    let settings = Settings {
+        timeout: 0,
+        window: 0,
+        capacity: 0,
+    };
+    flat(settings, 0, remembering(0, 0))
+}
+
+fn write_made(m: Made) -> ReceiverMade
+    ensures { λ r. ⌜ r ≡ flatMade (toldMade m) ⌝ }
+{
+    match m {
+        Made::End(r) => ReceiverMade {
+            made: true,
+            number: 0,
+            end: write_receiver(r),
+        },
+        Made::Refused(number) => ReceiverMade {
+            made: false,
+            number,
+            end: no_receiver(),
+        },
+    }
+}
+
+// An idle receiver with these settings, nothing delivered.
+#[no_mangle]
+pub extern "C" fn kospelna_receiver_make(timeout: u16, window: u16, capacity: u16) -> ReceiverMade
+    ensures { λ r. ⌜ r ≡ flatMade (makeOf timeout window capacity) ⌝ }
+{
+    write_made(Receiver::make(timeout, window, capacity))
+}
+
+// A tick.
+#[no_mangle]
+pub extern "C" fn kospelna_receiver_tick(r: FlatReceiver) -> ReceiverAnswer
+    ensures { λ a. ⌜ a ≡ flatAnswer (tickOf (receiverFrom r)) ⌝ }
+{
+    write_answer(read_receiver(r).tick())
+}
+
+// A frame is heard, with the buffer lent.
+#[no_mangle]
+pub extern "C" fn kospelna_receiver_hear(
+    r: FlatReceiver,
+    f: FlatFrame,
+    buffer: &mut [u8],
+) -> ReceiverAnswer
+    ensures { λ a. ⌜ hearing a (now (buffer .exit))
+        ≡ flatHeard (hearOf (receiverFrom r) (frameFrom f) (now (buffer .entry))) ⌝ }
+{
+    write_answer(read_receiver(r).hear(read_frame(f), buffer))
+}
