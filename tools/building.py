@@ -14,7 +14,7 @@ import console
 ROOT = pathlib.Path(__file__).resolve().parent.parent
 CRATE = "play"
 PROGRAM = ROOT / "target" / "bin" / CRATE
-SLOW = 1  # seconds; what is proved sooner is not worth a line
+SLOW = 0.5  # seconds; what is proved sooner is not worth a line
 
 
 def levels():
@@ -123,7 +123,7 @@ def run_rt(words, jobs, progress):
         stderr=subprocess.STDOUT,
     ) as rt:
         while True:
-            if select.select([rt.stdout], [], [], 0.5)[0]:
+            if select.select([rt.stdout], [], [], 0.2)[0]:
                 piece = os.read(rt.stdout.fileno(), 65536)
                 if not piece:
                     break
