@@ -142,7 +142,7 @@ def build():
     progress = Progress(int(jobs))
     words = ["rt", "check", CRATE]
     status, said = run_rt(words, jobs, progress)
-    progress.finish("rt ended")
+    progress.finish("rt stopped" if status else "the player is built")
     if status:
         console.say(said.decode(errors="replace"), end="")
         raise console.Failure(f"the player could not be built: {' '.join(words)} ended with status {status}")

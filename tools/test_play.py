@@ -146,7 +146,8 @@ class Played(unittest.TestCase):
         for _ in range(300):
             pack = bytearray(EXAMPLE.read_bytes())
             for _ in range(draw.randint(1, 2)):
-                pack[draw.randrange(len(pack) if draw.random() < 0.7 else 23)] = draw.choice([0, 1, 3, 8, 9, 10, 11, 13, 255])
+                place = draw.randrange(len(pack) if draw.random() < 0.7 else 23)
+                pack[place] = draw.choice([0, 1, 3, 8, 9, 10, 11, 13, 255])
             if draw.random() < 0.1:
                 del pack[draw.randrange(len(pack)) :]
             fault = run_pack.refused(bytes(pack))
@@ -252,7 +253,7 @@ play: proving low (1 of 4), N s so far
 play: proving left (2 of 4), N s so far
 play: proving right (3 of 4), N s so far
 play: proving play (4 of 4), N s so far
-play: rt ended after N s
+play: the player is built after N s
 """
         self.assertEqual(re.sub(r"\d+ s\b", "N s", said), expected)
         seconds = list(map(int, re.findall(r"(\d+) s\b", said)))
@@ -284,7 +285,7 @@ play: rt ended after N s
         self.assertEqual(lines[0], "")
         self.assertRegex(lines[1], r"^play: proving left, right \(2 to 3 of 4\), \d s so far\x1b\[K$")
         self.assertTrue(any(re.match(r"play: proving play \(4 of 4\), \d s so far\x1b\[K$", line) for line in lines))
-        self.assertRegex("\r".join(lines[-2:]), r"^\x1b\[Kplay: rt ended after \d s\r\n$")
+        self.assertRegex("\r".join(lines[-2:]), r"^\x1b\[Kplay: the player is built after \d s\r\n$")
 
     def test_no_rt(self):
         self.assertFalse(shutil.which("rt", path="/usr/bin:/bin"), "this test needs a PATH without rt")
@@ -296,6 +297,9 @@ play: rt ended after N s
         self.assertEqual(self.play(path="/usr/bin:/bin"), (0, b"0 S played\n", ""))
 
     def test_a_build_that_fails(self):
+        _, _, said = self.play("low sleep left", status=1)
+        after = r"\nplay: rt stopped after \d s\nrt: low proved \(1 s\)\nrt: left proved \(1 s\)\nplay: the player could not"
+        self.assertRegex(said, after)
         said = "rt: low proved (1 s)\nplay: the player could not be built: rt check play ended with status 1\n"
         self.assertEqual(self.play("low", status=1), (2, b"", said))
 
