@@ -1,5 +1,6 @@
 //! A reference for the two transport ends of document 01, made apart from the product and from the
-//! document alone. Words in double quotes in the comments are document 01's.
+//! document alone. Each file names the chapter that it follows; a few words in double quotes are
+//! document 01's, and Chinese ones the cells of 001's tables.
 
 pub mod packs;
 pub mod reference;

@@ -1,7 +1,7 @@
 //! The sessions, as data: settings, message and events of one player run each.
 //!
-//! Events are the numbers of the chapter 'The player': "1, 2 sender, receiver tick; 3, 4, 5
-//! forward hear, lose, repeat; 6, 7, 8 back".
+//! Events are the numbers of the chapter "The player": 1 is a tick of the sender and 2 of the
+//! receiver; 3 to 5 are done to forward and 6 to 8 to back, each time hear, lose, repeat.
 
 use crate::reference::player::{build, Settings};
 

@@ -109,8 +109,7 @@ fn last_frame_again() {
 }
 
 /// Session 9: G 1, sender T 3, M 10, receiver T 3, C 1, K 9; 9 bytes 11 to 19 (hex); events 1 ten
-/// times, 4 4 4 3. Document 01: "Sender T 3, M 10, silence: frame 0 at begin, ticks 3, 6, NACK 2
-/// at 9".
+/// times, 4 4 4 3. An edge case of document 01.
 #[test]
 fn three_timeouts_sender() {
     check(

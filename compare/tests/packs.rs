@@ -77,7 +77,7 @@ fn restarts_wait(bench: &mut Bench, call: Call, message: &[u8], buffer: &mut [u8
     outcome
 }
 
-/// "silence when the last frame comes again after delivery"
+/// No answer to the last frame when it comes again after delivery.
 fn silent_at_last(bench: &mut Bench, call: Call, message: &[u8], buffer: &mut [u8]) -> Outcome {
     let back = bench.back.clone();
     let outcome = right(bench, call, message, buffer);

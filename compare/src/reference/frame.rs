@@ -2,13 +2,13 @@
 
 use super::{refusal, Refused};
 
-/// "Lengths 1 to 8 go short, 9 to 1785 long."
+/// The longest short message; "Lengths 1 to 8".
 pub const SHORT_MOST: usize = 8;
-/// "Lengths 1 to 8 go short, 9 to 1785 long."
+/// The least length of a long message.
 pub const LONG_LEAST: u16 = 9;
-/// "Lengths 1 to 8 go short, 9 to 1785 long."
+/// The greatest length of any message.
 pub const LONG_MOST: u16 = 1785;
-/// "Every hearing is lent a buffer of 1785 bytes."
+/// What a receiver's hearing is lent, room for the longest message.
 pub const BUFFER_LENGTH: usize = 1785;
 /// Message bytes in an information frame: "d1 to d7".
 pub const PER_FRAME: u16 = 7;
@@ -27,7 +27,7 @@ pub const CAUSE_NUMBER: u8 = 4;
 /// "5 bad announcement"
 pub const CAUSE_ANNOUNCEMENT: u8 = 5;
 
-/// "A frame is a kind (one byte) and eight data bytes d0 to d7, handed about by value."
+/// A kind, and d0 to d7 in their order.
 #[derive(Clone, Copy, Debug, PartialEq, Eq)]
 pub struct Frame {
     pub kind: u8,
@@ -37,25 +37,25 @@ pub struct Frame {
 /// What a read frame says.
 #[derive(Clone, Copy, Debug, PartialEq, Eq)]
 pub enum Content {
-    /// Kind 1. "Number 0 announces: d1 = N, d2 d3 = L."
+    /// Kind 1 with number 0: a transfer of l bytes in n frames is announced.
     Announcement { n: u8, l: u16 },
-    /// Kind 1. "Number i from 1 carries message bytes 7(i-1) onward in d1 to d7".
+    /// Kind 1 with another number: the i-th seven bytes of the message.
     Information { i: u8, bytes: [u8; 7] },
-    /// Kind 2. "LM_ACK: d0 = start s, d1 = count c."
+    /// Kind 2: c frames are asked for, from s on.
     LmAck { s: u8, c: u8 },
-    /// Kind 3. "LM_NACK: d0 = cause."
+    /// Kind 3.
     LmNack { cause: u8 },
-    /// Kind 4. "LM_EndofACK: d0 = N, d1 d2 = L."
+    /// Kind 4: a message of l bytes in n frames has come whole.
     EndofAck { n: u8, l: u16 },
-    /// Kind 5. "SM_RM ...: eight bytes".
+    /// Kind 5: a short message that asks for SM_ACK.
     SmRm([u8; 8]),
-    /// Kind 6. "SM_ACK: d0 = first byte of the message acknowledged."
+    /// Kind 6: the short message that begins with this byte has come.
     SmAck { first: u8 },
-    /// Kind 7. "SM_URM: eight bytes".
+    /// Kind 7: a short message that asks for nothing.
     SmUrm([u8; 8]),
 }
 
-/// "N = L / 7 rounded up."
+/// N of a length L.
 pub fn frames_for(l: u16) -> u16 {
     l.div_ceil(PER_FRAME)
 }
@@ -65,14 +65,14 @@ fn word(low: u8, high: u8) -> u16 {
     u16::from_le_bytes([low, high])
 }
 
-/// Reads a frame. "6 kind not 1 to 7, or filler not 0xFF (never judged in kind 1 from number 1,
-/// nor kinds 5, 7)".
+/// Reads a frame: refusal 6 for an unknown kind, and for a byte other than 0xFF where the kind names
+/// none. Frames that carry message bytes have no such places.
 pub fn read(frame: Frame) -> Result<Content, Refused> {
     let d = frame.data;
-    // How many bytes are named; "Unnamed bytes are 0xFF filler".
+    // How many bytes are named.
     let named = match frame.kind {
         1 if d[0] == 0 => 4, // d0 number, d1 N, d2 d3 L
-        1 | 5 | 7 => 8,      // never judged
+        1 | 5 | 7 => 8,      // message bytes to the end
         2 => 2,              // d0 s, d1 c
         3 | 6 => 1,          // d0
         4 => 3,              // d0 N, d1 d2 L
@@ -102,7 +102,7 @@ pub fn read(frame: Frame) -> Result<Content, Refused> {
     })
 }
 
-/// A frame of this kind with these bytes first, at most eight, "filled with 0xFF".
+/// A frame of this kind with these bytes first, at most eight, and filler after them.
 fn filled(kind: u8, bytes: &[u8]) -> Frame {
     let mut data = [FILLER; 8];
     for (place, &byte) in data.iter_mut().zip(bytes) {
@@ -111,14 +111,14 @@ fn filled(kind: u8, bytes: &[u8]) -> Frame {
     Frame { kind, data }
 }
 
-/// "Number 0 announces: d1 = N, d2 d3 = L."
+/// Information, number 0.
 pub fn announcement(n: u8, l: u16) -> Frame {
     let [low, high] = l.to_le_bytes();
     filled(1, &[0, n, low, high])
 }
 
-/// "Number i from 1 carries message bytes 7(i-1) onward in d1 to d7, the last frame filled with
-/// 0xFF."
+/// Information, number i from 1: seven bytes of the message behind those of the i - 1 frames before;
+/// filler where the message ends sooner.
 pub fn information(i: u8, message: &[u8]) -> Frame {
     let start = usize::from(PER_FRAME) * usize::from(i).saturating_sub(1);
     let mut bytes = vec![i];
@@ -126,33 +126,33 @@ pub fn information(i: u8, message: &[u8]) -> Frame {
     filled(1, &bytes)
 }
 
-/// "LM_ACK: d0 = start s, d1 = count c."
+/// Kind 2.
 pub fn lm_ack(s: u8, c: u8) -> Frame {
     filled(2, &[s, c])
 }
 
-/// "LM_NACK: d0 = cause."
+/// Kind 3.
 pub fn lm_nack(cause: u8) -> Frame {
     filled(3, &[cause])
 }
 
-/// "LM_EndofACK: d0 = N, d1 d2 = L."
+/// Kind 4.
 pub fn endof_ack(n: u8, l: u16) -> Frame {
     let [low, high] = l.to_le_bytes();
     filled(4, &[n, low, high])
 }
 
-/// "SM_RM ...: eight bytes, a shorter message filled with 0xFF."
+/// Kind 5.
 pub fn sm_rm(message: &[u8]) -> Frame {
     filled(5, message)
 }
 
-/// "SM_ACK: d0 = first byte of the message acknowledged."
+/// Kind 6.
 pub fn sm_ack(first: u8) -> Frame {
     filled(6, &[first])
 }
 
-/// "SM_URM: eight bytes, a shorter message filled with 0xFF."
+/// Kind 7.
 pub fn sm_urm(message: &[u8]) -> Frame {
     filled(7, message)
 }

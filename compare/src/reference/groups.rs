@@ -2,8 +2,8 @@
 
 use super::{refusal, Refused};
 
-/// A row of "Groups (code: length): 71:2, 72:4, 73:6, 74:5, 75:4, 76:5, 77:7, 78:2, 79:2
-/// (hexadecimal codes)". "72, 73, 74, 77, 79 come from the vehicle; 78, 79 are reliable."
+/// A group's code, its length with the code, whether the vehicle sends it (the charger otherwise),
+/// and whether it needs an acknowledgement: "Around the transport", "Groups (code: length)".
 #[derive(Clone, Copy, Debug, PartialEq, Eq)]
 pub struct Row {
     pub code: u8,
@@ -33,7 +33,7 @@ pub const ROWS: [Row; 9] = [
     row(0x79, 2, true, true),
 ];
 
-/// "Only the fields of 77 may be missing (invalid or abnormal marks)."
+/// A field of 0x77, the one group with marks for a value that is not there.
 #[derive(Clone, Copy, Debug, PartialEq, Eq)]
 pub enum Reading<T> {
     Value(T),
@@ -97,8 +97,8 @@ pub fn row_of(code: u8) -> Option<Row> {
     ROWS.into_iter().find(|row| row.code == code)
 }
 
-/// "A group is read from ... eight lent bytes, 0xFF after its own length; another lent length is
-/// 9." "9 code, length or filler; 10 value".
+/// Reads a group. Refusal 9 unless eight bytes are lent that begin with a known code and hold 0xFF
+/// behind the group's own; then 10 where a field is outside its range.
 pub fn read(lent: &[u8]) -> Result<Group, Refused> {
     let Ok(bytes) = <[u8; 8]>::try_from(lent) else {
         return Err(refusal::GROUP);
@@ -151,8 +151,8 @@ pub fn read(lent: &[u8]) -> Result<Group, Refused> {
     })
 }
 
-/// "A group is ... written to eight lent bytes, 0xFF after its own length; another lent length is
-/// 9." A refused write leaves the lent bytes as they are.
+/// Writes a group over eight lent bytes, with 0xFF behind its own. Refusal 9 where another number
+/// of bytes is lent, then 10 for a field; a refused write leaves the lent bytes as they are.
 pub fn write(group: Group, lent: &mut [u8]) -> Result<(), Refused> {
     if lent.len() != 8 {
         return Err(refusal::GROUP);

@@ -1,10 +1,11 @@
-//! "Identifier, high bit first: P 3 bits, EDP, DP, PF 8, PS 8, SA 8. SECC is 0x56, EVCC 0xF4."
+//! The 29-bit identifier of "Around the transport": from its highest bit on, three bits of P, one
+//! each of EDP and DP, eight each of PF, PS and SA.
 
 use super::{refusal, Refused};
 
-/// "SECC is 0x56"
+/// The charger's address.
 pub const SECC: u8 = 0x56;
-/// "EVCC 0xF4"
+/// The vehicle's address.
 pub const EVCC: u8 = 0xF4;
 
 /// The parts of an identifier, before and after judging alike, so wide enough to be over width.
@@ -18,7 +19,7 @@ pub struct Parts {
     pub sa: u32,
 }
 
-/// "8 over 29 bits, ... or EDP or DP not 0"
+/// Refusal 8 for a number of more than 29 bits, and for a set EDP or DP.
 pub fn read(identifier: u32) -> Result<Parts, Refused> {
     if identifier >> 29 != 0 {
         return Err(refusal::IDENTIFIER);
@@ -37,7 +38,7 @@ pub fn read(identifier: u32) -> Result<Parts, Refused> {
     Ok(parts)
 }
 
-/// "8 ... a part over its width, or EDP or DP not 0"
+/// Refusal 8 for a part that its bits cannot hold, and for a set EDP or DP.
 pub fn build(parts: Parts) -> Result<u32, Refused> {
     let Parts {
         p,

@@ -7,7 +7,7 @@ use super::receiver::{self, Receiver};
 use super::sender::{self, Sender};
 use super::Refused;
 
-/// One of the "Two lists of frames, forward and back, empty at first."
+/// One direction of the line: the frames on their way, the oldest first.
 #[derive(Clone, Debug, Default, PartialEq, Eq)]
 pub struct List {
     frames: VecDeque<Frame>,
@@ -36,17 +36,17 @@ impl List {
         }
     }
 
-    /// "Hear takes the first away and gives it to the far end".
+    /// The oldest frame, taken off the list for the far end.
     pub fn hear(&mut self) -> Option<Frame> {
         self.frames.pop_front()
     }
 
-    /// "lose drops it"
+    /// The oldest frame goes, and no end sees it.
     pub fn lose(&mut self) {
         self.frames.pop_front();
     }
 
-    /// "repeat gives it and keeps it."
+    /// The oldest frame for the far end, which stays on the list.
     pub fn repeat(&self) -> Option<Frame> {
         self.frames.front().copied()
     }
@@ -60,8 +60,7 @@ impl List {
     }
 }
 
-/// "The calls are begin, sender tick, receiver tick, and hear, lose and repeat on forward or back,
-/// in any order".
+/// What can be done on the bench: demand 3's calls.
 #[derive(Clone, Copy, Debug, PartialEq, Eq)]
 pub enum Call {
     Begin,
@@ -114,13 +113,13 @@ impl Bench {
         }
     }
 
-    /// "The line is empty when forward and back both are."
+    /// Nothing is on its way, in either direction.
     pub fn line_is_empty(&self) -> bool {
         self.forward.is_empty() && self.back.is_empty()
     }
 
-    /// One call. "A refused call stands in the list too, whatever it is lent: ends and buffer
-    /// stay; a frame that hear gave is gone, one that repeat gave is still first."
+    /// One call. Where it is refused, the ends and the buffer are left alone; hearing has taken its
+    /// frame off the line all the same, and repeating has not.
     pub fn call(
         &mut self,
         call: Call,

@@ -9,7 +9,7 @@ pub mod receiver;
 pub mod sender;
 pub mod version;
 
-/// "A refusal returns its number, no frame and no report."
+/// A refused call: its number is all that comes back.
 #[derive(Clone, Copy, Debug, PartialEq, Eq)]
 pub struct Refused(pub u8);
 
@@ -17,28 +17,28 @@ pub struct Refused(pub u8);
 pub mod refusal {
     use super::Refused;
 
-    /// "making an end: 1 setting"
+    /// Making an end with a setting outside its limits.
     pub const SETTING: Refused = Refused(1);
-    /// "2 length 0 or over 1785 (post: over 8)"
+    /// Begin or post with no bytes, or with more than it takes: 1785, and 8 for post.
     pub const LENGTH: Refused = Refused(2);
-    /// "3 sender not Idle (begin only)"
+    /// Begin while a transfer is under way.
     pub const NOT_IDLE: Refused = Refused(3);
-    /// "4 lent length is not the begun one"
+    /// A sender's tick lent fewer or more bytes than the message has.
     pub const LENT_LENGTH: Refused = Refused(4);
-    /// "5 buffer not 1785 (receiver)"
+    /// A receiver's hearing lent a buffer of another length.
     pub const BUFFER: Refused = Refused(5);
-    /// "6 kind not 1 to 7, or filler not 0xFF"
+    /// A frame of no known kind, or with something in place of filler.
     pub const FRAME: Refused = Refused(6);
-    /// "7 kind for the other end"
+    /// A frame that the far end should have heard.
     pub const OTHER_END: Refused = Refused(7);
-    /// "8 over 29 bits, a part over its width, or EDP or DP not 0"
+    /// An identifier that is too large, has a part too large, or EDP or DP set.
     pub const IDENTIFIER: Refused = Refused(8);
-    /// "9 code, length or filler"
+    /// A group of no known code, in bytes that are not eight, or with something in place of filler.
     pub const GROUP: Refused = Refused(9);
-    /// "10 value"; for a version message "10 CAN type not 0 or result over 2"
+    /// A group's field outside its range; a version message of another CAN type or result.
     pub const VALUE: Refused = Refused(10);
-    /// "11 not 1 to 8 strictly rising versions"
+    /// A list of no versions, of more than eight, or with one that is not above the one before.
     pub const VERSIONS: Refused = Refused(11);
-    /// "run pack: 12"
+    /// A run pack that breaks a rule of its form.
     pub const PACK: Refused = Refused(12);
 }

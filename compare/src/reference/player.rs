@@ -8,13 +8,13 @@ use super::receiver::{self, Receiver};
 use super::sender::{self, Sender};
 use super::{refusal, Refused};
 
-/// "Its line loses a frame that finds 64 before it."
+/// So many frames a direction of the player's line holds; one that comes to them is lost.
 pub const LINE_ROOM: usize = 64;
 /// "the whole pack at most 65535 bytes"
 pub const PACK_MOST: usize = 65535;
-/// "one count byte, 3; a contents table of offset ... and length (a word each) for each body"
+/// The count of bodies, and an offset and a length for each of the three.
 const HEAD: usize = 1 + 3 * 4;
-/// "settings (G byte, sender T, M, receiver T words, C byte, K word)"
+/// G, the sender's T, M, the receiver's T, C and K, in their widths.
 const SETTINGS_LENGTH: usize = 1 + 2 + 2 + 2 + 1 + 2;
 
 /// The settings body, not yet held to its limits.
@@ -36,8 +36,7 @@ pub struct Run {
     pub events: Vec<Call>,
 }
 
-/// The call of an event: "events (1, 2 sender, receiver tick; 3, 4, 5 forward hear, lose, repeat;
-/// 6, 7, 8 back)".
+/// The call of an event's number, if it has one.
 pub fn event(number: u8) -> Option<Call> {
     Some(match number {
         1 => Call::SenderTick,
@@ -66,8 +65,8 @@ fn read_shape(pack: &[u8]) -> Option<Run> {
     if *pack.first()? != 3 {
         return None;
     }
-    // "a contents table of offset from the pack's start and length (a word each) for each body;
-    // then the bodies without gaps to the end"
+    // Each row of the table has to name the place where the body before ends, and the last body ends
+    // with the pack.
     let table = pack.get(1..HEAD)?;
     let mut bodies = Vec::new();
     let mut place = HEAD;
@@ -181,9 +180,8 @@ where
     Ok(lines)
 }
 
-/// "per frame: event number (0 is begin), end, kind, data; then any report, after event number and
-/// end: `sent ticks frames`, `failed cause ticks frames`, for R `delivered L`, `failed cause`,
-/// `short` with its bytes."
+/// The lines of one event: first the frame that it emitted, then the report that it gave, each under
+/// the event's number and the letter of the end.
 fn print(lines: &mut String, number: usize, outcome: Outcome) {
     match outcome {
         Outcome::Nothing => {}

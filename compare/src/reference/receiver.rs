@@ -3,15 +3,14 @@
 use super::frame::{self, Content, Frame};
 use super::{refusal, Refused};
 
-/// "State: Idle, perhaps with the N and L last delivered; or Open with expected e and window end
-/// w."
+/// No connection, and what the last one delivered if that is remembered; or the open connection.
 #[derive(Clone, Copy, Debug, PartialEq, Eq)]
 pub enum State {
     Idle { delivered: Option<Delivered> },
     Open(Connection),
 }
 
-/// "the N and L last delivered"
+/// N and L of a delivered message.
 #[derive(Clone, Copy, Debug, PartialEq, Eq)]
 pub struct Delivered {
     pub n: u8,
@@ -22,15 +21,16 @@ pub struct Delivered {
 pub struct Connection {
     pub n: u8,
     pub l: u16,
-    /// expected e
+    /// The number of the frame expected next.
     pub e: u8,
-    /// window end w
+    /// The number of the last frame asked for.
     pub w: u8,
     pub wait: u16,
     pub misses: u16,
 }
 
-/// "for R `delivered L`, `failed cause`, `short` with its bytes"
+/// What the receiver tells its caller: a long message is in the buffer, a connection is lost, or
+/// these eight bytes came short.
 #[derive(Clone, Copy, Debug, PartialEq, Eq)]
 pub enum Report {
     Delivered { l: u16 },
@@ -55,7 +55,7 @@ impl Answer {
 
 #[derive(Clone, Debug, PartialEq, Eq)]
 pub struct Receiver {
-    /// "T as above (its own)"
+    /// T, set apart from the sender's
     pub timeout: u16,
     /// "window C 1 to 255"
     pub window: u8,
@@ -65,8 +65,7 @@ pub struct Receiver {
 }
 
 impl Receiver {
-    /// "Settings: T as above (its own), window C 1 to 255, capacity K 9 to 1785." Refusal 1
-    /// otherwise.
+    /// A receiver that has heard nothing; refusal 1 for a setting outside its limits.
     pub fn make(timeout: u16, window: u8, capacity: u16) -> Result<Receiver, Refused> {
         let within = (1..=10000).contains(&timeout)
             && window >= 1
@@ -93,15 +92,15 @@ impl Receiver {
             self.state = State::Open(open);
             return Answer::default();
         }
-        // "At T, wait is 0 and misses grows by 1;"
+        // A miss: the wait begins anew.
         open.wait = 0;
         open.misses = open.misses.saturating_add(1);
-        // "the third emits NACK 2 and fails;"
+        // The third in a row closes the connection.
         if open.misses == 3 {
             let nack = frame::lm_nack(frame::CAUSE_TIMEOUTS);
             return self.fail(frame::CAUSE_TIMEOUTS, Some(nack));
         }
-        // "before it w as above and LM_ACK e, w - e + 1."
+        // The first two ask for a whole window from the frame expected on, or for what is left.
         open.w = self.window_end(open.e, open.n);
         self.state = State::Open(open);
         Answer::frame(ask(&open))
@@ -123,12 +122,11 @@ impl Receiver {
                 // "Tick or LM_NACK, Idle: nothing."
                 State::Idle { .. } => Answer::default(),
             }),
-            // "SM_RM: SM_ACK and a short delivery of its eight bytes; ... State and buffer stay."
+            // Short messages are delivered as they come, beside any connection; SM_RM is acknowledged.
             Content::SmRm(bytes) => Ok(Answer {
                 frame: Some(frame::sm_ack(bytes[0])),
                 report: Some(Report::Short(bytes)),
             }),
-            // "SM_URM: a delivery only. State and buffer stay."
             Content::SmUrm(bytes) => Ok(Answer {
                 frame: None,
                 report: Some(Report::Short(bytes)),
@@ -142,18 +140,17 @@ impl Receiver {
     fn hear_announcement(&mut self, n: u8, l: u16) -> Answer {
         match self.state {
             State::Idle { .. } => {
-                // "Frame 0, Idle: unless L is 9 to 1785 and N fits it, NACK 5;"
+                // First the announcement has to make sense: a long length, and its own N.
                 let good = (frame::LONG_LEAST..=frame::LONG_MOST).contains(&l)
                     && u16::from(n) == frame::frames_for(l);
                 if !good {
                     return Answer::frame(frame::lm_nack(frame::CAUSE_ANNOUNCEMENT));
                 }
-                // "then if L > K, NACK 1; both change nothing."
+                // Then there has to be space. Neither NACK changes the state.
                 if l > self.capacity {
                     return Answer::frame(frame::lm_nack(frame::CAUSE_NO_SPACE));
                 }
-                // "Else Open, e = 1, w the smaller of C and N, wait and misses 0, emits LM_ACK 1,
-                // w; the last delivery is forgotten."
+                // The connection opens and asks for its first window; a remembered delivery goes.
                 let w = self.window.min(n);
                 self.state = State::Open(Connection {
                     n,
@@ -165,8 +162,8 @@ impl Receiver {
                 });
                 Answer::frame(frame::lm_ack(1, w))
             }
-            // "Frame 0, Open: with the same N and L and e = 1, LM_ACK 1, w again, nothing else;
-            // otherwise ignored."
+            // The same announcement before any frame came: its LM_ACK was lost, so it goes again, and
+            // wait and misses stand. Any other is passed over.
             State::Open(open) => {
                 if n == open.n && l == open.l && open.e == 1 {
                     Answer::frame(frame::lm_ack(1, open.w))
@@ -179,7 +176,7 @@ impl Receiver {
 
     fn hear_information(&mut self, i: u8, bytes: [u8; 7], buffer: &mut [u8]) -> Answer {
         let mut open = match self.state {
-            // "Frame i from 1, Idle: EndofACK if i is the last delivered N, else ignored."
+            // The last frame of what was delivered comes again: its EndofACK was lost.
             State::Idle { delivered } => {
                 return match delivered {
                     Some(last) if i == last.n => Answer::frame(frame::endof_ack(last.n, last.l)),
@@ -188,17 +185,17 @@ impl Receiver {
             }
             State::Open(open) => open,
         };
-        // "Frame i, Open: i > N emits NACK 4, closes, failed."
+        // A number that the message does not have closes the connection.
         if i > open.n {
             let nack = frame::lm_nack(frame::CAUSE_NUMBER);
             return self.fail(frame::CAUSE_NUMBER, Some(nack));
         }
-        // "i other than e is ignored." The wait is not restarted.
+        // Only the frame expected is taken; the wait goes on over any other.
         if i != open.e {
             return Answer::default();
         }
-        // "i = e: its message bytes go to that part of the buffer, from place 7(i-1) on, the rest
-        // stays;" Message bytes are those before L, so filler is not copied.
+        // Its bytes are copied behind those of the frames before. Message bytes are those before L,
+        // so filler is not copied.
         let start = usize::from(frame::PER_FRAME) * usize::from(i).saturating_sub(1);
         let count = usize::from(open.l).saturating_sub(start).min(bytes.len());
         for (place, &byte) in buffer.iter_mut().skip(start).zip(&bytes[..count]) {
@@ -221,8 +218,7 @@ impl Receiver {
                 report: Some(Report::Delivered { l: open.l }),
             };
         }
-        // "At w: e grows by 1, w is the smaller of e + C - 1 and N, LM_ACK e, w - e + 1. Else e
-        // grows by 1."
+        // At the window's end the next window is asked for; within it the next frame is on its way.
         let at_window_end = i == open.w;
         open.e = open.e.saturating_add(1);
         if at_window_end {

@@ -7,30 +7,29 @@ use super::{refusal, Refused};
 #[derive(Clone, Copy, Debug, PartialEq, Eq)]
 pub enum Phase {
     Idle,
-    /// "long emits frame 0 and is Opening"
+    /// A long transfer is announced, and no LM_ACK has been taken.
     Opening,
-    /// "Sending from s to the smaller of s + c - 1 and N": the next frame to go and the last.
+    /// A window is being sent: the next frame to go and the last.
     Sending {
         next: u8,
         last: u8,
     },
-    /// "after the window's last, Waiting"; `last` is the window's last frame.
+    /// The window is sent; `last` is its last frame.
     Waiting {
         last: u8,
     },
-    /// "short emits SM_RM and is Short"
+    /// A short transfer.
     Short,
 }
 
-/// "A report carries the ticks and the frames emitted since begin, the begin's and the closing one
-/// included."
+/// How a transfer went: its ticks, and its frames from the first to the closing NACK.
 #[derive(Clone, Copy, Debug, PartialEq, Eq)]
 pub enum Report {
     Sent { ticks: u16, frames: u16 },
     Failed { cause: u8, ticks: u16, frames: u16 },
 }
 
-/// What a call that is not refused gives. "A call emits at most one frame."
+/// What a call that is not refused gives.
 #[derive(Clone, Copy, Debug, Default, PartialEq, Eq)]
 pub struct Answer {
     pub frame: Option<Frame>,
@@ -61,8 +60,7 @@ pub struct Sender {
 }
 
 impl Sender {
-    /// "Settings: gap G 1 to 10, timeout T 1 to 10000, sending time M 1 to 60000, in ticks."
-    /// Refusal 1 otherwise.
+    /// An Idle sender; refusal 1 for a setting outside its limits.
     pub fn make(gap: u8, timeout: u16, sending_time: u16) -> Result<Sender, Refused> {
         let within = (1..=10).contains(&gap)
             && (1..=10000).contains(&timeout)
@@ -86,7 +84,7 @@ impl Sender {
         })
     }
 
-    /// "3 sender not Idle (begin only); 2 length 0 or over 1785".
+    /// Starts a transfer. Refusal 3 while another is under way, before refusal 2 for the length.
     pub fn begin(&mut self, message: &[u8]) -> Result<Answer, Refused> {
         if self.phase != Phase::Idle {
             return Err(refusal::NOT_IDLE);
@@ -96,15 +94,14 @@ impl Sender {
         }
         self.length = message.len() as u16;
         self.first = message[0];
-        // "age, wait and misses are 0 and no start has been taken."
+        // All counts begin anew.
         self.age = 0;
         self.wait = 0;
         self.misses = 0;
         self.start = None;
         self.gap_count = 0;
         self.frames = 0;
-        // "Begin: long emits frame 0 and is Opening; short emits SM_RM and is Short."
-        // "Lengths 1 to 8 go short, 9 to 1785 long."
+        // A message that fits one frame goes whole, a longer one is announced.
         if message.len() <= frame::SHORT_MOST {
             self.phase = Phase::Short;
             Ok(self.emit(frame::sm_rm(message)))
@@ -114,7 +111,8 @@ impl Sender {
         }
     }
 
-    /// "Tick (Idle: nothing)"; "sender tick, not Idle: 4 lent length is not the begun one".
+    /// A tick. Idle does nothing and judges nothing; otherwise refusal 4 unless as many bytes are lent
+    /// as were begun with.
     pub fn tick(&mut self, message: &[u8]) -> Result<Answer, Refused> {
         if self.phase == Phase::Idle {
             return Ok(Answer::default());
@@ -122,9 +120,8 @@ impl Sender {
         if message.len() != usize::from(self.length) {
             return Err(refusal::LENT_LENGTH);
         }
-        // "age grows by 1."
         self.age = self.age.saturating_add(1);
-        // "If age = M, a long transfer emits NACK 3, a short one nothing; failed, cause 3."
+        // The sending time is over: nothing else happens at this tick. A short transfer has no NACK.
         if self.age == self.sending_time {
             let closing = match self.phase {
                 Phase::Short => None,
@@ -132,16 +129,12 @@ impl Sender {
             };
             return Ok(self.fail(frame::CAUSE_SENDING_TIME, closing));
         }
-        // "Otherwise:"
         Ok(match self.phase {
             Phase::Idle => Answer::default(),
-            // "Opening and Waiting: wait grows by 1. At T, wait is 0 and misses grows by 1; at the
-            // third miss NACK 2 and failed; before it, frame 0 again (Opening) or the window's
-            // last frame (Waiting)."
+            // Both wait for the receiver, and differ in the frame that goes again at a miss.
             Phase::Opening => self.await_answer(self.announcement()),
             Phase::Waiting { last } => self.await_answer(frame::information(last, message)),
-            // "Sending: gap count grows by 1. At G it is 0 and the next frame goes out; after the
-            // window's last, Waiting with wait 0."
+            // A frame goes out at every G-th tick; the window's last one begins the wait.
             Phase::Sending { next, last } => {
                 self.gap_count = self.gap_count.saturating_add(1);
                 if self.gap_count != u16::from(self.gap) {
@@ -159,7 +152,7 @@ impl Sender {
                 }
                 self.emit(frame::information(next, message))
             }
-            // "Short: wait grows by 1. At T, wait is 0 and SM_RM goes again."
+            // SM_RM goes again at every timeout, and no misses are counted.
             Phase::Short => {
                 self.wait = self.wait.saturating_add(1);
                 if self.wait != self.timeout {
@@ -171,19 +164,18 @@ impl Sender {
         })
     }
 
-    /// "Hearing". Refusals "6 ...; 7 kind for the other end (sender takes 2, 3, 4, 6 ...)", before
-    /// any look at the state.
+    /// Hearing. Refusals 6 and 7 come before any look at the state.
     pub fn hear(&mut self, heard: Frame) -> Result<Answer, Refused> {
         let content = frame::read(heard)?;
         match content {
             Content::LmAck { s, c } => Ok(self.hear_lm_ack(s, c)),
-            // "LM_NACK in a long transfer: failed, cause 1."
+            // A NACK ends a long transfer, whatever its cause; the report has 1.
             Content::LmNack { .. } => Ok(if self.long() {
                 self.fail(frame::CAUSE_NO_SPACE, None)
             } else {
                 Answer::default()
             }),
-            // "EndofACK in Sending or Waiting with this N and L: sent."
+            // EndofACK ends a transfer once a window has been asked for, if it names this message.
             Content::EndofAck { n, l } => Ok(match self.phase {
                 Phase::Sending { .. } | Phase::Waiting { .. }
                     if u16::from(n) == frame::frames_for(self.length) && l == self.length =>
@@ -192,7 +184,7 @@ impl Sender {
                 }
                 _ => Answer::default(),
             }),
-            // "SM_ACK in Short with the message's first byte: sent."
+            // SM_ACK ends a short transfer, if it names this message.
             Content::SmAck { first } => Ok(if self.phase == Phase::Short && first == self.first {
                 self.sent()
             } else {
@@ -206,8 +198,7 @@ impl Sender {
         }
     }
 
-    /// "Post emits one SM_URM, changes nothing and is not counted." Refusal "2 length 0 or ...
-    /// (post: over 8)".
+    /// Sends a message that nobody acknowledges, beside any transfer. Refusal 2 for the length.
     pub fn post(&self, message: &[u8]) -> Result<Answer, Refused> {
         if message.is_empty() || message.len() > frame::SHORT_MOST {
             return Err(refusal::LENGTH);
@@ -219,7 +210,7 @@ impl Sender {
     }
 
     fn hear_lm_ack(&mut self, s: u8, c: u8) -> Answer {
-        // "LM_ACK in Opening, Sending or Waiting:" ... "All else is ignored."
+        // Only a long transfer takes it.
         if !self.long() {
             return Answer::default();
         }
@@ -239,21 +230,21 @@ impl Sender {
             // "Opening ignores s other than 1."
             Phase::Opening if s != 1 => return Answer::default(),
             Phase::Opening => {}
-            // "In Sending or Waiting an s below the last start taken is ignored."
+            // Later a start may not go back behind the one taken last.
             _ => {
                 if self.start.is_some_and(|start| s < start) {
                     return Answer::default();
                 }
             }
         }
-        // "Otherwise: Sending from s to the smaller of s + c - 1 and N, gap count 0."
+        // The window begins at s and has c frames, or as many as the message has left.
         let last = (u16::from(s) + u16::from(c) - 1).min(n);
         self.phase = Phase::Sending {
             next: s,
             last: last.min(255) as u8,
         };
         self.gap_count = 0;
-        // "misses becomes 0, except where s equals the last start taken."
+        // A window asked for again is no progress: its misses stand.
         if self.start != Some(s) {
             self.misses = 0;
         }
@@ -311,8 +302,7 @@ impl Sender {
         }
     }
 
-    /// "A failure that emits a NACK reports that NACK's cause." The closing frame is counted. "The
-    /// sender is then Idle."
+    /// A transfer that ended without success. The closing frame is counted.
     fn fail(&mut self, cause: u8, closing: Option<Frame>) -> Answer {
         if closing.is_some() {
             self.frames = self.frames.saturating_add(1);

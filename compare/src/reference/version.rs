@@ -6,9 +6,9 @@ use super::{refusal, Refused};
 /// first.
 pub type Version = [u8; 3];
 
-/// "any agreed version below 2.0.0 ends in S2"
+/// Both sides agreed on a version of category A where it is lower than this, and end in S2.
 const TWO: Version = [2, 0, 0];
-/// "A failure names version FF FF FF"
+/// What stands in a failure in place of a version.
 const NO_VERSION: Version = [0xFF; 3];
 /// T1 of tables 8 and 9: 50 ms, "ticks of 1 ms".
 pub const PERIOD: u16 = 50;
@@ -53,8 +53,8 @@ pub struct Message {
     pub version: Version,
 }
 
-/// "10 CAN type not 0 or result over 2". "Control-pilot, transport-version and reserved bytes are
-/// not judged".
+/// Reads a message. Refusal 10 for another CAN type than 0, and for a result that there is not; the
+/// three bytes behind the version may hold anything.
 pub fn read(bytes: [u8; 8]) -> Result<Message, Refused> {
     if bytes[0] != 0 {
         return Err(refusal::VALUE);
@@ -65,7 +65,8 @@ pub fn read(bytes: [u8; 8]) -> Result<Message, Refused> {
     })
 }
 
-/// "they are written as the caller's byte, 0x01 and 0xFF. A failure names version FF FF FF".
+/// Writes a message: CAN type 0, result and version, then the caller's control-pilot version,
+/// transport version 0x01, and 0xFF in the reserved byte.
 pub fn build(message: Message, pilot: u8) -> [u8; 8] {
     let [main, minor, temporary] = match message.outcome {
         Outcome::Failure => NO_VERSION,
@@ -83,7 +84,8 @@ pub fn build(message: Message, pilot: u8) -> [u8; 8] {
     ]
 }
 
-/// "11 not 1 to 8 strictly rising versions"
+/// Refusal 11 for a list of no versions or of more than eight, and for one in which a version is not
+/// above the one before.
 pub fn check_list(versions: &[Version]) -> Result<(), Refused> {
     let rising = versions.windows(2).all(|pair| pair[0] < pair[1]);
     if !(1..=8).contains(&versions.len()) || !rising {
@@ -139,7 +141,7 @@ pub enum State {
 #[derive(Clone, Debug, PartialEq, Eq)]
 pub struct Talker {
     pub side: Side,
-    /// CvList or EvList, "own versions rising".
+    /// CvList or EvList, the lowest first.
     pub versions: Vec<Version>,
     /// "the caller's byte" for the control-pilot version.
     pub pilot: u8,
@@ -202,8 +204,8 @@ impl Talker {
         }
         self.limit = self.limit.saturating_add(1);
         self.period = self.period.saturating_add(1);
-        // "At one tick the 15 s limit goes before the period." Only S1 has a step for Tout0: 进入
-        // S4. The row of the vehicle's S3 has none: 持续发送“协商成功”.
+        // Where both fall due, Tout0 goes first and T1 is not looked at. Only S1 has a step for
+        // Tout0: 进入 S4. The row of the vehicle's S3 has none: 持续发送“协商成功”.
         if self.state == State::S1 && self.limit == LIMIT {
             return Some(self.enter(State::S4));
         }
@@ -222,15 +224,14 @@ impl Talker {
             return Ok(None);
         }
         Ok(match heard.outcome {
-            // 接收“协商成功”. "A success heard is consistent when its version is the own one at
-            // Ns".
+            // 接收“协商成功”. 一致 means equal to the version at Ns.
             Outcome::Success => {
                 if heard.version != self.at_ns() {
                     // 版本不一致: 协商结果=“继续协商”, 保持 S1
                     self.outcome = Outcome::Continue;
                     None
                 } else if heard.version < TWO {
-                    // "any agreed version below 2.0.0 ends in S2"
+                    // 版本一致 and of category A
                     Some(self.enter(State::S2))
                 } else {
                     // 版本一致且 ≥ V2.0.0: 协商结果=“协商成功”, 进入 S3
@@ -245,13 +246,12 @@ impl Talker {
                     .iter()
                     .position(|&version| version == heard.version);
                 if let Some(place) = own {
-                    // "a heard continue is the same when its version is in the own list": 协商结果=
-                    // “协商成功”, Ns 指向该版本, 保持 S1
+                    // The same, as the own list has it: 协商结果=“协商成功”, Ns 指向该版本, 保持 S1
                     self.outcome = Outcome::Success;
                     self.ns = place;
                     return Ok(None);
                 }
-                // "else lower and higher compare the version at Ns with it."
+                // The own list has it not; 低于 and 高于 are of the version at Ns.
                 if self.at_ns() < heard.version {
                     // 版本低于: 保持 S1
                     return Ok(None);
@@ -300,7 +300,7 @@ impl Talker {
         self.versions[self.ns]
     }
 
-    /// "The message of S2, S3 or S4 goes out in the call that enters it."
+    /// Enters an end state; its message goes out at once.
     fn enter(&mut self, state: State) -> [u8; 8] {
         self.state = state;
         self.outcome = match state {

@@ -28,7 +28,7 @@ fn length_8_is_short() {
     assert_eq!(begin(1), (Phase::Short, expected));
 }
 
-/// "9 N 2; 14 N 2; 15 N 3; 1785 announces 00 FF F9 06"
+/// Lengths at which N changes, and the longest message's announcement.
 #[test]
 fn announced_numbers() {
     for (length, announced) in [
@@ -55,7 +55,7 @@ fn lengths_0_and_1786() {
     assert_eq!(sender, before);
 }
 
-/// "LM_ACK 3, 2 with N 2: NACK 4"
+/// An LM_ACK that starts behind the last frame.
 #[test]
 fn lm_ack_3_2_with_n_2() {
     let (mut sender, _) = begun(1, 10, 100, 9);
@@ -81,7 +81,7 @@ fn sender_silence(timeout: u16, sending_time: u16) -> Vec<(u16, Frame)> {
     frames
 }
 
-/// "Sender T 3, M 10, silence: frame 0 at begin, ticks 3, 6, NACK 2 at 9; M 9: NACK 3."
+/// "Sender T 3, M 10, silence", and the same with M 9, where the time is over at the third timeout.
 #[test]
 fn sender_in_silence() {
     let zero = frame::announcement(2, 9);
@@ -91,7 +91,7 @@ fn sender_in_silence() {
     assert_eq!(sender_silence(3, 9), three);
 }
 
-/// "Receiver T 3, N 2, silence: LM_ACK at 3, 6, NACK 2 at 9."
+/// "Receiver T 3, N 2, silence".
 #[test]
 fn receiver_in_silence() {
     let (mut receiver, _) = opened(3, 2, 9);
@@ -105,7 +105,7 @@ fn receiver_in_silence() {
     }
 }
 
-/// "Identifier P 3, PF 0x38, PS 0xF4, SA 0x56: 0x0C38F456."
+/// The identifier of the charger's version message.
 #[test]
 fn identifier_of_the_charger() {
     let parts = Parts {

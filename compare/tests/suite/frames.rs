@@ -64,7 +64,7 @@ fn builders_and_reader_agree() {
     }
 }
 
-/// "N = L / 7 rounded up."
+/// N at the lengths around which it changes.
 #[test]
 fn number_of_frames() {
     for (l, n) in [
@@ -82,7 +82,7 @@ fn number_of_frames() {
     }
 }
 
-/// "6 kind not 1 to 7"
+/// Refusal 6 for a kind that there is not.
 #[test]
 fn other_kinds_are_refused() {
     for kind in 0..=255 {
@@ -97,7 +97,7 @@ fn other_kinds_are_refused() {
     }
 }
 
-/// "or filler not 0xFF (never judged in kind 1 from number 1, nor kinds 5, 7)"
+/// Refusal 6 for each place of filler in each kind, and for none where message bytes stand.
 #[test]
 fn filler_is_judged_where_it_is_filler() {
     // kind, d0, number of named bytes
@@ -130,7 +130,7 @@ fn filler_is_judged_where_it_is_filler() {
     }
 }
 
-/// "carries message bytes 7(i-1) onward in d1 to d7, the last frame filled with 0xFF"
+/// The frames of a message hold its bytes in their order, and filler behind the last.
 #[test]
 fn information_frames_carry_the_message() {
     let message: Vec<u8> = (0..1785).map(|place| (place * 7 % 253) as u8).collect();

@@ -76,8 +76,7 @@ fn samples() -> Vec<(Group, [u8; 8])> {
     ]
 }
 
-/// "71:2, 72:4, 73:6, 74:5, 75:4, 76:5, 77:7, 78:2, 79:2"; "72, 73, 74, 77, 79 come from the
-/// vehicle; 78, 79 are reliable."
+/// Code, length, sender and reliability of the nine groups.
 #[test]
 fn rows() {
     let lengths: Vec<_> = ROWS.iter().map(|row| (row.code, row.length)).collect();
@@ -119,7 +118,7 @@ fn reading_and_writing() {
     }
 }
 
-/// "9 code, length or filler"
+/// Refusal 9 by each of its reasons.
 #[test]
 fn code_length_filler() {
     for (group, bytes) in samples() {
@@ -208,14 +207,14 @@ fn values() {
         assert_eq!(accepted([0x75, low, high, 0, F, F, F, F]), tenths);
         assert_eq!(accepted([0x76, low, high, 0, 0, F, F, F]), tenths);
         assert_eq!(accepted([0x76, 0, 0, low, high, F, F, F]), tenths);
-        // "Only the fields of 77 may be missing (invalid or abnormal marks)."
+        // 0x77 alone has the two marks of a missing value.
         let cell = tenths || word >= 0xFFFE;
         assert_eq!(accepted([0x77, low, high, 0, 0, 0, 0, F]), cell);
         assert_eq!(accepted([0x77, 0, 0, low, high, 0, 0, F]), cell);
     }
 }
 
-/// "10 value" on writing; the lent bytes stay.
+/// Refusal 10 on writing; the lent bytes stay.
 #[test]
 fn bad_values_are_not_written() {
     let battery =

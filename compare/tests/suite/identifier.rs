@@ -1,4 +1,4 @@
-//! "8 over 29 bits, a part over its width, or EDP or DP not 0"
+//! The identifier, and refusal 8 by each of its reasons.
 
 use compare::reference::identifier::{build, read, Parts, EVCC, SECC};
 use compare::reference::Refused;

@@ -14,8 +14,7 @@ fn bench() -> Bench {
     )
 }
 
-/// "Hear takes the first away and gives it to the far end; lose drops it; repeat gives it and
-/// keeps it. On an empty list nothing happens."
+/// What hear, lose and repeat do to a list, and that an empty one gives nothing.
 #[test]
 fn hear_lose_repeat() {
     let mut list = List::new();
@@ -67,8 +66,8 @@ fn empty_line() {
     assert_eq!(bench, before);
 }
 
-/// "A refused call stands in the list too, whatever it is lent: ends and buffer stay; a frame that
-/// hear gave is gone, one that repeat gave is still first."
+/// A refused hearing leaves the ends and the buffer; its frame is off the line where it was heard,
+/// and still there where it was repeated.
 #[test]
 fn refused_calls_on_the_line() {
     let mut bench = bench();

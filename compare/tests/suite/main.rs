@@ -1,4 +1,4 @@
-//! Tests of the reference against document 01. Words in double quotes are the document's.
+//! Tests of the reference against document 01. A few words in double quotes are the document's.
 
 mod edge_cases;
 mod frames;

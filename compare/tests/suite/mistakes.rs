@@ -177,7 +177,7 @@ fn bytes_past_l_are_not_copied() {
     assert_eq!(buffer[9..16], [0xEE; 7]);
 }
 
-/// "silence when the last frame comes again after delivery"
+/// The last frame again after delivery draws EndofACK, and no silence.
 #[test]
 fn last_frame_again_draws_endof_ack() {
     let (mut receiver, mut buffer) = opened(10, 2, 9);
@@ -262,7 +262,7 @@ fn second_begin_finds_the_receiver_open() {
     assert_eq!(bench.sender.phase, Phase::Opening);
 }
 
-/// "A sender saying "sent" on its first LM_ACK", "an end that reports failed 3 at its first tick".
+/// "Holding both ends to it", senders: the first LM_ACK is not yet sent, a first tick not yet failed.
 #[test]
 fn sender_neither_sent_nor_failed_early() {
     let (mut sender, message) = begun(1, 10, 100, 9);
@@ -271,8 +271,8 @@ fn sender_neither_sent_nor_failed_early() {
     assert_eq!(sender.phase, Phase::Sending { next: 1, last: 2 });
 }
 
-/// "answers every announcement with NACK 1", "a receiver that ignores all it hears, one that
-/// stores frame 1 and skips later bytes".
+/// "Holding both ends to it", receivers: an announcement that fits draws LM_ACK, every frame is
+/// answered as the rules say, and the buffer gets the bytes of all of them.
 #[test]
 fn receiver_opens_and_stores_all() {
     let message = message(1785);

@@ -69,7 +69,7 @@ fn refused(pack: &[u8], number: u8) {
     assert_eq!(play(pack), format!("refused {number}\n"));
 }
 
-/// "run pack: 12": the shape.
+/// Refusal 12: the pack's form.
 #[test]
 fn bad_packs() {
     let good = build(&GOOD, &NINE, &EVENTS);
@@ -158,7 +158,7 @@ fn largest_pack() {
     refused(&over, 12);
 }
 
-/// "after that settings outside their limits are 1, a message of bad length 2."
+/// Refusals 1 and 2 come after 12, in this order, at each limit.
 #[test]
 fn order_of_12_1_2() {
     let bad_settings = [
@@ -220,8 +220,8 @@ fn begin_alone() {
     );
 }
 
-/// "Its line loses a frame that finds 64 before it." Frame 0 repeated 66 times draws 66 LM_ACKs;
-/// all are printed, 64 are on the line.
+/// A line of 64 takes no more. Frame 0 repeated 66 times draws 66 LM_ACKs; all are printed, 64 are
+/// on the line.
 #[test]
 fn line_of_64() {
     let mut events = vec![5; 66];

@@ -8,8 +8,8 @@ fn idle() -> State {
     State::Idle { delivered: None }
 }
 
-/// "Frame 0, Idle: unless L is 9 to 1785 and N fits it, NACK 5; then if L > K, NACK 1; both change
-/// nothing."
+/// "Frame 0, Idle": NACK 5 where L or N is bad, else NACK 1 where there is no space, and the state
+/// stays.
 #[test]
 fn bad_announcements() {
     let mut receiver = Receiver::make(10, 4, 14).unwrap();
@@ -34,7 +34,7 @@ fn bad_announcements() {
     }
 }
 
-/// "both change nothing": the last delivery is still known.
+/// After either NACK the last delivery is still known.
 #[test]
 fn bad_announcements_keep_the_last_delivery() {
     let mut receiver = Receiver::make(10, 4, 14).unwrap();
@@ -53,8 +53,8 @@ fn bad_announcements_keep_the_last_delivery() {
     assert_eq!(again, Ok(r_frame(frame::endof_ack(2, 9))));
 }
 
-/// "Else Open, e = 1, w the smaller of C and N, wait and misses 0, emits LM_ACK 1, w; the last
-/// delivery is forgotten."
+/// "Frame 0, Idle": otherwise a fresh connection, which asks for its first window and forgets what
+/// was delivered.
 #[test]
 fn opening() {
     for (window, n, l, w) in [
@@ -97,7 +97,7 @@ fn opening() {
     assert_eq!(answer, Ok(r_frame(frame::lm_ack(1, 2))));
 }
 
-/// "i > N emits NACK 4, closes, failed."
+/// A number above N closes the connection with NACK 4.
 #[test]
 fn number_above_n() {
     for i in [4, 255] {
@@ -110,8 +110,8 @@ fn number_above_n() {
     }
 }
 
-/// "i other than e is ignored. i = e: its message bytes go to that part of the buffer ..., the
-/// rest stays; wait and misses 0."
+/// Only the expected frame is taken: its bytes go to their place in the buffer and nowhere else, and
+/// wait and misses begin anew.
 #[test]
 fn one_frame() {
     let (mut receiver, mut buffer) = opened(2, 3, 30);
@@ -148,7 +148,7 @@ fn one_frame() {
     assert!(buffer[7..].iter().all(|&byte| byte == 0xEE));
 }
 
-/// "At w: e grows by 1, w is the smaller of e + C - 1 and N, LM_ACK e, w - e + 1."
+/// At a window's end the next window is asked for, the last one as long as what is left.
 #[test]
 fn window_by_window() {
     let message = message(49);
@@ -174,7 +174,7 @@ fn window_by_window() {
     assert_eq!(buffer[..49], message[..]);
 }
 
-/// "before it w as above and LM_ACK e, w - e + 1": the window moves with e at a timeout.
+/// A timeout asks for a whole window from e on, so its end moves with e.
 #[test]
 fn timeout_moves_the_window() {
     let message = message(49);
@@ -206,7 +206,7 @@ fn timeout_moves_the_window() {
     assert_eq!(answer, Ok(r_frame(frame::lm_ack(5, 3))));
 }
 
-/// "LM_NACK, Open: closed, failed 1." "Tick or LM_NACK, Idle: nothing."
+/// A NACK closes an open connection and is nothing to an Idle receiver, as a tick is.
 #[test]
 fn lm_nack_and_tick() {
     let (mut receiver, mut buffer) = opened(10, 3, 49);
@@ -229,8 +229,7 @@ fn lm_nack_and_tick() {
     assert_eq!(receiver, before);
 }
 
-/// "SM_RM: SM_ACK and a short delivery of its eight bytes; SM_URM: a delivery only. State and
-/// buffer stay."
+/// Short messages: both kinds are delivered, SM_RM alone is acknowledged, and a connection goes on.
 #[test]
 fn short_messages_in_both_states() {
     let (mut open, mut buffer) = opened(10, 3, 49);

@@ -7,7 +7,7 @@ use compare::reference::receiver::{Delivered, Receiver, State};
 use compare::reference::sender::Sender;
 use compare::reference::Refused;
 
-/// "making an end: 1 setting"
+/// Refusal 1: each setting at its limits and just outside.
 #[test]
 fn making_a_sender() {
     for (gap, timeout, sending_time, good) in [
@@ -29,7 +29,7 @@ fn making_a_sender() {
     }
 }
 
-/// "making an end: 1 setting"
+/// Refusal 1: each setting at its limits and just outside.
 #[test]
 fn making_a_receiver() {
     for (timeout, window, capacity, good) in [
@@ -49,7 +49,7 @@ fn making_a_receiver() {
     }
 }
 
-/// "begin, post: 3 sender not Idle (begin only); 2 length 0 or over 1785 (post: over 8)"
+/// Begin and post: 3, which begin alone has, before 2; and the lengths that each takes.
 #[test]
 fn begin_and_post() {
     for length in [3, 9] {
@@ -73,7 +73,7 @@ fn begin_and_post() {
     assert!(sender.begin(&message(1785)).is_ok());
 }
 
-/// "sender tick, not Idle: 4 lent length is not the begun one"
+/// Refusal 4: a tick of a transfer lent another length; Idle judges none.
 #[test]
 fn sender_tick() {
     for length in [3, 9, 1785] {
@@ -113,7 +113,7 @@ fn bad_frames() -> Vec<Frame> {
     frames
 }
 
-/// "hearing: ... 6 ...; 7 kind for the other end (sender takes 2, 3, 4, 6 ...)", in every phase.
+/// The sender's hearing: 6 before 7, in every phase.
 #[test]
 fn sender_hearing() {
     let idle = Sender::make(1, 10, 100).unwrap();
@@ -151,8 +151,7 @@ fn sender_hearing() {
     }
 }
 
-/// "hearing: 5 buffer not 1785 (receiver); 6 ...; 7 kind for the other end (... receiver 1, 3, 5,
-/// 7)", in every state.
+/// The receiver's hearing: 5 before 6 before 7, in every state.
 #[test]
 fn receiver_hearing() {
     let (open, _) = opened(10, 2, 9);

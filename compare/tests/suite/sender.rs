@@ -26,7 +26,7 @@ fn idle_ticks_do_nothing() {
     assert_eq!(sender, before);
 }
 
-/// "If age = M, a long transfer emits NACK 3" in every phase of it.
+/// Age M: NACK 3 in every phase of a long transfer, before anything else of that tick.
 #[test]
 fn sending_time_over_in_every_phase() {
     // Opening
@@ -57,7 +57,7 @@ fn sending_time_over_in_every_phase() {
     );
 }
 
-/// "a short one nothing; failed, cause 3"
+/// Age M in a short transfer: failed 3, and no frame.
 #[test]
 fn sending_time_over_in_short() {
     let (mut sender, message) = begun(1, 2, 4, 3);
@@ -68,7 +68,7 @@ fn sending_time_over_in_short() {
     assert_eq!(sender.phase, Phase::Idle);
 }
 
-/// "Short: ... At T, wait is 0 and SM_RM goes again." There is no third miss in Short.
+/// SM_RM goes again at every timeout; Short has no third miss.
 #[test]
 fn short_goes_again_without_end() {
     let (mut sender, message) = begun(1, 3, 60000, 8);
@@ -83,8 +83,7 @@ fn short_goes_again_without_end() {
     assert_eq!(sender.tick(&message), Ok(s_failed(3, 60000, 20000, None)));
 }
 
-/// "gap count grows by 1. At G it is 0 and the next frame goes out; after the window's last,
-/// Waiting with wait 0."
+/// Sending: a frame at every G-th tick, and Waiting with a fresh wait behind the window's last.
 #[test]
 fn sending_keeps_the_gap() {
     let (mut sender, message) = begun(3, 5, 1000, 30);
@@ -116,7 +115,7 @@ fn sending_keeps_the_gap() {
     );
 }
 
-/// "Sending from s to the smaller of s + c - 1 and N, gap count 0."
+/// The window that an LM_ACK opens: c frames from s on, and none above N.
 #[test]
 fn lm_ack_sets_the_window() {
     for (s, c, last) in [
@@ -156,8 +155,8 @@ fn lm_ack_restarts_the_gap() {
     );
 }
 
-/// "s or c 0 is ignored; s > N emits NACK 4 and fails. Opening ignores s other than 1." In this
-/// order: s > N fails in Opening too, and c 0 is ignored before it.
+/// LM_ACK, tests in document 01's order: a zero s or c is passed over first, s above N fails next, in
+/// Opening too, and then Opening takes s = 1 alone.
 #[test]
 fn lm_ack_in_opening() {
     for (s, c) in [(0, 0), (0, 3), (1, 0), (6, 0), (255, 0), (2, 1), (5, 255)] {
@@ -174,8 +173,7 @@ fn lm_ack_in_opening() {
     }
 }
 
-/// "In Sending or Waiting an s below the last start taken is ignored." A start above the window is
-/// taken.
+/// A start may not fall in Sending or Waiting; one above the window is taken.
 #[test]
 fn lm_ack_below_the_last_start() {
     let (mut sender, message) = begun(1, 10, 1000, 30);
@@ -195,8 +193,7 @@ fn lm_ack_below_the_last_start() {
     assert_eq!(answer, Ok(s_failed(4, 1, 3, Some(frame::lm_nack(4)))));
 }
 
-/// "LM_NACK in a long transfer: failed, cause 1." Whatever cause it names; ignored in Short and
-/// Idle.
+/// A NACK fails a long transfer with cause 1, whatever cause it names; Short and Idle ignore it.
 #[test]
 fn lm_nack() {
     for cause in [0, 1, 2, 5, 255] {
@@ -230,7 +227,7 @@ fn lm_nack() {
     }
 }
 
-/// "EndofACK in Sending or Waiting with this N and L: sent."
+/// EndofACK: sent where it names this N and L, in Sending and Waiting alone.
 #[test]
 fn endof_ack() {
     let (mut sender, message) = begun(1, 10, 1000, 30);
@@ -257,7 +254,7 @@ fn endof_ack() {
     assert_eq!(short.phase, Phase::Short);
 }
 
-/// "SM_ACK in Short with the message's first byte: sent."
+/// SM_ACK: sent where it names the message's first byte, in Short alone.
 #[test]
 fn sm_ack() {
     let (mut sender, message) = begun(1, 10, 1000, 8);
@@ -276,7 +273,7 @@ fn sm_ack() {
     assert_eq!(sender.hear(frame::sm_ack(1)), Ok(s_nothing()));
 }
 
-/// "Begin: ... age, wait and misses are 0 and no start has been taken", also the second time.
+/// Begin starts all counts anew, also the second time, and forgets the last start.
 #[test]
 fn begin_again_starts_from_nothing() {
     let (mut sender, message) = begun(1, 2, 1000, 30);
@@ -294,7 +291,7 @@ fn begin_again_starts_from_nothing() {
     assert_eq!(sender.phase, Phase::Sending { next: 1, last: 1 });
 }
 
-/// "Post emits one SM_URM, changes nothing and is not counted."
+/// Post: one SM_URM in any phase, which no report counts; the sender stays as it was.
 #[test]
 fn post() {
     let idle = Sender::make(1, 10, 1000).unwrap();

@@ -33,7 +33,7 @@ fn success(version: Version) -> [u8; 8] {
 const FAILURE: [u8; 8] = [0, 2, 0xFF, 0xFF, 0xFF, PILOT, 0x01, 0xFF];
 const BOTH: [Side; 2] = [Side::Charger, Side::Vehicle];
 
-/// "11 not 1 to 8 strictly rising versions"
+/// Refusal 11 for a list, and for a talker made of it.
 #[test]
 fn lists() {
     let eight: Vec<Version> = (1..=8).map(|main| [main, 0, 0]).collect();
@@ -123,8 +123,8 @@ fn results() {
     }
 }
 
-/// "10 CAN type not 0 or result over 2"; "Control-pilot, transport-version and reserved bytes are
-/// not judged; they are written as the caller's byte, 0x01 and 0xFF."
+/// Messages written byte by byte; read with anything in the last three bytes; and refusal 10 for
+/// each bad CAN type and result.
 #[test]
 fn messages() {
     assert_eq!(go_on([2, 1, 0]), [0, 0, 2, 1, 0, PILOT, 0x01, 0xFF]);
@@ -191,7 +191,7 @@ fn s0() {
     }
 }
 
-/// T1 of 50 ms and Tout0 of 15 s; "At one tick the 15 s limit goes before the period."
+/// T1 of 50 ms and Tout0 of 15 s, which goes first where both fall due.
 #[test]
 fn period_and_limit() {
     for side in BOTH {
@@ -217,13 +217,13 @@ fn hearing_keeps_the_period() {
             assert_eq!(talker.tick(), None);
             assert_eq!(talker.hear(go_on([1, 1, 0])), Ok(None));
         }
-        // "the same when its version is in the own list": success, Ns at it
+        // In the own list: success, Ns at it
         assert_eq!(talker.tick(), Some(success([1, 1, 0])));
     }
 }
 
-/// Column "success heard": "consistent when its version is the own one at Ns"; "any agreed version
-/// below 2.0.0 ends in S2".
+/// Column "success heard": the version at Ns leads to S3, or to S2 below 2.0.0; any other to
+/// continue.
 #[test]
 fn success_heard() {
     for side in BOTH {
