@@ -3,6 +3,7 @@
 
 import os
 import pathlib
+import pty
 import stat
 import subprocess
 import sys
@@ -320,6 +321,13 @@ class Output(unittest.TestCase):
         closed = subprocess.run(["sh", "-c", 'exec "$@" >&-', "sh", PROGRAM, self.good], capture_output=True, check=False)
         self.assertEqual((closed.returncode, closed.stderr), (2, b"make_pack: standard output is closed\n"))
         self.assertEqual(self.names(), ["good.txt"])
+
+    def test_a_terminal_takes_no_pack(self):
+        ours, theirs = pty.openpty()
+        self.addCleanup(os.close, ours)
+        self.addCleanup(os.close, theirs)
+        self.assertIn("a pack is nothing for a terminal: -o PACK names its file\nusage:", self.failed(stdout=theirs))
+        self.assertEqual(self.make("-o", self.pack, self.good, stdout=theirs).returncode, 0)
 
     def failed(self, *arguments, **more):
         done = self.make(*arguments, self.good, **more)

@@ -159,7 +159,8 @@ class Played(unittest.TestCase):
         self.assertEqual(seen, {None, 1, 12})
 
 
-# A script in the place of rt: says the lines in FAKE_SAYS, with pauses, leaves a player and ends with FAKE_STATUS.
+# A script in the place of rt: says the lines in FAKE_SAYS, with pauses, leaves a player where there is none, and ends with
+# FAKE_STATUS.
 FAKE_RT = """#!/bin/sh
 echo "$@" "jobs $RT_JOBS" >>ran
 for word in $FAKE_SAYS; do
@@ -168,7 +169,7 @@ for word in $FAKE_SAYS; do
     *) echo "rt: $word proved (1 s)" ;;
     esac
 done
-[ "${FAKE_STATUS:-0}" -ne 0 ] || {
+[ "${FAKE_STATUS:-0}" -ne 0 ] || [ -x target/bin/play ] || {
     mkdir -p target/bin
     printf '#!/bin/sh\\ncat >/dev/null\\necho 0 S played\\n' >target/bin/play
     chmod +x target/bin/play
@@ -235,8 +236,9 @@ class Built(unittest.TestCase):
             self.assertEqual(self.play(), (0, b"0 S played\n", ""))
             with (self.root / name).open("a") as file:
                 file.write("\n")
-            self.assertEqual(self.play(), (0, b"0 S played\n", ""))
-            self.assertEqual(len(self.runs()), times, name)
+            for _ in "once", "again":
+                self.assertEqual(self.play(), (0, b"0 S played\n", ""))
+                self.assertEqual(len(self.runs()), times, name)
 
     def test_a_removed_file_is_a_change(self):
         self.play()
