@@ -206,6 +206,12 @@ class Built(unittest.TestCase):
         self.bin.mkdir()
         (self.bin / "rt").write_text(FAKE_RT)
         (self.bin / "rt").chmod(0o755)
+        # A PATH with what ./play needs, and no rt.
+        self.bare = pathlib.Path(folder.name) / "bare"
+        self.bare.mkdir()
+        (self.bare / "python3").symlink_to(sys.executable)
+        for name in ("dirname", "readlink", "cat"):
+            (self.bare / name).symlink_to(shutil.which(name))
 
     def age(self):
         """As if all was last changed an hour ago."""
@@ -290,13 +296,16 @@ play: the player is built after N s
         self.assertRegex("\r".join(lines[-2:]), r"^\x1b\[Kplay: the player is built after \d s\r\n$")
 
     def test_no_rt(self):
-        self.assertFalse(shutil.which("rt", path="/usr/bin:/bin"), "this test needs a PATH without rt")
         said = "play: the player has to be built, and rt, the command of the Rattle kit, is not on the PATH\n"
-        self.assertEqual(self.play(path="/usr/bin:/bin"), (2, b"", said))
+        self.assertEqual(self.play(path=str(self.bare)), (2, b"", said))
+
+    def test_no_python(self):
+        (self.bare / "python3").unlink()
+        self.assertEqual(self.play(path=str(self.bare)), (2, b"", "play: python3 is not on the PATH\n"))
 
     def test_no_rt_is_needed_for_a_built_player(self):
         self.play()
-        self.assertEqual(self.play(path="/usr/bin:/bin"), (0, b"0 S played\n", ""))
+        self.assertEqual(self.play(path=str(self.bare)), (0, b"0 S played\n", ""))
 
     def test_a_build_that_fails(self):
         _, _, said = self.play("low sleep left", status=1)
