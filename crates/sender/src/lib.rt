@@ -1,9 +1,17 @@
 // The sending end: its settings, its state and its answers. State goes in and out by value.
+mod ack;
 mod begin;
+mod close;
+mod end;
 mod hear;
 mod make;
+mod nack;
+mod opening;
+mod sending;
+mod short;
 mod steps;
 mod tick;
+mod waiting;
 
 use frame::Frame;
 
