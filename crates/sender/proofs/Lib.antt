@@ -1,4 +1,5 @@
 pub mod Laws
 pub mod Told
 pub mod Choices
+pub mod Demand1
 pub mod Reachable

@@ -1,8 +1,8 @@
--- Every sender that calls can make is within its limits, and there no count is cut and every "at least" is "at". By the
--- calls: each leaves a sender that is within its limits so. A count that has not come to its limit is below it; a window
--- starts from 1 to N and ends from its start to N.
+-- Every sender that calls can make is within its limits, and there no count is cut, every "at least" is "at" and a frame has
+-- a byte of the message. By the calls: each leaves a sender that is within its limits so. A count that has not come to its
+-- limit is below it; a window starts from 1 to N and ends from its start to N, and 7 (N - 1) is below L.
 -- Assumes nothing.
-use Prim.Native.Nat.{ℕ, _+_, _-_, _≤_, _<_, min}
+use Prim.Native.Nat.{ℕ, _+_, _-_, _*_, _≤_, _<_, min}
 use mathlib.Core.Path.{_≡_, refl, subst}
 use mathlib.Core.Bool.{Bool, true, false, and-eq-true-iff}
 use mathlib.Core.List.{List}
@@ -16,9 +16,10 @@ use Rattle.frame.specs.Count.{frameCountOf, incrementOf}
 use Rattle.frame.specs.declared.Frame.{Frame}
 use Rattle.sender.proofs.Choices.{limit-elim, begin-elim, tick-elim, over-elim, timeout-elim, bad-elim, hear-elim}
 use Rattle.sender.specs.Begin.{beginLong, beginShort, beginOf, postOf}
+use Rattle.sender.specs.Call.{Call, begin, tick, hear, post, answerOf}
 use Rattle.sender.specs.Hear.{taking, ackOpening, ackWindow, hearAck, hearNack, ifWhole, hearEnd, ifFirst, hearShortAck, hearOf}
 use Rattle.sender.specs.Make.{settingsFit, idleWith, makeOf}
-use Rattle.sender.specs.Reachable.{Reachable, fresh, begun, ticked, heard, posted, SettingsWithin, TransferWithin, LongWithin, PhaseWithin, Within, Counts, OfTransfer, OfWait, OfGap, OfMisses, Exact}
+use Rattle.sender.specs.Reachable.{Reachable, fresh, called, SettingsWithin, TransferWithin, LongWithin, PhaseWithin, Within, Counts, OfTransfer, OfWait, OfGap, OfMisses, OfSending, OfFrame, Exact}
 use Rattle.sender.specs.State.{aged, counted, inPhase}
 use Rattle.sender.specs.Tick.{tickOpening, afterFrame, tickSending, tickWaiting, tickShort, tickPhase}
 use Rattle.sender.specs.Told.{Told}
@@ -230,16 +231,17 @@ module _ (s : Sender) (h : Within s) where
       let p = s .phase in
       hear-elim Keeps s f (λ _. h) (acks p _ _ (h .phase)) (nacks p) (ends p _ _) (short-acks p _)
 
+  keeps : (call : Call) → Keeps (answerOf s call)
+  keeps (begin m) = begins m
+  keeps (tick m) = tick-elim Keeps s m h (ticks (s .phase) m (h .phase))
+  keeps (hear f) = hears f
+  keeps (post m) = posts m
+
 -- ---- the theorems
 
 pub reachable-within : {s : Sender} → Reachable s → Within s
 reachable-within (fresh {s = s} gap timeout limit e) = makes gap timeout limit s e
-reachable-within (begun {s = s} message r) = begins s (reachable-within r) message
-reachable-within (ticked {s = s} message r) =
-    let h = reachable-within r in
-    tick-elim Keeps s message h (ticks s h (s .phase) message (h .phase))
-reachable-within (heard {s = s} f r) = hears s (reachable-within r) f
-reachable-within (posted {s = s} message r) = posts s (reachable-within r) message
+reachable-within (called {s = s} call r) = keeps s (reachable-within r) call
 
 -- a count below its limit
 counts : (count limit : ℕ) → count < limit → limit ≤ 60000 → Counts count limit
@@ -249,6 +251,20 @@ counts count limit below most = record { grows = omega arith; exact = at (eqb (c
     at : (b : Bool) → eqb (count + 1) limit ≡ b → leb limit (min (count + 1) 65535) ≡ b
     at true e = let n : count + 1 ≡ limit = eqb-true _ _ e in le-leb limit (min (count + 1) 65535) (omega arith)
     at false e = let n : count + 1 ≡ limit → ⊥ = eqb-false _ _ e in lt-leb limit (min (count + 1) 65535) (omega arith)
+
+-- a window's next frame is at most its last, so that past it is at it
+at-last : (next last : ℕ) → next ≤ last → leb last next ≡ eqb next last
+at-last next last up = at (eqb next last) refl
+  where
+    at : (b : Bool) → eqb next last ≡ b → leb last next ≡ b
+    at true e = let n : next ≡ last = eqb-true _ _ e in le-leb last next (omega arith)
+    at false e = let n : next ≡ last → ⊥ = eqb-false _ _ e in lt-leb last next (omega arith)
+
+-- frame 1 to N of a message of L bytes starts inside it
+inside : (r : Settings) (t : Transfer) (number : ℕ) → LongWithin r t → number ≤ t .frames → (message : List ℕ)
+    → length message ≡ t .length → 7 * (number - 1) < length message
+unfolding frameCountOf
+inside r t number w most message long = omega (arith, w .length .0, w .frames .0)
 
 module _ (r : Settings) (w : SettingsWithin r) where
   of-transfer : (P : Transfer → Type 0) → ((t : Transfer) → TransferWithin r t → P t) → (p : Phase) → PhaseWithin r p → OfTransfer p P
@@ -284,6 +300,21 @@ module _ (r : Settings) (w : SettingsWithin r) where
   of-misses (Waiting x) h = counts _ 3 (h .3) (omega arith)
   of-misses (Short x) h = tt
 
+  of-sending : (p : Phase) → PhaseWithin r p → OfSending p (λ x. leb (x .last) (x .next) ≡ eqb (x .next) (x .last))
+  of-sending Idle h = tt
+  of-sending (Opening x) h = tt
+  of-sending (Sending x) h = at-last (x .next) (x .last) (h .1 .2)
+  of-sending (Waiting x) h = tt
+  of-sending (Short x) h = tt
+
+  of-frame : (p : Phase) → PhaseWithin r p
+      → OfFrame p (λ t number. (message : List ℕ) → length message ≡ t .length → 7 * (number - 1) < length message)
+  of-frame Idle h = tt
+  of-frame (Opening x) h = tt
+  of-frame (Sending x) h = inside r (x .transfer) (x .next) (h .0) (omega arith)
+  of-frame (Waiting x) h = inside r (x .transfer) (x .last) (h .0) (h .1 .2)
+  of-frame (Short x) h = tt
+
 pub within-exact : (s : Sender) → Within s → Exact s
 within-exact s h =
     let r = s .settings in
@@ -294,6 +325,8 @@ within-exact s h =
       wait = of-wait r w (s .phase) (h .phase);
       gap = of-gap r w (s .phase) (h .phase);
       misses = of-misses r w (s .phase) (h .phase);
+      last = of-sending r w (s .phase) (h .phase);
+      part = of-frame r w (s .phase) (h .phase);
     }
 
 pub reachable-exact : {s : Sender} → Reachable s → Exact s
