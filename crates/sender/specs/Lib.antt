@@ -5,5 +5,6 @@ pub mod Begin
 pub mod Tick
 pub mod Hear
 pub mod Call
+pub mod Heard
 pub mod Demand1
 pub mod Reachable

@@ -123,4 +123,5 @@ pub record Exact (s : Sender) : Type 0 where
   pub gap : OfGap (s .phase) (λ gap. Counts gap (s .settings .gap))
   pub misses : OfMisses (s .phase) (λ misses. Counts misses 3)
   pub last : OfSending (s .phase) (λ x. leb (x .last) (x .next) ≡ eqb (x .next) (x .last))
-  pub part : OfFrame (s .phase) (λ t number. (message : List ℕ) → length message ≡ t .length → 7 * (number - 1) < length message)
+  pub part : OfFrame (s .phase)
+      (λ t number. (message : List ℕ) → length message ≡ t .length → 7 * (number - 1) < length message)
