@@ -50,13 +50,15 @@ module _ (s : Sender) where
   ticks Idle m = quiet-is
   ticks (Opening x) m =
       over-elim (Leaves s) s (x .transfer) _ failed-is
-      (λ young. timeout-elim (Leaves s) s (x .transfer) (x .wait) (x .misses) failed-is (λ few. quiet-is) (λ early. quiet-is))
+      (λ young.
+      timeout-elim (Leaves s) s (x .transfer) (x .wait) (x .misses) failed-is (λ few. quiet-is) (λ early. quiet-is))
   ticks (Sending x) m =
       over-elim (Leaves s) s (x .transfer) _ failed-is
       (λ young. limit-elim (Leaves s) (s .settings .gap) (x .gap) quiet-is (λ early. quiet-is))
   ticks (Waiting x) m =
       over-elim (Leaves s) s (x .transfer) _ failed-is
-      (λ young. timeout-elim (Leaves s) s (x .transfer) (x .wait) (x .misses) failed-is (λ few. quiet-is) (λ early. quiet-is))
+      (λ young.
+      timeout-elim (Leaves s) s (x .transfer) (x .wait) (x .misses) failed-is (λ few. quiet-is) (λ early. quiet-is))
   ticks (Short x) m =
       over-elim (Leaves s) s (x .transfer) _ failed-is
       (λ young. limit-elim (Leaves s) (s .settings .timeout) (x .wait) quiet-is (λ early. quiet-is))

@@ -1,5 +1,5 @@
--- Document 01, Hearing, its last line, and Edge cases, Mistakes to shut out: a frame that is ignored restarts no wait. Proved
--- in `proofs/Heard.antt`.
+-- Document 01, Hearing, its last line, and Edge cases, Mistakes to shut out: a frame that is ignored restarts no wait.
+-- Proved in `proofs/Heard.antt`.
 use Prim.Native.Nat.{ℕ}
 use mathlib.Core.Path.{_≡_}
 use mathlib.Core.Bool.{false}

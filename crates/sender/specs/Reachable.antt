@@ -70,8 +70,8 @@ pub record Counts (count limit : ℕ) : Type 0 where
   pub grows : incrementOf count ≡ count + 1
   pub exact : leb limit (incrementOf count) ≡ eqb (count + 1) limit
 
--- what is said of the transfer, the wait, the gap count, the misses, the window that is being sent and the frame that a tick
--- sends, where the phase has one
+-- what is said of the transfer, the wait, the misses, the window that is being sent and the frame that a tick sends, where
+-- the phase has one
 abbrev pub OfTransfer : Phase → (Transfer → Type 0) → Type 0
 OfTransfer Idle P = Unit
 OfTransfer (Opening x) P = P (x .transfer)
@@ -85,13 +85,6 @@ OfWait (Opening x) P = P (x .wait)
 OfWait (Sending x) P = Unit
 OfWait (Waiting x) P = P (x .wait)
 OfWait (Short x) P = P (x .wait)
-
-abbrev pub OfGap : Phase → (ℕ → Type 0) → Type 0
-OfGap Idle P = Unit
-OfGap (Opening x) P = Unit
-OfGap (Sending x) P = P (x .gap)
-OfGap (Waiting x) P = Unit
-OfGap (Short x) P = Unit
 
 abbrev pub OfMisses : Phase → (ℕ → Type 0) → Type 0
 OfMisses Idle P = Unit
@@ -114,14 +107,20 @@ OfFrame (Sending x) P = P (x .transfer) (x .next)
 OfFrame (Waiting x) P = P (x .transfer) (x .last)
 OfFrame (Short x) P = Unit
 
--- of a sender within its limits: each count is what document 01 says; the window is out exactly where its last frame is the
--- next one (the test of `afterFrame`); in a message of the begun length the frame that a tick sends has a byte at least
+-- the test of `afterFrame`: the window is out exactly where its last frame was the next one
+abbrev pub EndsAtLast : Streamed → Type 0
+EndsAtLast x = leb (x .last) (x .next) ≡ eqb (x .next) (x .last)
+
+-- in a message of the begun length, the only one that a tick takes, the part of this frame is not empty
+abbrev pub StartsInside : Transfer → ℕ → Type 0
+StartsInside t number = (message : List ℕ) → length message ≡ t .length → 7 * (number - 1) < length message
+
+-- what holds of a sender within its limits, so that the definitions say there what document 01 says
 pub record Exact (s : Sender) : Type 0 where
   pub age : OfTransfer (s .phase) (λ t. Counts (t .age) (s .settings .limit))
   pub emitted : OfTransfer (s .phase) (λ t. incrementOf (t .emitted) ≡ t .emitted + 1)
   pub wait : OfWait (s .phase) (λ wait. Counts wait (s .settings .timeout))
-  pub gap : OfGap (s .phase) (λ gap. Counts gap (s .settings .gap))
+  pub gap : OfSending (s .phase) (λ x. Counts (x .gap) (s .settings .gap))
   pub misses : OfMisses (s .phase) (λ misses. Counts misses 3)
-  pub last : OfSending (s .phase) (λ x. leb (x .last) (x .next) ≡ eqb (x .next) (x .last))
-  pub part : OfFrame (s .phase)
-      (λ t number. (message : List ℕ) → length message ≡ t .length → 7 * (number - 1) < length message)
+  pub last : OfSending (s .phase) EndsAtLast
+  pub part : OfFrame (s .phase) StartsInside

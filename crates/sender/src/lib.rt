@@ -22,8 +22,8 @@ pub struct Settings {
     pub limit: u16,
 }
 
-// What is known of the message that was begun (L, N and its first byte), and what has been counted since: the ticks
-// (age) and the frames emitted.
+// What is known of the message that was begun (L, N and its first byte), and what has been counted
+// since: the ticks (age) and the frames emitted.
 pub struct Transfer {
     pub length: u16,
     pub frames: u8,

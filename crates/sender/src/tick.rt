@@ -9,7 +9,7 @@ use crate::Sender;
 use frame::Frame;
 use frame::build::information;
 
-// Where the part of frame `number` starts in a message of this length; its end where it would start past it.
+// Where the part of frame `number` starts in a message of this length, at most its end.
 fn part_start(number: u8, length: usize) -> usize
     ensures { λ r. ⌜ r ≡ min (7 * (number - 1)) length ⌝ }
 {
