@@ -26,7 +26,7 @@ use Rattle.cases.specs.Row.{Question, begun, acknowledged, senderSilence
 abbrev pub brief : Frame → List ℕ
 brief f = f .kind ∷ byteOf f 0 ∷ []
 
--- a begin's frame: SM_RM is "short", an information frame shows d0 to d3
+-- a begin's frame: SM_RM shows that the message goes short, an information frame its d0 to d3
 unfoldable pub beginFrame : Frame → List ℕ
 beginFrame f =
     pick (eqb (f .kind) 5) short
@@ -43,11 +43,11 @@ unlessRefused (sender.refused number) shown = refusal number
 unlessRefused (sender.sent ticks frames) shown = shown
 unlessRefused (sender.failed cause ticks frames) shown = shown
 
--- what a begin shows: "refused 2", "short", "announces"
+-- what a begin shows: a refusal, a short message, an announcement
 abbrev pub shownBegin : sender.Told → List ℕ
 shownBegin t = unlessRefused (t .outcome) (ifEmitted (t .emits) (beginFrame (t .frame)))
 
--- what a hearing of the sender shows: "NACK 4"
+-- what a hearing of the sender shows: a refusal, or its frame
 abbrev pub shownHearing : sender.Told → List ℕ
 shownHearing t = unlessRefused (t .outcome) (ifEmitted (t .emits) (brief (t .frame)))
 

@@ -21,17 +21,16 @@ use Rattle.identifier.specs.declared.Parts.{Parts}
 use Rattle.cases.specs.Answer.{shownBegin, shownHearing, senderInSilence, receiverInSilence, ofSender, ofReceiver, shownJoined}
 use Rattle.cases.specs.Row.{Question, begun, acknowledged, senderSilence, receiverSilence, joined}
 
--- "LM_ACK in Opening, Sending or Waiting": the phases of a long transfer
+-- the phases of a long transfer, in which an LM_ACK is judged
 pub data Long : Phase → Transfer → Type 0 where
   opening : (x : Announced) → Long (Opening x) (x .transfer)
   sending : (x : Streamed) → Long (Sending x) (x .transfer)
   waiting : (x : Awaited) → Long (Waiting x) (x .transfer)
 
 -- A begin: any Idle sender and any message of the length.
--- LM_ACK: any sender in a long transfer of N frames; "Lengths .. 9 to 1785 long", so N is 2 to 255.
--- A sender in silence: any "gap G 1 to 10", any long message.
--- A receiver in silence: any "window C 1 to 255", any L from 9 that N fits, any capacity K from L to 1785, any buffer of
--- 1785 bytes.
+-- LM_ACK: any sender in a long transfer of N frames; by the lengths that go long, N is 2 to 255.
+-- A sender in silence: any gap G, any long message.
+-- A receiver in silence: any window C, any L from 9 that N fits, any capacity K from L to 1785, any buffer of 1785 bytes.
 -- An identifier: any parts of which P, PF, PS and SA are these and EDP and DP are 0.
 abbrev pub Claim : Question → List ℕ → Type 0
 Claim (begun l) answer =

@@ -1,5 +1,4 @@
--- Document 01, Refusals, hearing: "6 kind not 1 to 7, or filler not 0xFF (never judged in kind 1 from number 1, nor
--- kinds 5, 7)".
+-- Document 01, Refusals, hearing, number 6: frames that cannot be read.
 use Prim.Native.Nat.{ℕ}
 use mathlib.Core.Bool.{Bool, true, _&&_}
 use mathlib.Core.List.{List, [], _∷_}
@@ -24,9 +23,8 @@ abbrev pub parsedOf : Frame → Parsed
 parsedOf f = record { kind = f .kind; number = byteOf f 0 }
 
 -- How many bytes of a frame are named, from d0 on, by its kind and its d0; the bytes after them are filler. Frames, each
--- kind's line: an announcement names d0 to d3, an information frame from number 1 all eight (its d1 to d7 are message
--- bytes or the last frame's filling, which is not judged), LM_ACK d0 d1, LM_NACK and SM_ACK d0, LM_EndofACK d0 to d2,
--- SM_RM and SM_URM all eight.
+-- kind's line: an announcement names d0 to d3, an information frame from number 1 all eight (what fills the last one is not
+-- judged), LM_ACK d0 d1, LM_NACK and SM_ACK d0, LM_EndofACK d0 to d2, SM_RM and SM_URM all eight.
 unfoldable pub namedOf : ℕ → ℕ → ℕ
 namedOf kind number =
     pick (eqb kind 1) (pick (eqb number 0) 4 8)
@@ -37,7 +35,7 @@ unfoldable pub allFiller : List ℕ → Bool
 allFiller [] = true
 allFiller (b ∷ bytes) = eqb b 255 && allFiller bytes
 
--- "kind not 1 to 7, or filler not 0xFF" is refused 6
+-- Refusals, hearing, number 6: a kind that no frame has, or a byte where filler belongs that is not filler
 unfoldable pub readOf : Frame → Result Parsed
 readOf f =
     pick (within 1 (f .kind) 7)

@@ -6,7 +6,7 @@ pub mod read;
 // What stands in a byte that a kind does not name.
 const FILLER: u8 = 0xFF;
 
-// A kind (one byte) and the data bytes d0 to d7, handed about by value.
+// A frame: its kind and its eight data bytes, d0 to d7. It is passed and returned by value.
 pub struct Frame {
     pub kind: u8,
     pub bytes: [u8; 8],

@@ -28,7 +28,7 @@ use Rattle.sender.specs.Begin.{lengthFits, begunWith, beginLong, beginSh
 use Rattle.sender.specs.Hear.{windowLast, sendingFrom, taking, hearAck, hearNack, hearEnd, hearShortAck, hearKind, hearRead, hearOf}
 use Rattle.sender.specs.State.{aged, counted, openingWith, sendingWith, waitingWith, shortWith, inPhase}
 use Rattle.sender.specs.Tick.{unlessOver, atLimit, unlessThird, openingOn, openingAgain, informationAt, waitingAfter, afterFrame, sendingNext, sendingOn, waitingOn, waitingAgain, shortOn, shortAgain, tickPhase}
-use Rattle.sender.specs.Told.{Told, failed, refusing, silently, emitting, failingWith}
+use Rattle.sender.specs.Told.{Told, failed, refusing, silently, emitting, closing, failingWith}
 use Rattle.sender.specs.declared.Announced.{Announced}
 use Rattle.sender.specs.declared.Awaited.{Awaited}
 use Rattle.sender.specs.declared.Phase.{Phase}
@@ -75,13 +75,12 @@ pub ruleset tests = (asked-true, asked-false, equal, unequal, below, not-below, 
 pub emits : (s : Sender) (f : Frame) {a : Told} {g : Frame} → g ≡ f → a ≡ emitting s g → a ≡ emitting s f
 emits s f same e = cc
 
-pub fails-with : (s : Sender) (t : Transfer) (cause : ℕ) {p : Sender} {f : Frame} {u : Transfer}
-    → p ≡ inPhase s Idle
+pub fails-with : (s : Sender) (t : Transfer) (cause : ℕ) {a : Told} {f : Frame} {u : Transfer}
     → f ≡ lmNackOf cause
     → u ≡ counted t
-    → record { next = p; emits = true; frame = f; outcome = failed cause (u .age) (u .emitted) }
-    ≡ failingWith s t cause
-fails-with s t cause idle nack counting = rw (idle, nack, counting)
+    → a ≡ closing s true f (failed cause (u .age) (u .emitted))
+    → a ≡ failingWith s t cause
+fails-with s t cause nack counting e = e ∙ rw (nack, counting)
 
 -- ---- begin
 

@@ -1,4 +1,6 @@
 pub mod Laws
 pub mod Told
 pub mod Choices
+pub mod Heard
+pub mod Demand1
 pub mod Reachable

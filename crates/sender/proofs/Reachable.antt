@@ -1,8 +1,8 @@
--- Every sender that calls can make is within its limits, and there no count is cut and every "at least" is "at". By the
--- calls: each leaves a sender that is within its limits so. A count that has not come to its limit is below it; a window
--- starts from 1 to N and ends from its start to N.
+-- Every sender that calls can make is within its limits, and there no count is cut, every "at least" is "at" and a frame has
+-- a byte of the message. By the calls: each leaves a sender that is within its limits so. A count that has not come to its
+-- limit is below it; a window starts from 1 to N and ends from its start to N, and 7 (N - 1) is below L.
 -- Assumes nothing.
-use Prim.Native.Nat.{ℕ, _+_, _-_, _≤_, _<_, min}
+use Prim.Native.Nat.{ℕ, _+_, _≤_, _<_}
 use mathlib.Core.Path.{_≡_, refl, subst}
 use mathlib.Core.Bool.{Bool, true, false, and-eq-true-iff}
 use mathlib.Core.List.{List}
@@ -12,13 +12,15 @@ use lib.Dec.{eqb, leb}
 use lib.ListN.{length}
 use Rattle.frame.specs.Result.{accepted}
 use Rattle.frame.proofs.Choice.{pick-elim}
+use Rattle.frame.proofs.Laws.{increment-is}
 use Rattle.frame.specs.Count.{frameCountOf, incrementOf}
 use Rattle.frame.specs.declared.Frame.{Frame}
 use Rattle.sender.proofs.Choices.{limit-elim, begin-elim, tick-elim, over-elim, timeout-elim, bad-elim, hear-elim}
 use Rattle.sender.specs.Begin.{beginLong, beginShort, beginOf, postOf}
+use Rattle.sender.specs.Call.{Call, begin, tick, hear, post, answerOf}
 use Rattle.sender.specs.Hear.{taking, ackOpening, ackWindow, hearAck, hearNack, ifWhole, hearEnd, ifFirst, hearShortAck, hearOf}
 use Rattle.sender.specs.Make.{settingsFit, idleWith, makeOf}
-use Rattle.sender.specs.Reachable.{Reachable, fresh, begun, ticked, heard, posted, SettingsWithin, TransferWithin, LongWithin, PhaseWithin, Within, Counts, OfTransfer, OfWait, OfGap, OfMisses, Exact}
+use Rattle.sender.specs.Reachable.{Reachable, fresh, called, SettingsWithin, TransferWithin, LongWithin, PhaseWithin, Within, Counts, OfTransfer, OfWait, OfMisses, OfSending, OfFrame, StartsInside, Exact}
 use Rattle.sender.specs.State.{aged, counted, inPhase}
 use Rattle.sender.specs.Tick.{tickOpening, afterFrame, tickSending, tickWaiting, tickShort, tickPhase}
 use Rattle.sender.specs.Told.{Told}
@@ -76,7 +78,11 @@ module _ (s : Sender) (h : Within s) where
       let l = h .settings .limit in
       let t = h .settings .timeout in
       enters _ (
-        record { counted = record { age = l .0; emitted = omega arith }; length = (low, high); frames = (refl, omega arith, omega arith) },
+        record {
+          counted = record { age = l .0; emitted = omega arith };
+          length = (low, high);
+          frames = (refl, omega arith, omega arith);
+        },
         t .0,
         omega arith,
       )
@@ -85,7 +91,11 @@ module _ (s : Sender) (h : Within s) where
   unfolding beginShort
   begins-short m low high =
       enters _ (
-        record { counted = record { age = h .settings .limit .0; emitted = omega arith }; length = (low, high); frames = refl },
+        record {
+          counted = record { age = h .settings .limit .0; emitted = omega arith };
+          length = (low, high);
+          frames = refl;
+        },
         h .settings .timeout .0,
       )
 
@@ -171,7 +181,8 @@ module _ (s : Sender) (h : Within s) where
   ticks (Short x) m w = ticks-short x m w
 
   -- a window from 1 to N
-  takes : (t : Transfer) (start count misses : ℕ) → LongWithin (s .settings) t → 1 ≤ start → 1 ≤ count → start ≤ t .frames → misses < 3
+  takes : (t : Transfer) (start count misses : ℕ) → LongWithin (s .settings) t → 1 ≤ start → 1 ≤ count
+      → start ≤ t .frames → misses < 3
       → Keeps (taking s t start count misses)
   unfolding taking
   takes t start count misses l from some within few = enters _ (l, omega arith, h .settings .gap .0, few)
@@ -230,28 +241,40 @@ module _ (s : Sender) (h : Within s) where
       let p = s .phase in
       hear-elim Keeps s f (λ _. h) (acks p _ _ (h .phase)) (nacks p) (ends p _ _) (short-acks p _)
 
+  keeps : (call : Call) → Keeps (answerOf s call)
+  keeps (begin m) = begins m
+  keeps (tick m) = tick-elim Keeps s m h (ticks (s .phase) m (h .phase))
+  keeps (hear f) = hears f
+  keeps (post m) = posts m
+
 -- ---- the theorems
 
 pub reachable-within : {s : Sender} → Reachable s → Within s
 reachable-within (fresh {s = s} gap timeout limit e) = makes gap timeout limit s e
-reachable-within (begun {s = s} message r) = begins s (reachable-within r) message
-reachable-within (ticked {s = s} message r) =
-    let h = reachable-within r in
-    tick-elim Keeps s message h (ticks s h (s .phase) message (h .phase))
-reachable-within (heard {s = s} f r) = hears s (reachable-within r) f
-reachable-within (posted {s = s} message r) = posts s (reachable-within r) message
+reachable-within (called {s = s} call r) = keeps s (reachable-within r) call
+
+-- of a number up to its limit, "at least" is "at"
+up-to : (n limit : ℕ) → n ≤ limit → leb limit n ≡ eqb n limit
+up-to n limit most = at (eqb n limit) refl
+  where
+    at : (b : Bool) → eqb n limit ≡ b → leb limit n ≡ b
+    at true e = let same : n ≡ limit = eqb-true _ _ e in le-leb limit n (omega arith)
+    at false e = let other : n ≡ limit → ⊥ = eqb-false _ _ e in lt-leb limit n (omega arith)
 
 -- a count below its limit
 counts : (count limit : ℕ) → count < limit → limit ≤ 60000 → Counts count limit
-unfolding incrementOf
-counts count limit below most = record { grows = omega arith; exact = at (eqb (count + 1) limit) refl }
-  where
-    at : (b : Bool) → eqb (count + 1) limit ≡ b → leb limit (min (count + 1) 65535) ≡ b
-    at true e = let n : count + 1 ≡ limit = eqb-true _ _ e in le-leb limit (min (count + 1) 65535) (omega arith)
-    at false e = let n : count + 1 ≡ limit → ⊥ = eqb-false _ _ e in lt-leb limit (min (count + 1) 65535) (omega arith)
+counts count limit below most =
+    let one = increment-is count (omega arith) in
+    record { grows = one; exact = rw one (up-to (count + 1) limit (omega arith)) }
+
+-- a frame from 1 to N of a message of L bytes starts inside it
+inside : (r : Settings) (t : Transfer) (number : ℕ) → LongWithin r t → number ≤ t .frames → StartsInside t number
+unfolding frameCountOf
+inside r t number w most message long = omega (arith, w .length .0, w .frames .0)
 
 module _ (r : Settings) (w : SettingsWithin r) where
-  of-transfer : (P : Transfer → Type 0) → ((t : Transfer) → TransferWithin r t → P t) → (p : Phase) → PhaseWithin r p → OfTransfer p P
+  of-transfer : (P : Transfer → Type 0) → ((t : Transfer) → TransferWithin r t → P t) → (p : Phase) → PhaseWithin r p
+      → OfTransfer p P
   of-transfer P k Idle h = tt
   of-transfer P k (Opening x) h = k (x .transfer) (h .0 .counted)
   of-transfer P k (Sending x) h = k (x .transfer) (h .0 .counted)
@@ -270,19 +293,27 @@ module _ (r : Settings) (w : SettingsWithin r) where
   of-wait (Waiting x) h = counts _ _ (h .2) (omega (arith, w .timeout .1))
   of-wait (Short x) h = counts _ _ (h .1) (omega (arith, w .timeout .1))
 
-  of-gap : (p : Phase) → PhaseWithin r p → OfGap p (λ gap. Counts gap (r .gap))
-  of-gap Idle h = tt
-  of-gap (Opening x) h = tt
-  of-gap (Sending x) h = counts _ _ (h .2) (omega (arith, w .gap .1))
-  of-gap (Waiting x) h = tt
-  of-gap (Short x) h = tt
-
   of-misses : (p : Phase) → PhaseWithin r p → OfMisses p (λ misses. Counts misses 3)
   of-misses Idle h = tt
   of-misses (Opening x) h = counts _ 3 (h .2) (omega arith)
   of-misses (Sending x) h = counts _ 3 (h .3) (omega arith)
   of-misses (Waiting x) h = counts _ 3 (h .3) (omega arith)
   of-misses (Short x) h = tt
+
+  of-sending : (P : Streamed → Type 0) → ((x : Streamed) → PhaseWithin r (Sending x) → P x) → (p : Phase) → PhaseWithin r p
+      → OfSending p P
+  of-sending P k Idle h = tt
+  of-sending P k (Opening x) h = tt
+  of-sending P k (Sending x) h = k x h
+  of-sending P k (Waiting x) h = tt
+  of-sending P k (Short x) h = tt
+
+  of-frame : (p : Phase) → PhaseWithin r p → OfFrame p StartsInside
+  of-frame Idle h = tt
+  of-frame (Opening x) h = tt
+  of-frame (Sending x) h = inside r (x .transfer) (x .next) (h .0) (omega arith)
+  of-frame (Waiting x) h = inside r (x .transfer) (x .last) (h .0) (h .1 .2)
+  of-frame (Short x) h = tt
 
 pub within-exact : (s : Sender) → Within s → Exact s
 within-exact s h =
@@ -292,8 +323,10 @@ within-exact s h =
       age = of-transfer r w _ (λ t c. counts (t .age) (r .limit) (c .age) (w .limit .1)) (s .phase) (h .phase);
       emitted = of-transfer r w _ (λ t c. emitted-grows r w t c) (s .phase) (h .phase);
       wait = of-wait r w (s .phase) (h .phase);
-      gap = of-gap r w (s .phase) (h .phase);
+      gap = of-sending r w _ (λ x c. counts (x .gap) (r .gap) (c .2) (omega (arith, w .gap .1))) (s .phase) (h .phase);
       misses = of-misses r w (s .phase) (h .phase);
+      last = of-sending r w _ (λ x c. up-to (x .next) (x .last) (c .1 .2)) (s .phase) (h .phase);
+      part = of-frame r w (s .phase) (h .phase);
     }
 
 pub reachable-exact : {s : Sender} → Reachable s → Exact s

@@ -14,34 +14,34 @@ use Rattle.sender.specs.declared.Phase.the-variants.{Idle, Opening, Send
 use Rattle.sender.specs.declared.Sender.{Sender}
 use Rattle.sender.specs.declared.Transfer.{Transfer}
 
--- what is not refused: "2 length 0 or over 1785 (post: over 8)"
+-- Refusals, begin and post, number 2: a message has a byte at least, and at most as many as go (1785 at begin, 8 at post)
 abbrev pub lengthFits : List ℕ → ℕ → Bool
 lengthFits message most = within 1 (length message) most
 
--- what a begin knows of a message that goes in so many frames; age is 0, and the frames emitted since begin
--- include its own
+-- Begin: what is known of a message that goes in so many frames. No tick has passed, and the frame that the begin itself
+-- emits is counted
 abbrev pub begunWith : List ℕ → ℕ → Transfer
 begunWith message frames =
     record { length = length message; frames = frames; first = getD message 0 0; age = 0; emitted = 1 }
 
--- Begin: "long emits frame 0 and is Opening"; "age, wait and misses are 0"
+-- Begin, long: the announcement goes out. The transfer is Opening, so no LM_ACK has been taken; nothing waited or missed
 unfoldable pub beginLong : Sender → List ℕ → Told
 beginLong s message =
     emitting (inPhase s (openingWith (begunWith message (frameCountOf (length message))) 0 0))
     (announcementOf (frameCountOf (length message)) (length message))
 
--- Begin: "short emits SM_RM and is Short"; a short message goes in one frame
+-- Begin, short: SM_RM goes out, and the transfer is Short with nothing waited; the message goes in one frame
 unfoldable pub beginShort : Sender → List ℕ → Told
 beginShort s message = emitting (inPhase s (shortWith (begunWith message 1) 0)) (smRmOf message)
 
--- Frames: "Lengths 1 to 8 go short, 9 to 1785 long"
+-- Frames, Lengths: up to 8 bytes go short, more go long
 unfoldable pub beginIdle : Sender → List ℕ → Told
 beginIdle s message =
     pick (lengthFits message 1785)
     (pick (leb (length message) 8) (beginShort s message) (beginLong s message))
     (refusing s 2)
 
--- begin's refusals in their order: "3 sender not Idle (begin only); 2 length"
+-- Refusals, begin: a transfer that is going on (3) is looked at before the length (2)
 unfoldable pub beginPhase : Sender → Phase → List ℕ → Told
 beginPhase s Idle message = beginIdle s message
 beginPhase s (Opening x) message = refusing s 3
@@ -49,9 +49,10 @@ beginPhase s (Sending x) message = refusing s 3
 beginPhase s (Waiting x) message = refusing s 3
 beginPhase s (Short x) message = refusing s 3
 
+-- a begin, lent a message
 unfoldable pub beginOf : Sender → List ℕ → Told
 beginOf s message = beginPhase s (s .phase) message
 
--- "Post emits one SM_URM, changes nothing and is not counted"
+-- Post: one SM_URM in every phase; neither the state nor the frames counted change
 unfoldable pub postOf : Sender → List ℕ → Told
 postOf s message = pick (lengthFits message 8) (emitting s (smUrmOf message)) (refusing s 2)

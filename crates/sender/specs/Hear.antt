@@ -15,46 +15,47 @@ use Rattle.sender.specs.declared.Phase.the-variants.{Idle, Opening, Send
 use Rattle.sender.specs.declared.Sender.{Sender}
 use Rattle.sender.specs.declared.Transfer.{Transfer}
 
--- the window's last number: "the smaller of s + c − 1 and N"
+-- Hearing, LM_ACK: the last number of the window of count frames from start on, N where the window would go past it
 abbrev pub windowLast : ℕ → ℕ → ℕ → ℕ
 windowLast start count frames = min (start + count - 1) frames
 
--- "Sending from s to" the window's last, "gap count 0"
+-- Hearing, LM_ACK: Sending that window, its first frame next and the gap from 0
 abbrev pub sendingFrom : Transfer → ℕ → ℕ → ℕ → Phase
 sendingFrom t start last misses =
     Sending (record { transfer = t; start = start; next = start; last = last; gap = 0; misses = misses })
 
--- an LM_ACK that is taken: the window that it asks for
+-- Hearing, LM_ACK, taken: the window that it asks for is sent
 unfoldable pub taking : Sender → Transfer → ℕ → ℕ → ℕ → Told
 taking s t start count misses =
     silently (inPhase s (sendingFrom t start (windowLast start count (t .frames)) misses))
 
--- "s or c 0 is ignored"
+-- Hearing, LM_ACK: a start or a count of 0 asks for nothing
 abbrev pub isVoid : ℕ → ℕ → Bool
 isVoid start count = eqb start 0 || eqb count 0
 
--- an LM_ACK, first of all: "s or c 0 is ignored; s > N emits NACK 4 and fails"; then what the phase does
+-- Hearing, LM_ACK, first in every phase: one that asks for nothing is ignored, one that starts above N fails the transfer
+-- with NACK 4; then comes what the phase does
 abbrev pub unlessBad : Sender → Transfer → ℕ → ℕ → Told → Told
 unlessBad s t start count otherwise =
     pick (isVoid start count) (silently s)
     (pick (ltb (t .frames) start) (failingWith s t 4) otherwise)
 
--- "Opening ignores s other than 1." Otherwise the window; no start has been taken, so misses becomes 0
+-- Hearing, LM_ACK, Opening: a window from 1 on is taken, any other ignored. No start was taken before it: the misses are 0
 unfoldable pub ackOpening : Sender → Transfer → ℕ → ℕ → Told
 ackOpening s t start count =
     unlessBad s t start count (pick (eqb start 1) (taking s t start count 0) (silently s))
 
--- "misses becomes 0, except where s equals the last start taken."
+-- Hearing, LM_ACK: a start that was not the last one taken clears the misses; the same start again keeps them
 abbrev pub missesAt : ℕ → ℕ → ℕ → ℕ
 missesAt start taken misses = pick (eqb start taken) misses 0
 
--- "In Sending or Waiting an s below the last start taken is ignored."
+-- Hearing, LM_ACK, Sending and Waiting: a window that starts before the last one taken is old and is ignored
 unfoldable pub ackWindow : Sender → Transfer → ℕ → ℕ → ℕ → ℕ → Told
 ackWindow s t taken misses start count =
     unlessBad s t start count
     (pick (ltb start taken) (silently s) (taking s t start count (missesAt start taken misses)))
 
--- "LM_ACK in Opening, Sending or Waiting", start and count heard
+-- Hearing, LM_ACK, by the phase: start and count were heard; outside a long transfer it is ignored
 unfoldable pub hearAck : Sender → Phase → ℕ → ℕ → Told
 hearAck s Idle start count = silently s
 hearAck s (Opening x) start count = ackOpening s (x .transfer) start count
@@ -62,7 +63,7 @@ hearAck s (Sending x) start count = ackWindow s (x .transfer) (x .start) (x .mis
 hearAck s (Waiting x) start count = ackWindow s (x .transfer) (x .start) (x .misses) start count
 hearAck s (Short x) start count = silently s
 
--- "LM_NACK in a long transfer: failed, cause 1."
+-- Hearing, LM_NACK: it ends a long transfer and is reported as cause 1, whatever cause it names; a short one ignores it
 unfoldable pub hearNack : Sender → Phase → Told
 hearNack s Idle = silently s
 hearNack s (Opening x) = failing s (x .transfer) 1
@@ -70,15 +71,15 @@ hearNack s (Sending x) = failing s (x .transfer) 1
 hearNack s (Waiting x) = failing s (x .transfer) 1
 hearNack s (Short x) = silently s
 
--- "with this N and L"
+-- Hearing, EndofACK: it names the N and the L of the transfer
 abbrev pub isWhole : Transfer → ℕ → ℕ → Bool
 isWhole t frames length = eqb frames (t .frames) && eqb length (t .length)
 
--- "EndofACK .. with this N and L: sent."
+-- Hearing, EndofACK: then the message is sent; another is ignored
 unfoldable pub ifWhole : Sender → Transfer → ℕ → ℕ → Told
 ifWhole s t frames length = pick (isWhole t frames length) (finishing s t) (silently s)
 
--- "EndofACK in Sending or Waiting", its N and L heard
+-- Hearing, EndofACK, by the phase: N and L were heard; Opening ignores it, since no frame of the message has gone out
 unfoldable pub hearEnd : Sender → Phase → ℕ → ℕ → Told
 hearEnd s Idle frames length = silently s
 hearEnd s (Opening x) frames length = silently s
@@ -86,11 +87,11 @@ hearEnd s (Sending x) frames length = ifWhole s (x .transfer) frames length
 hearEnd s (Waiting x) frames length = ifWhole s (x .transfer) frames length
 hearEnd s (Short x) frames length = silently s
 
--- "SM_ACK .. with the message's first byte: sent."
+-- Hearing, SM_ACK: it names the first byte of the message, and the message is sent; another is ignored
 unfoldable pub ifFirst : Sender → Transfer → ℕ → Told
 ifFirst s t first = pick (eqb first (t .first)) (finishing s t) (silently s)
 
--- "SM_ACK in Short", its byte heard
+-- Hearing, SM_ACK, by the phase: its byte was heard; only Short awaits it
 unfoldable pub hearShortAck : Sender → Phase → ℕ → Told
 hearShortAck s Idle first = silently s
 hearShortAck s (Opening x) first = silently s
@@ -98,7 +99,7 @@ hearShortAck s (Sending x) first = silently s
 hearShortAck s (Waiting x) first = silently s
 hearShortAck s (Short x) first = ifFirst s (x .transfer) first
 
--- by the kind that was read; refusals: "7 kind for the other end (sender takes 2, 3, 4, 6 ..)"
+-- Hearing, by the kind that was read. Refusals, hearing, number 7: a kind that only a receiver takes
 unfoldable pub hearKind : Sender → Frame → Parsed → Told
 hearKind s f parsed =
     pick (eqb (parsed .kind) 2) (hearAck s (s .phase) (byteOf f 0) (byteOf f 1))
@@ -106,10 +107,11 @@ hearKind s f parsed =
     (pick (eqb (parsed .kind) 4) (hearEnd s (s .phase) (byteOf f 0) (wordAt f 1 2))
     (pick (eqb (parsed .kind) 6) (hearShortAck s (s .phase) (byteOf f 0)) (refusing s 7))))
 
--- refusals: 6 goes before 7
+-- Refusals, hearing: a frame that cannot be read (6) is refused before its kind is looked at (7)
 unfoldable pub hearRead : Sender → Frame → Result Parsed → Told
 hearRead s f (accepted parsed) = hearKind s f parsed
 hearRead s f (refused number) = refusing s number
 
+-- a hearing of a frame
 unfoldable pub hearOf : Sender → Frame → Told
 hearOf s f = hearRead s f (readOf f)

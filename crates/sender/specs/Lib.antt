@@ -4,4 +4,7 @@ pub mod Make
 pub mod Begin
 pub mod Tick
 pub mod Hear
+pub mod Call
+pub mod Heard
+pub mod Demand1
 pub mod Reachable

@@ -1,4 +1,4 @@
--- Making a sender.
+-- Document 01, The sender: Settings.
 use Prim.Native.Nat.{ℕ}
 use mathlib.Core.Bool.{Bool, _&&_}
 use Rattle.frame.specs.Choice.{pick}
@@ -7,7 +7,7 @@ use Rattle.frame.specs.Result.{Result, accepted, refused}
 use Rattle.sender.specs.declared.Phase.the-variants.{Idle}
 use Rattle.sender.specs.declared.Sender.{Sender}
 
--- the sender: "Settings: gap G 1 to 10, timeout T 1 to 10000, sending time M 1 to 60000, in ticks."
+-- The sender, Settings: the limits of G, T and M
 abbrev pub settingsFit : ℕ → ℕ → ℕ → Bool
 settingsFit gap timeout limit =
     within 1 gap 10 && (within 1 timeout 10000 && within 1 limit 60000)
@@ -17,7 +17,7 @@ abbrev pub idleWith : ℕ → ℕ → ℕ → Sender
 idleWith gap timeout limit =
     record { settings = record { gap = gap; timeout = timeout; limit = limit }; phase = Idle }
 
--- refusals: "making an end: 1 setting"
+-- Refusals, making an end, number 1: a setting outside its limits
 unfoldable pub makeOf : ℕ → ℕ → ℕ → Result Sender
 makeOf gap timeout limit =
     pick (settingsFit gap timeout limit) (accepted (idleWith gap timeout limit)) (refused 1)

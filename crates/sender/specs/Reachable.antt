@@ -1,47 +1,44 @@
--- The senders that calls can make, what holds of them, and what follows for the definitions: no count is ever cut, and
--- every "at least" is document 01's "at".
-use Prim.Native.Nat.{ℕ, _+_, _≤_, _<_}
+-- The senders that calls can make, what holds of them, and what follows for the definitions: no count is ever cut, every
+-- "at least" is document 01's "at", and a frame's part of the message starts inside it.
+use Prim.Native.Nat.{ℕ, _+_, _-_, _*_, _≤_, _<_}
 use mathlib.Core.Path.{_≡_}
 use mathlib.Core.List.{List}
 use lib.Dec.{eqb, leb}
+use lib.ListN.{length}
 use Rattle.frame.specs.Result.{accepted}
 use Rattle.frame.specs.Count.{frameCountOf, incrementOf}
-use Rattle.frame.specs.declared.Frame.{Frame}
-use Rattle.sender.specs.Begin.{beginOf, postOf}
-use Rattle.sender.specs.Hear.{hearOf}
+use Rattle.sender.specs.Call.{Call, answerOf}
 use Rattle.sender.specs.Make.{makeOf}
-use Rattle.sender.specs.Tick.{tickOf}
 use Rattle.sender.specs.declared.Phase.{Phase}
 use Rattle.sender.specs.declared.Phase.the-variants.{Idle, Opening, Sending, Waiting, Short}
 use Rattle.sender.specs.declared.Sender.{Sender}
 use Rattle.sender.specs.declared.Settings.{Settings}
+use Rattle.sender.specs.declared.Streamed.{Streamed}
 use Rattle.sender.specs.declared.Transfer.{Transfer}
 
 -- a sender that making answered, and the next state of every call on a reachable one, whatever is lent or heard
 pub data Reachable : Sender → Type 0 where
   fresh : {s : Sender} (gap timeout limit : ℕ) → makeOf gap timeout limit ≡ accepted s → Reachable s
-  begun : {s : Sender} (message : List ℕ) → Reachable s → Reachable (beginOf s message .next)
-  ticked : {s : Sender} (message : List ℕ) → Reachable s → Reachable (tickOf s message .next)
-  heard : {s : Sender} (f : Frame) → Reachable s → Reachable (hearOf s f .next)
-  posted : {s : Sender} (message : List ℕ) → Reachable s → Reachable (postOf s message .next)
+  called : {s : Sender} (call : Call) → Reachable s → Reachable (answerOf s call .next)
 
--- "gap G 1 to 10, timeout T 1 to 10000, sending time M 1 to 60000"
+-- The sender, Settings: G, T and M
 pub record SettingsWithin (r : Settings) : Type 0 where
   pub gap : (1 ≤ r .gap) × (r .gap ≤ 10)
   pub timeout : (1 ≤ r .timeout) × (r .timeout ≤ 10000)
   pub limit : (1 ≤ r .limit) × (r .limit ≤ 60000)
 
--- the ticks are below M; "A call emits at most one frame", and begin emitted the first
+-- the ticks are below M; a call emits one frame at most, and the begin emitted the first
 pub record TransferWithin (r : Settings) (t : Transfer) : Type 0 where
   pub age : t .age < r .limit
   pub emitted : (1 ≤ t .emitted) × (t .emitted ≤ t .age + 1)
 
--- "Lengths 1 to 8 go short, 9 to 1785 long"; N is that of L, and so at most 255
+-- Frames, Lengths, what goes long; N is that of L, and so at most 255
 pub record LongWithin (r : Settings) (t : Transfer) : Type 0 where
   pub counted : TransferWithin r t
   pub length : (9 ≤ t .length) × (t .length ≤ 1785)
   pub frames : (t .frames ≡ frameCountOf (t .length)) × (2 ≤ t .frames) × (t .frames ≤ 255)
 
+-- Frames, Lengths, what goes short, in one frame
 pub record ShortWithin (r : Settings) (t : Transfer) : Type 0 where
   pub counted : TransferWithin r t
   pub length : (1 ≤ t .length) × (t .length ≤ 8)
@@ -67,13 +64,14 @@ pub record Within (s : Sender) : Type 0 where
   pub settings : SettingsWithin (s .settings)
   pub phase : PhaseWithin (s .settings) (s .phase)
 
--- a count that is not cut as it grows, and whose test "at least" is the test "at": "If age = M", "At T", "At G", "at the
--- third"
+-- a count that is not cut as it grows, and whose test "at least" is the test "at": age at M, wait at T, gap at G, misses at
+-- the third
 pub record Counts (count limit : ℕ) : Type 0 where
   pub grows : incrementOf count ≡ count + 1
   pub exact : leb limit (incrementOf count) ≡ eqb (count + 1) limit
 
--- what is said of the transfer, the wait, the gap count and the misses, where the phase has one
+-- what is said of the transfer, the wait, the misses, the window that is being sent and the frame that a tick sends, where
+-- the phase has one
 abbrev pub OfTransfer : Phase → (Transfer → Type 0) → Type 0
 OfTransfer Idle P = Unit
 OfTransfer (Opening x) P = P (x .transfer)
@@ -88,13 +86,6 @@ OfWait (Sending x) P = Unit
 OfWait (Waiting x) P = P (x .wait)
 OfWait (Short x) P = P (x .wait)
 
-abbrev pub OfGap : Phase → (ℕ → Type 0) → Type 0
-OfGap Idle P = Unit
-OfGap (Opening x) P = Unit
-OfGap (Sending x) P = P (x .gap)
-OfGap (Waiting x) P = Unit
-OfGap (Short x) P = Unit
-
 abbrev pub OfMisses : Phase → (ℕ → Type 0) → Type 0
 OfMisses Idle P = Unit
 OfMisses (Opening x) P = P (x .misses)
@@ -102,10 +93,34 @@ OfMisses (Sending x) P = P (x .misses)
 OfMisses (Waiting x) P = P (x .misses)
 OfMisses (Short x) P = Unit
 
--- what document 01 says of each count, of a sender within its limits
+abbrev pub OfSending : Phase → (Streamed → Type 0) → Type 0
+OfSending Idle P = Unit
+OfSending (Opening x) P = Unit
+OfSending (Sending x) P = P x
+OfSending (Waiting x) P = Unit
+OfSending (Short x) P = Unit
+
+abbrev pub OfFrame : Phase → (Transfer → ℕ → Type 0) → Type 0
+OfFrame Idle P = Unit
+OfFrame (Opening x) P = Unit
+OfFrame (Sending x) P = P (x .transfer) (x .next)
+OfFrame (Waiting x) P = P (x .transfer) (x .last)
+OfFrame (Short x) P = Unit
+
+-- the test of `afterFrame`: the window is out exactly where its last frame was the next one
+abbrev pub EndsAtLast : Streamed → Type 0
+EndsAtLast x = leb (x .last) (x .next) ≡ eqb (x .next) (x .last)
+
+-- in a message of the begun length, the only one that a tick takes, the part of this frame is not empty
+abbrev pub StartsInside : Transfer → ℕ → Type 0
+StartsInside t number = (message : List ℕ) → length message ≡ t .length → 7 * (number - 1) < length message
+
+-- what holds of a sender within its limits, so that the definitions say there what document 01 says
 pub record Exact (s : Sender) : Type 0 where
   pub age : OfTransfer (s .phase) (λ t. Counts (t .age) (s .settings .limit))
   pub emitted : OfTransfer (s .phase) (λ t. incrementOf (t .emitted) ≡ t .emitted + 1)
   pub wait : OfWait (s .phase) (λ wait. Counts wait (s .settings .timeout))
-  pub gap : OfGap (s .phase) (λ gap. Counts gap (s .settings .gap))
+  pub gap : OfSending (s .phase) (λ x. Counts (x .gap) (s .settings .gap))
   pub misses : OfMisses (s .phase) (λ misses. Counts misses 3)
+  pub last : OfSending (s .phase) EndsAtLast
+  pub part : OfFrame (s .phase) StartsInside

@@ -14,11 +14,11 @@ abbrev pub transferWith : Transfer → ℕ → ℕ → Transfer
 transferWith t age emitted =
     record { length = t .length; frames = t .frames; first = t .first; age = age; emitted = emitted }
 
--- "age grows by 1"
+-- Tick: the transfer is a tick older
 abbrev pub aged : Transfer → Transfer
 aged t = transferWith t (incrementOf (t .age)) (t .emitted)
 
--- "the frames emitted since begin": one more
+-- A report: one more frame has gone out since the begin
 abbrev pub counted : Transfer → Transfer
 counted t = transferWith t (t .age) (incrementOf (t .emitted))
 

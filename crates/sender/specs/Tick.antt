@@ -21,39 +21,39 @@ use Rattle.sender.specs.declared.Transfer.{Transfer}
 
 -- A state that no calls make may be past M, T, G or the third miss; it does what is due there.
 
--- "age grows by 1. If age = M, .. failed, cause 3. Otherwise:" what the phase does. A long transfer fails with
--- NACK 3, a short one with nothing: how is said for each phase.
+-- Tick, age: a transfer that comes to M has failed with cause 3; a younger one goes on as its phase says. A long transfer
+-- fails with a NACK and a short one without: each phase says how.
 unfoldable pub unlessOver : Sender → Transfer → (Transfer → ℕ → Told) → Told → Told
 unlessOver s t fails otherwise =
     pick (leb (s .settings .limit) (incrementOf (t .age))) (fails (aged t) 3) otherwise
 
--- a count "grows by 1": what is due at its limit, and what goes on short of it
+-- a count that grows by one: what is due at its limit, and what goes on short of it
 unfoldable pub atLimit : ℕ → ℕ → Told → Told → Told
 atLimit limit count due on = pick (leb limit (incrementOf count)) due on
 
--- "misses grows by 1; at the third miss NACK 2 and failed; before it," something goes out again
+-- Tick, Opening and Waiting: a miss. The third ends the transfer with NACK 2; at an earlier one a frame goes out again
 unfoldable pub unlessThird : Sender → Transfer → ℕ → Told → Told
 unlessThird s t misses again = pick (leb 3 (incrementOf misses)) (failingWith s (aged t) 2) again
 
--- "Opening and Waiting: wait grows by 1. At T," a miss
+-- Tick, Opening and Waiting: the wait that comes to T is a miss
 abbrev pub atTimeout : Sender → Transfer → ℕ → ℕ → Told → Told → Told
 atTimeout s t wait misses again on =
     atLimit (s .settings .timeout) wait (unlessThird s t misses again) on
 
 -- ---- Opening
 
--- short of T: "wait grows by 1"
+-- short of T: a tick more was waited
 abbrev pub openingOn : Sender → Announced → Told
 openingOn s x =
     silently (inPhase s (openingWith (aged (x .transfer)) (incrementOf (x .wait)) (x .misses)))
 
--- "wait is 0 and misses grows by 1; .. frame 0 again (Opening)"
+-- at T, before the third miss: the announcement again; one more miss, and the wait from 0
 abbrev pub openingAgain : Sender → Announced → Told
 openingAgain s x =
     emitting (inPhase s (openingWith (counted (aged (x .transfer))) 0 (incrementOf (x .misses))))
     (announcementOf (x .transfer .frames) (x .transfer .length))
 
--- "Opening ..: wait grows by 1. At T, .. frame 0 again"
+-- Tick, Opening
 unfoldable pub tickOpening : Sender → Announced → Told
 tickOpening s x =
     unlessOver s (x .transfer) (failingWith s)
@@ -61,31 +61,31 @@ tickOpening s x =
 
 -- ---- Sending
 
--- "information .. Number i from 1 carries message bytes 7(i−1) onward": frame i of the lent message
+-- Frames, information: the frame of this number of the lent message
 abbrev pub informationAt : ℕ → List ℕ → Frame
 informationAt number message = informationOf number (partFrom number message)
 
--- "after the window's last, Waiting with wait 0"
+-- the window has gone out: Waiting, with nothing waited
 abbrev pub waitingAfter : Streamed → Transfer → Phase
 waitingAfter x t =
     Waiting (record { transfer = t; start = x .start; last = x .last; wait = 0; misses = x .misses })
 
--- "At G it is 0 and the next frame goes out": the phase then
+-- the phase after a frame of the window: Waiting after its last, else the frame after it is next, the gap from 0
 unfoldable pub afterFrame : Streamed → Phase
 afterFrame x =
     pick (leb (x .last) (x .next)) (waitingAfter x (counted (aged (x .transfer))))
     (sendingWith x (counted (aged (x .transfer))) (x .next + 1) 0)
 
--- "the next frame goes out"
+-- at G: the window's next frame
 abbrev pub sendingNext : Sender → Streamed → List ℕ → Told
 sendingNext s x message = emitting (inPhase s (afterFrame x)) (informationAt (x .next) message)
 
--- short of G: "gap count grows by 1"
+-- short of G: the gap is a tick longer
 abbrev pub sendingOn : Sender → Streamed → Told
 sendingOn s x =
     silently (inPhase s (sendingWith x (aged (x .transfer)) (x .next) (incrementOf (x .gap))))
 
--- "Sending: gap count grows by 1. At G .. the next frame goes out"
+-- Tick, Sending
 unfoldable pub tickSending : Sender → Streamed → List ℕ → Told
 tickSending s x message =
     unlessOver s (x .transfer) (failingWith s)
@@ -93,18 +93,18 @@ tickSending s x message =
 
 -- ---- Waiting
 
--- short of T: "wait grows by 1"
+-- short of T: a tick more was waited
 abbrev pub waitingOn : Sender → Awaited → Told
 waitingOn s x =
     silently (inPhase s (waitingWith x (aged (x .transfer)) (incrementOf (x .wait)) (x .misses)))
 
--- "wait is 0 and misses grows by 1; .. the window's last frame (Waiting)"
+-- at T, before the third miss: the last frame of the window again; one more miss, and the wait from 0
 abbrev pub waitingAgain : Sender → Awaited → List ℕ → Told
 waitingAgain s x message =
     emitting (inPhase s (waitingWith x (counted (aged (x .transfer))) 0 (incrementOf (x .misses))))
     (informationAt (x .last) message)
 
--- "Waiting: wait grows by 1. At T, .. the window's last frame"
+-- Tick, Waiting
 unfoldable pub tickWaiting : Sender → Awaited → List ℕ → Told
 tickWaiting s x message =
     unlessOver s (x .transfer) (failingWith s)
@@ -112,16 +112,16 @@ tickWaiting s x message =
 
 -- ---- Short
 
--- short of T: "wait grows by 1"
+-- short of T: a tick more was waited
 abbrev pub shortOn : Sender → Single → Told
 shortOn s x = silently (inPhase s (shortWith (aged (x .transfer)) (incrementOf (x .wait))))
 
--- "wait is 0 and SM_RM goes again."
+-- at T: SM_RM again, and the wait from 0. No miss is counted: it goes on so until M
 abbrev pub shortAgain : Sender → Single → List ℕ → Told
 shortAgain s x message =
     emitting (inPhase s (shortWith (counted (aged (x .transfer))) 0)) (smRmOf message)
 
--- "Short: wait grows by 1. At T, .. SM_RM goes again."
+-- Tick, Short
 unfoldable pub tickShort : Sender → Single → List ℕ → Told
 tickShort s x message =
     unlessOver s (x .transfer) (failing s)
@@ -129,7 +129,7 @@ tickShort s x message =
 
 -- ---- a tick
 
--- "Tick (Idle: nothing)"
+-- Tick, by the phase; an Idle sender does nothing
 unfoldable pub tickPhase : Sender → Phase → List ℕ → Told
 tickPhase s Idle message = silently s
 tickPhase s (Opening x) message = tickOpening s x
@@ -137,7 +137,7 @@ tickPhase s (Sending x) message = tickSending s x message
 tickPhase s (Waiting x) message = tickWaiting s x message
 tickPhase s (Short x) message = tickShort s x message
 
--- what is not refused: "sender tick, not Idle: 4 lent length is not the begun one"
+-- Refusals, sender tick, number 4: what is lent has the begun length, except where no transfer is going on
 unfoldable pub lentTo : Phase → List ℕ → Bool
 lentTo Idle message = true
 lentTo (Opening x) message = eqb (length message) (x .transfer .length)

@@ -19,8 +19,8 @@ abbrev pub toldMade : made-enum.Made → result.Result Sender
 toldMade (made-variants.End s) = result.accepted s
 toldMade (made-variants.Refused number) = result.refused number
 
--- what a call reports: nothing; "A refusal returns its number, no frame and no report"; "sent", "failed" with its cause,
--- each with "the ticks and the frames emitted since begin"
+-- what a call reports: nothing; the number of a refusal; that the message was sent, or the cause for which the transfer
+-- failed. The sender, A report: each has the ticks and the frames that went out from the begin on
 pub data Outcome : Type 0 where
   quiet : Outcome
   refused : ℕ → Outcome
@@ -44,7 +44,7 @@ pub record Told : Type 0 where
 abbrev pub told : answer.Answer → Told
 told a = record { next = a .next; emits = a .emits; frame = a .frame; outcome = toldOutcome (a .outcome) }
 
--- "A refusal returns its number, no frame and no report"; the state holds what it held
+-- Refusals, by place, its last line: the number is all that a refused call answers; the sender is as it was
 abbrev pub refusing : Sender → ℕ → Told
 refusing s number = record { next = s; emits = false; frame = blankOf; outcome = refused number }
 
@@ -56,12 +56,12 @@ silently s = record { next = s; emits = false; frame = blankOf; outcome = quiet 
 abbrev pub emitting : Sender → Frame → Told
 emitting s f = record { next = s; emits = true; frame = f; outcome = quiet }
 
--- the transfer is over: "The sender is then Idle"
+-- The sender, A report: with it the transfer is over and the sender Idle
 abbrev pub closing : Sender → Bool → Frame → Outcome → Told
 closing s emits f outcome =
     record { next = inPhase s Idle; emits = emits; frame = f; outcome = outcome }
 
--- "A failure that emits a NACK reports that NACK's cause"; the frames count the closing one
+-- Frames, Causes: a failure that sends a NACK reports the cause that it sends. The NACK is one of the frames counted
 abbrev pub failingWith : Sender → Transfer → ℕ → Told
 failingWith s t cause =
     closing s true (lmNackOf cause) (failed cause (t .age) (counted t .emitted))
@@ -70,6 +70,6 @@ failingWith s t cause =
 abbrev pub failing : Sender → Transfer → ℕ → Told
 failing s t cause = closing s false blankOf (failed cause (t .age) (t .emitted))
 
--- "sent"
+-- the whole message has been acknowledged
 abbrev pub finishing : Sender → Transfer → Told
 finishing s t = closing s false blankOf (sent (t .age) (t .emitted))

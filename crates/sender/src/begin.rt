@@ -86,7 +86,7 @@ impl Sender {
         }
     }
 
-    // Begins a transfer of the lent message. Refused 3 where one is going on, then 2 for its length.
+    // Begins a transfer of the lent message. Refused 3 where one is going on, then 2 for the length.
     pub fn begin(self, message: &[u8]) -> Answer
         ensures { λ r. ⌜ told r ≡ beginOf self (now (message .entry)) ⌝ }
     {

@@ -1,9 +1,17 @@
 // The sending end: its settings, its state and its answers. State goes in and out by value.
+mod ack;
 mod begin;
+mod close;
+mod end;
 mod hear;
 mod make;
+mod nack;
+mod opening;
+mod sending;
+mod short;
 mod steps;
 mod tick;
+mod waiting;
 
 use frame::Frame;
 
@@ -14,8 +22,8 @@ pub struct Settings {
     pub limit: u16,
 }
 
-// What is known of the message that was begun (L, N and its first byte), and what has been counted since: the ticks
-// (age) and the frames emitted.
+// What is known of the message that was begun (L, N and its first byte), and what has been counted
+// since: the ticks (age) and the frames emitted.
 pub struct Transfer {
     pub length: u16,
     pub frames: u8,

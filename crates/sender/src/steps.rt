@@ -1,4 +1,4 @@
-// The steps that the calls share: the changed state, and the answer of each kind.
+// The steps that the calls share: the changed state, and the answers that end no transfer.
 ghost use mathlib.Core.Path.{_≡_};
 ghost use Rattle.sender.specs.State.{
   transferWith,
@@ -10,7 +10,7 @@ ghost use Rattle.sender.specs.State.{
   shortWith,
   inPhase,
 };
-ghost use Rattle.sender.specs.Told.{told, refusing, silently, emitting, failingWith, failing, finishing};
+ghost use Rattle.sender.specs.Told.{told, refusing, silently, emitting};
 use crate::Announced;
 use crate::Answer;
 use crate::Awaited;
@@ -22,7 +22,6 @@ use crate::Streamed;
 use crate::Transfer;
 use frame::Frame;
 use frame::build::blank;
-use frame::build::lm_nack;
 use frame::count::increment;
 
 impl Transfer {
@@ -151,60 +150,6 @@ impl Sender {
             emits: true,
             frame,
             outcome: Outcome::Quiet,
-        }
-    }
-
-    // A failure that emits the NACK of its cause, and counts it.
-    pub(crate) fn failing_with(self, transfer: Transfer, cause: u8) -> Answer
-        ensures { λ r. ⌜ told r ≡ failingWith self transfer cause ⌝ }
-    {
-        let next = self.in_phase(Phase::Idle);
-        let frame = lm_nack(cause);
-        let closed = transfer.counted();
-        Answer {
-            next,
-            emits: true,
-            frame,
-            outcome: Outcome::Failed {
-                cause,
-                ticks: closed.age,
-                frames: closed.emitted,
-            },
-        }
-    }
-
-    // A failure that emits nothing.
-    pub(crate) fn failing(self, transfer: Transfer, cause: u8) -> Answer
-        ensures { λ r. ⌜ told r ≡ failing self transfer cause ⌝ }
-    {
-        let next = self.in_phase(Phase::Idle);
-        let frame = blank();
-        Answer {
-            next,
-            emits: false,
-            frame,
-            outcome: Outcome::Failed {
-                cause,
-                ticks: transfer.age,
-                frames: transfer.emitted,
-            },
-        }
-    }
-
-    // The message has been acknowledged whole.
-    pub(crate) fn finishing(self, transfer: Transfer) -> Answer
-        ensures { λ r. ⌜ told r ≡ finishing self transfer ⌝ }
-    {
-        let next = self.in_phase(Phase::Idle);
-        let frame = blank();
-        Answer {
-            next,
-            emits: false,
-            frame,
-            outcome: Outcome::Sent {
-                ticks: transfer.age,
-                frames: transfer.emitted,
-            },
         }
     }
 }

@@ -1,8 +1,8 @@
--- `sender::hear::misses_at` meets its contract. The test of the start is the definition's.
+-- `sender::ack::misses_at` meets its contract. The test of the start is the definition's.
 -- Assumes nothing.
 use Rattle.sender.proofs.Laws.{tests}
-use Rattle.sender.proofs.hear.misses_at.Statement.{statement}
-use Rattle.sender.proofs.hear.misses_at.Tie as tie
+use Rattle.sender.proofs.ack.misses_at.Statement.{statement}
+use Rattle.sender.proofs.ack.misses_at.Tie as tie
 
 returns : tie.Need-returns
 returns c = search tests
