@@ -16,7 +16,7 @@ use Rattle.frame.proofs.Choice.{pick-true, pick-false}
 use Rattle.version.proofs.Places.{head-below, tail-rises}
 use Rattle.frame.specs.Choice.{pick}
 use Rattle.frame.specs.Count.{wordOf}
-use Rattle.frame.specs.Result.{Result, accepted, refused}
+use Rattle.frame.specs.Result.{accepted, refused}
 use Rattle.version.specs.List.{versionOf, versionsIn, lent, rising, places, placed, standing, threeBytes, isList, listOf, listedOf, at, highest, Place, nowhere, here, toldFound, placeOf, placeBelow, find, findBelow}
 use Rattle.version.specs.Message.{verdictOf, toldReading, readOf}
 use Rattle.version.specs.Table.{Trigger, periodDue, successOther, successBelow2, success2, continueSame, continueLower, continueHigher, continueNone, limitDue, Entry, toldEntry, chargerCell, vehicleCell, cellOf}

@@ -2,7 +2,7 @@
 -- version to the next, so from each to every later one; a place is found at the first version that
 -- is the one sought, or at the last that is below it.
 -- Assumes nothing.
-use Prim.Native.Nat.{ℕ, zero, suc, _+_, _*_, _-_, _<_, _≤_}
+use Prim.Native.Nat.{ℕ, zero, suc, _+_, _*_, _<_, _≤_}
 use mathlib.Core.Path.{_≡_, refl, sym, ap, _∙_, subst}
 use mathlib.Core.Bool.{Bool, true, false, _&&_, and-eq-true-iff}
 use mathlib.Core.List.{List, [], _∷_, _++_}
@@ -43,39 +43,53 @@ rising-below (v ∷ s) h i zero l k = absurd (omega arith)
 rising-below (v ∷ s) h zero (suc j) l k = head-below v s h j (omega arith)
 rising-below (v ∷ s) h (suc i) (suc j) l k = rising-below s (tail-rises v s h) i j (omega arith) (omega arith)
 
--- what holds of a list, with the bounds and the order as facts
+-- the four tests of a list
+pub record Listing (v : Versions) : Type 0 where
+  pub some : 1 ≤ v .count
+  pub few : v .count ≤ 8
+  pub rises : rising (standing v) ≡ true
+  pub three : threeBytes (standing v) ≡ true
+
+pub list-is : (v : Versions) → isList v ≡ true → Listing v
+unfolding isList
+list-is v h =
+    let s : List ℕ = standing v in
+    let count = both-left (within 1 (v .count) 8) (rising s && threeBytes s) h in
+    let rest = both-right (within 1 (v .count) 8) (rising s && threeBytes s) h in
+    record {
+      some = leb-true _ _ (both-left (leb 1 (v .count)) (leb (v .count) 8) count);
+      few = leb-true _ _ (both-right (leb 1 (v .count)) (leb (v .count) 8) count);
+      rises = both-left (rising s) (threeBytes s) rest;
+      three = both-right (rising s) (threeBytes s) rest;
+    }
+
+pub three-bytes : (s : List ℕ) → threeBytes s ≡ true → (i : ℕ) → getD s i 0 < 0x1000000
+unfolding threeBytes
+three-bytes [] h i = omega arith
+three-bytes (v ∷ s) h zero = ltb-true v 0x1000000 (both-left (ltb v 0x1000000) (threeBytes s) h)
+three-bytes (v ∷ s) h (suc i) = three-bytes s (both-right (ltb v 0x1000000) (threeBytes s) h) i
+
+-- what holds of a list at its places
 pub record Standing (v : Versions) : Type 0 where
   pub some : 1 ≤ v .count
   pub few : v .count ≤ 8
   pub whole : length (standing v) ≡ v .count
   pub rises : rising (standing v) ≡ true
-  pub three : (i : ℕ) → i < v .count → getD (standing v) i 0 < 0x1000000
+  pub three : (i : ℕ) → getD (standing v) i 0 < 0x1000000
   pub below : (i j : ℕ) → i < j → j < length (standing v)
       → getD (standing v) i 0 < getD (standing v) j 0
 
-three-bytes : (s : List ℕ) → threeBytes s ≡ true → (i : ℕ) → i < length s → getD s i 0 < 0x1000000
-unfolding threeBytes
-three-bytes [] h i l = absurd (omega arith)
-three-bytes (v ∷ s) h zero l = ltb-true v 0x1000000 (both-left (ltb v 0x1000000) (threeBytes s) h)
-three-bytes (v ∷ s) h (suc i) l = three-bytes s (both-right (ltb v 0x1000000) (threeBytes s) h) i (omega arith)
-
 pub list-stands : (v : Versions) → length (v .numbers) ≡ 8 → isList v ≡ true → Standing v
-unfolding isList
 list-stands v eight h =
-    let s : List ℕ = standing v in
-    let count = both-left (within 1 (v .count) 8) (rising s && threeBytes s) h in
-    let rest = both-right (within 1 (v .count) 8) (rising s && threeBytes s) h in
-    let low : 1 ≤ v .count = leb-true _ _ (both-left (leb 1 (v .count)) (leb (v .count) 8) count) in
-    let high : v .count ≤ 8 = leb-true _ _ (both-right (leb 1 (v .count)) (leb (v .count) 8) count) in
-    let whole : length s ≡ v .count = omega (arith, length-take (v .count) (v .numbers)) in
-    let up : rising s ≡ true = both-left (rising s) (threeBytes s) rest in
+    let list = list-is v h in
+    let whole : length (standing v) ≡ v .count = omega (arith, length-take (v .count) (v .numbers)) in
     record {
-      some = low;
-      few = high;
+      some = list .some;
+      few = list .few;
       whole = whole;
-      rises = up;
-      three = λ i l. three-bytes s (both-right (rising s) (threeBytes s) rest) i (omega arith);
-      below = rising-below s up;
+      rises = list .rises;
+      three = three-bytes (standing v) (list .three);
+      below = rising-below (standing v) (list .rises);
     }
 
 placed-eight : (s : List ℕ) → length (placed s .numbers) ≡ 8
