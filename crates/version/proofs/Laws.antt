@@ -367,7 +367,8 @@ module _ (v : Versions) where
         ap (λ (n : ℕ). getD (standing v) (n - 1) 0) whole
         ∙ getD-take (v .count) (v .numbers) (v .count - 1) 0 (omega arith)
         ∙ ap (λ (n : ℕ). at v n) (sym p) ∙ sym l in
-        rw (le-leb 1 (v .count) low, le-leb (v .count) 8 high, ← u, t, last-three (standing v) (omega arith) (sym u ∙ t), same)
+        let three = last-three (standing v) (omega arith) (sym u ∙ t) in
+        rw (le-leb 1 (v .count) low, le-leb (v .count) 8 high, ← u, t, three, same)
 
 pub ruleset judges = (list-few, list-many, list-mixed, list-judged)
 

@@ -93,7 +93,9 @@ list-stands v eight h =
     }
 
 placed-eight : (s : List ℕ) → length (placed s .numbers) ≡ 8
-placed-eight s = omega (arith, length-take 8 (s ++ replicate 8 0), length-append s (replicate 8 0), length-replicate {A = ℕ} 8 0)
+placed-eight s =
+    let zeros : List ℕ = replicate 8 0 in
+    omega (arith, length-take 8 (s ++ zeros), length-append s zeros, length-replicate {A = ℕ} 8 0)
 
 standing-placed : (s : List ℕ) → length s ≤ 8 → standing (placed s) ≡ s
 standing-placed s h = take-take (length s) 8 (s ++ replicate 8 0) h ∙ take-append-seam s (replicate 8 0)

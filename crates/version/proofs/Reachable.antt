@@ -175,7 +175,8 @@ module _ (t : Talker) (h : Within t) where
   negotiates-within version successBelow2 e w a =
       enters S2 Success (t .place) 0 0 false (h .place) (omega arith) (omega arith) (refl, a, (refl, refl, refl))
   negotiates-within version success2 e w a =
-      enters S3 Success (t .place) 0 0 (keepsTiming (t .side)) (h .place) (omega arith) (omega arith) (refl, a, refl, keeps (t .side))
+      let timing = keepsTiming (t .side) in
+      enters S3 Success (t .place) 0 0 timing (h .place) (omega arith) (omega arith) (refl, a, refl, keeps (t .side))
   negotiates-within version failureHeard e w a = fails-within
   negotiates-within version continueSame e w a =
       enters S1 Success _ (t .period) (t .age) false (found-in version) (h .period) (h .age) (succeeds, refl)

@@ -97,6 +97,14 @@ pub tight : Tight
 tight =
     record {
       place = record { talker = charger; reachable = start; holds = refl };
-      period = record { talker = after 49; reachable = after-reachable 49; holds = ticking 49 (omega arith) .period (omega arith) };
-      age = record { talker = after 14999; reachable = after-reachable 14999; holds = ticking 14999 (omega arith) .age };
+      period = record {
+        talker = after 49;
+        reachable = after-reachable 49;
+        holds = ticking 49 (omega arith) .period (omega arith);
+      };
+      age = record {
+        talker = after 14999;
+        reachable = after-reachable 14999;
+        holds = ticking 14999 (omega arith) .age;
+      };
     }

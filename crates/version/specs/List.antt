@@ -1,5 +1,5 @@
 -- Versions and the list of them. 001, 7.2.1, table 3: a version has a major, a minor and a
--- temporary number; "the comparison of versions is that of the numbers" (版本的比较即数字的大小比较).
+-- temporary number, and versions compare as their numbers do (版本的比较即数字的大小比较).
 use Prim.Native.Nat.{ℕ, _+_, _-_, _*_, _/_, _%_}
 use mathlib.Core.Bool.{Bool, true, _&&_}
 use mathlib.Core.List.{List, [], _∷_, _++_}
