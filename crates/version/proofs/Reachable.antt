@@ -20,7 +20,7 @@ use Rattle.version.proofs.Places.{list-is, three-bytes, place-of-holds,
 use Rattle.version.specs.Calls.{Call, connect, tick, hear, stop, greet, functionsHeard, answerOf}
 use Rattle.version.specs.List.{versionOf, isList, standing, Place, nowhere, here, find, findBelow}
 use Rattle.version.specs.Message.{readOf}
-use Rattle.version.specs.Reachable.{Reachable, made, called, Timing, StateWithin, PeriodWithin, AgeWithin, Within, Exact}
+use Rattle.version.specs.Reachable.{Reachable, made, called, Timing, StateWithin, PeriodWithin, AgeWithin, Within, Exact, EveryReachable}
 use Rattle.version.specs.Table.{Trigger, connected, periodDue, successOther, successBelow2, success2, failureHeard, continueSame, continueLower, continueHigher, continueNone, greeted, stopped, limitDue, Entry, vehicleS1}
 use Rattle.version.specs.Talk.{fresh, makeOf, placeOr, keepsTiming, doing, triggered, connectOf, stopOf, greetOf, functionsState, functionsHeardOf, successTrigger, higherTrigger, elseTrigger, continueAt, continueTrigger, heardTrigger, hearJudged, hearOf, nextPeriod, nextAge, limitIsDue, periodIsDue, aged, tickTalking, tickSettled, tickState, tickOf}
 use Rattle.version.specs.Told.{Told, ownVersion, moved}
@@ -313,5 +313,5 @@ within-exact t h =
       read = read-written _ (own-three t h);
     }
 
-pub reachable-exact : {t : Talker} → Reachable t → Exact t
-reachable-exact {t} r = within-exact t (reachable-within r)
+pub every-reachable : EveryReachable
+every-reachable t r = let h = reachable-within r in (h, within-exact t h)

@@ -79,6 +79,10 @@ pub record Exact (t : Talker) : Type 0 where
       ≡ accepted
       (record { verdict = t .verdict; version = named (t .verdict) (ownVersion t); control = t .control })
 
+-- the claim
+abbrev pub EveryReachable : Type 0
+EveryReachable = (t : Talker) → Reachable t → Within t × Exact t
+
 -- every bound is met, so none of them can be tighter: 49 and 14999 ticks after connecting, and Ns at
 -- the last place
 pub record Reached (P : Talker → Type 0) : Type 0 where

@@ -9,8 +9,9 @@ mod vehicle;
 pub mod wire;
 
 // The versions that an end supports, as numbers (major, minor and temporary version as the digits
-// of base 256), rising. The first count of them stand; the places after them hold 0. The count is
-// as wide as a number, so that a list has no gap and is copied as it lies.
+// of base 256), rising. The first count of them stand; listing puts 0 after them, and a talker that
+// was made looks at none of those. The count is as wide as a number, so that a list has no gap and
+// is copied as it lies.
 pub struct Versions {
     pub count: u32,
     pub numbers: [u32; 8],
