@@ -599,7 +599,7 @@ module _ (t : Talker) (b : List ℕ) {r : MessageReading} {a : Told} where
       → a ≡ refusing t number
       → a ≡ hearOf t b
   unfolding hearOf hearJudged
-  hear-refused read e d = d ∙ ap (hearJudged t) (ap toldReading (sym e) ∙ read)
+  hear-refused {number = number} read e d = d ∙ ap (hearJudged t) (ap toldReading (sym e) ∙ read)
 
 pub ruleset hears = (hear-message, hear-refused)
 
