@@ -2,7 +2,7 @@
 -- version to the next, so from each to every later one; a place is found at the first version that
 -- is the one sought, or at the last that is below it.
 -- Assumes nothing.
-use Prim.Native.Nat.{ℕ, zero, suc, _+_, _*_, _-_, _<_, _≤_}
+use Prim.Native.Nat.{ℕ, zero, suc, _+_, _*_, _<_, _≤_}
 use mathlib.Core.Path.{_≡_, refl, sym, ap, _∙_, subst}
 use mathlib.Core.Bool.{Bool, true, false, _&&_, and-eq-true-iff}
 use mathlib.Core.List.{List, [], _∷_, _++_}
@@ -11,18 +11,19 @@ use native.Mathlib.Nat.{eq-or-lt-of-le}
 use native.Mathlib.Omega.{arith}
 use borrow.Author.Tests.{leb-true, ltb-true, ltb-false, eqb-true, eqb-false}
 use lib.Dec.{eqb, leb, ltb}
-use lib.ListN.{length, getD, replicate}
+use lib.ListN.{length, getD, replicate, length-take, length-append, length-replicate}
 use lib.Seq.{take-take, take-append-seam}
-use Rattle.frame.proofs.Choice.{pick-accepted}
+use Rattle.frame.proofs.Choice.{pick-accepted, both-left, both-right}
 use Rattle.frame.specs.Choice.{pick}
+use Rattle.frame.specs.Count.{within}
 use Rattle.frame.specs.Result.{accepted}
-use Rattle.version.specs.List.{versionsIn, rising, placed, countFits, ifRising, listOf, standing, Place, nowhere, here, orElse, placeOf, placeBelow}
+use Rattle.version.specs.List.{versionsIn, rising, threeBytes, placed, standing, isList, isLent, listOf, Place, nowhere, here, orElse, placeOf, placeBelow}
 use Rattle.version.specs.declared.Versions.{Versions}
 
 -- ---- an accepted list
 
 -- the first version is below every later one
-head-below : (v : ℕ) (s : List ℕ) → rising (v ∷ s) ≡ true → (j : ℕ) → j < length s → v < getD s j 0
+pub head-below : (v : ℕ) (s : List ℕ) → rising (v ∷ s) ≡ true → (j : ℕ) → j < length s → v < getD s j 0
 unfolding rising
 head-below v [] h j l = absurd (omega arith)
 head-below v (w ∷ s) h zero l = ltb-true v w (and-eq-true-iff (ltb v w) (rising (w ∷ s)) .0 h .0)
@@ -30,7 +31,7 @@ head-below v (w ∷ s) h (suc j) l =
     let both = and-eq-true-iff (ltb v w) (rising (w ∷ s)) .0 h in
     omega (arith, ltb-true v w (both .0), head-below w s (both .1) j (omega arith))
 
-tail-rises : (v : ℕ) (s : List ℕ) → rising (v ∷ s) ≡ true → rising s ≡ true
+pub tail-rises : (v : ℕ) (s : List ℕ) → rising (v ∷ s) ≡ true → rising s ≡ true
 unfolding rising
 tail-rises v [] h = refl
 tail-rises v (w ∷ s) h = and-eq-true-iff (ltb v w) (rising (w ∷ s)) .0 h .1
@@ -42,41 +43,73 @@ rising-below (v ∷ s) h i zero l k = absurd (omega arith)
 rising-below (v ∷ s) h zero (suc j) l k = head-below v s h j (omega arith)
 rising-below (v ∷ s) h (suc i) (suc j) l k = rising-below s (tail-rises v s h) i j (omega arith) (omega arith)
 
--- "1 to 8 strictly rising versions"
+-- the four tests of a list
+pub record Listing (v : Versions) : Type 0 where
+  pub some : 1 ≤ v .count
+  pub few : v .count ≤ 8
+  pub rises : rising (standing v) ≡ true
+  pub three : threeBytes (standing v) ≡ true
+
+pub list-is : (v : Versions) → isList v ≡ true → Listing v
+unfolding isList
+list-is v h =
+    let s : List ℕ = standing v in
+    let count = both-left (within 1 (v .count) 8) (rising s && threeBytes s) h in
+    let rest = both-right (within 1 (v .count) 8) (rising s && threeBytes s) h in
+    record {
+      some = leb-true _ _ (both-left (leb 1 (v .count)) (leb (v .count) 8) count);
+      few = leb-true _ _ (both-right (leb 1 (v .count)) (leb (v .count) 8) count);
+      rises = both-left (rising s) (threeBytes s) rest;
+      three = both-right (rising s) (threeBytes s) rest;
+    }
+
+pub three-bytes : (s : List ℕ) → threeBytes s ≡ true → (i : ℕ) → getD s i 0 < 0x1000000
+unfolding threeBytes
+three-bytes [] h i = omega arith
+three-bytes (v ∷ s) h zero = ltb-true v 0x1000000 (both-left (ltb v 0x1000000) (threeBytes s) h)
+three-bytes (v ∷ s) h (suc i) = three-bytes s (both-right (ltb v 0x1000000) (threeBytes s) h) i
+
+-- what holds of a list at its places
 pub record Standing (v : Versions) : Type 0 where
   pub some : 1 ≤ v .count
   pub few : v .count ≤ 8
   pub whole : length (standing v) ≡ v .count
   pub rises : rising (standing v) ≡ true
+  pub three : (i : ℕ) → getD (standing v) i 0 < 0x1000000
   pub below : (i j : ℕ) → i < j → j < length (standing v)
       → getD (standing v) i 0 < getD (standing v) j 0
 
+pub list-stands : (v : Versions) → length (v .numbers) ≡ 8 → isList v ≡ true → Standing v
+list-stands v eight h =
+    let list = list-is v h in
+    let whole : length (standing v) ≡ v .count = omega (arith, length-take (v .count) (v .numbers)) in
+    record {
+      some = list .some;
+      few = list .few;
+      whole = whole;
+      rises = list .rises;
+      three = three-bytes (standing v) (list .three);
+      below = rising-below (standing v) (list .rises);
+    }
+
+placed-eight : (s : List ℕ) → length (placed s .numbers) ≡ 8
+placed-eight s =
+    let zeros : List ℕ = replicate 8 0 in
+    omega (arith, length-take 8 (s ++ zeros), length-append s zeros, length-replicate {A = ℕ} 8 0)
+
 standing-placed : (s : List ℕ) → length s ≤ 8 → standing (placed s) ≡ s
 standing-placed s h = take-take (length s) 8 (s ++ replicate 8 0) h ∙ take-append-seam s (replicate 8 0)
-
-placed-stands : (s : List ℕ) → 1 ≤ length s → length s ≤ 8 → rising s ≡ true → Standing (placed s)
-placed-stands s low high up =
-    let same : standing (placed s) ≡ s = standing-placed s high in
-    let up' : rising (standing (placed s)) ≡ true = ap rising same ∙ up in
-    record { some = low; few = high; whole = ap length same; rises = up'; below = rising-below (standing (placed s)) up' }
-
-fits : (a b c : Bool) → (a && b && c) ≡ true → (a ≡ true) × (b ≡ true)
-fits true true c h = (refl, refl)
-fits true false c h = (refl, h)
-fits false b c h = (h, cc)
 
 pub listed-stands : (bytes : List ℕ) (v : Versions) → listOf bytes ≡ accepted v
     → Standing v × (standing v ≡ versionsIn bytes)
 unfolding listOf
 listed-stands bytes v h =
     let s : List ℕ = versionsIn bytes in
-    let counted = pick-accepted (countFits bytes (length s)) (ifRising s) 11 h in
-    let rises = pick-accepted (rising s) (accepted (placed s)) 11 (counted .1) in
-    let range = fits (leb 1 (length s)) (leb (length s) 8) (eqb (length bytes) (3 * length s)) (counted .0) in
-    let high : length s ≤ 8 = leb-true _ _ (range .1) in
-    let same : placed s ≡ v = cc (rises .1) in
-    subst (λ (x : Versions). Standing x × (standing x ≡ s)) same
-    (placed-stands s (leb-true _ _ (range .0)) high (rises .0), standing-placed s high)
+    let taken = pick-accepted (isLent bytes s) (accepted (placed s)) 11 h in
+    let list : isList (placed s) ≡ true = both-right (eqb (length bytes) (3 * length s)) (isList (placed s)) (taken .0) in
+    let stands = list-stands (placed s) (placed-eight s) list in
+    let same : placed s ≡ v = cc (taken .1) in
+    subst (λ (x : Versions). Standing x × (standing x ≡ s)) same (stands, standing-placed s (stands .few))
 
 -- ---- the place of a version
 

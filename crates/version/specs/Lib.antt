@@ -3,3 +3,6 @@ pub mod Message
 pub mod Told
 pub mod Table
 pub mod Talk
+pub mod Calls
+pub mod Refusals
+pub mod Reachable

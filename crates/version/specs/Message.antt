@@ -14,7 +14,7 @@ use Rattle.version.specs.declared.MessageReading.the-variants as reading
 use Rattle.version.specs.declared.Verdict.{Verdict}
 use Rattle.version.specs.declared.Verdict.the-variants.{Continue, Success, Failure}
 
--- tables 6 and 7, field 2, the result (协商结果): "0x00 continue, 0x01 success, 0x02 failure"
+-- tables 6 and 7, field 2, the result (协商结果): 0x00 is continue, 0x01 success, 0x02 failure
 abbrev pub verdictByte : Verdict → ℕ
 verdictByte Continue = 0
 verdictByte Success = 1
@@ -23,14 +23,15 @@ verdictByte Failure = 2
 unfoldable pub verdictOf : ℕ → Verdict
 verdictOf byte = pick (eqb byte 0) Continue (pick (eqb byte 1) Success Failure)
 
--- "A failure names version FF FF FF (001 prints four bytes for this three-byte field)"
+-- Around the transport, version talk: a failure has 0xFF in all three bytes of the version. (001 puts
+-- a fourth 0xFF there, and the field has no room for it.)
 abbrev pub named : Verdict → ℕ → ℕ
 named Continue version = version
 named Success version = version
 named Failure version = versionOf 0xFF 0xFF 0xFF
 
--- "Control-pilot, transport-version and reserved bytes .. are written as the caller's byte, 0x01
--- and 0xFF"; CAN type 0x00 is CAN 2.0B
+-- The control-pilot byte is whatever the caller gives, the transport version is 0x01, the reserved
+-- byte 0xFF (Around the transport, version talk); CAN type 0x00 is CAN 2.0B.
 abbrev pub bytesOf : Verdict → ℕ → ℕ → List ℕ
 bytesOf verdict version control =
     0x00 ∷ verdictByte verdict ∷ majorOf version ∷ minorOf version ∷ temporaryOf version
@@ -53,7 +54,8 @@ messageOf bytes =
       control = getD bytes 5 0;
     }
 
--- refusals, message: "10 CAN type not 0 or result over 2"; nothing else is judged
+-- Refusals, by place, message: 10 unless the CAN type is 0 and the result one of the three; no other
+-- byte is judged
 abbrev pub isMessage : List ℕ → Bool
 isMessage bytes = eqb (getD bytes 0 0) 0 && leb (getD bytes 1 0) 2
 

@@ -17,7 +17,8 @@ pub data Trigger : Type 0 where
   periodDue : Trigger
   -- 接收“协商成功”, 版本不一致: success is heard, the version is not consistent
   successOther : Trigger
-  -- .. 版本一致且为 V1.1.0: consistent, V1.1.0; document 01: "any agreed version below 2.0.0 ends in S2"
+  -- .. 版本一致且为 V1.1.0: consistent, V1.1.0; document 01 ("any agreed version") has every version
+  -- below 2.0.0 here
   successBelow2 : Trigger
   -- .. 版本一致且 ≥ V2.0.0: consistent, 2.0.0 or above
   success2 : Trigger

@@ -1,15 +1,17 @@
 -- The calls of a talker: which trigger a call is, and what the table's entry does.
 use Prim.Native.Nat.{ℕ}
 use mathlib.Core.Bool.{Bool, true, false}
-use mathlib.Core.List.{List}
+use mathlib.Core.List.{List, []}
 use lib.Dec.{eqb, leb, ltb}
 use Rattle.frame.specs.Choice.{pick}
 use Rattle.frame.specs.Count.{incrementOf}
 use Rattle.frame.specs.Result.{Result, accepted, refused}
-use Rattle.version.specs.List.{versionOf, highest, Place, nowhere, here, find, findBelow}
+use Rattle.version.specs.List.{versionOf, placed, isList, highest, Place, nowhere, here, find, findBelow}
 use Rattle.version.specs.Message.{readOf}
 use Rattle.version.specs.Table.{Trigger, connected, periodDue, successOther, successBelow2, success2, failureHeard, continueSame, continueLower, continueHigher, continueNone, greeted, stopped, limitDue, Entry, nothing, opens, repeats, resumes, settlesBelow2, settles, fails, accepts, stays, lowers, leaves, cellOf}
 use Rattle.version.specs.Told.{Told, quiet, agreed, failed, left, silently, refusing, saying, moved, unsaid, ownVersion}
+use Rattle.version.specs.declared.ListOutcome.the-variants.{Accepted, Refused}
+use Rattle.version.specs.declared.Made.{Made}
 use Rattle.version.specs.declared.Message.{Message}
 use Rattle.version.specs.declared.Side.{Side}
 use Rattle.version.specs.declared.Side.the-variants.{Charger, Vehicle}
@@ -22,8 +24,8 @@ use Rattle.version.specs.declared.Versions.{Versions}
 
 -- a talker of a side with a list and a control-pilot byte: S0, Ns at the highest version, the
 -- result continue
-unfoldable pub makeOf : Side → Versions → ℕ → Talker
-makeOf side versions control =
+abbrev pub fresh : Side → Versions → ℕ → Talker
+fresh side versions control =
     record {
       side = side;
       versions = versions;
@@ -35,6 +37,16 @@ makeOf side versions control =
       age = 0;
       timing = false;
     }
+
+-- Refusals, by place, version list: a talker is made of a list and of nothing else, as it is given
+unfoldable pub makeOf : Side → Versions → ℕ → Result Talker
+makeOf side versions control = pick (isList versions) (accepted (fresh side versions control)) (refused 11)
+
+-- what making answers, whole: an enum holds no array, so the talker stands beside the outcome; where
+-- it is refused the talker is a charger with no versions and control-pilot byte 0
+abbrev pub madeOf : Result Talker → Made
+madeOf (accepted t) = record { talker = t; outcome = Accepted }
+madeOf (refused number) = record { talker = fresh Charger (placed []) 0; outcome = Refused number }
 
 -- a place that was found, else the place where Ns is
 abbrev pub placeOr : Place → ℕ → ℕ
@@ -50,8 +62,9 @@ keepsTiming Vehicle = true
 abbrev pub pointed : Talker → Verdict → ℕ → Talker
 pointed t verdict place = moved t S1 verdict place (t .period) (t .age) false
 
--- What each entry does. "The message of S2, S3 or S4 goes out in the call that enters it." A new
--- state starts T1 and Tout0 anew; S2 to S5 have closed them but for the vehicle's T1 in S3.
+-- What each entry does. Entering S2, S3 or S4 sends that state's message at once, in the same call
+-- (Around the transport, version talk). A new state starts T1 and Tout0 anew; S2 to S5 have closed
+-- them but for the vehicle's T1 in S3.
 abbrev pub opening : Talker → Told
 opening t = saying (moved t S1 Continue (t .place) 0 0 false) quiet
 
@@ -108,7 +121,7 @@ stopOf t = triggered t 0 stopped
 unfoldable pub greetOf : Talker → Told
 greetOf t = triggered t 0 greeted
 
--- table 9, S3: "on hearing the charger's supported functions, close T1 and Tout0"
+-- table 9, S3: the charger's supported functions close T1 and Tout0
 -- (收到“充电机支持功能”后关闭T1和Tout0)
 abbrev pub closed : Talker → Talker
 closed t = moved t (t .state) (t .verdict) (t .place) 0 0 false
@@ -124,11 +137,11 @@ functionsState t S5 = silently t
 unfoldable pub functionsHeardOf : Talker → Told
 functionsHeardOf t = functionsState t (t .state)
 
--- a success heard: "any agreed version below 2.0.0 ends in S2"
+-- a success heard and consistent: below 2.0.0 is S2's column, 2.0.0 and above S3's
 abbrev pub agreedTrigger : ℕ → Trigger
 agreedTrigger version = pick (ltb version (versionOf 2 0 0)) successBelow2 success2
 
--- "A success heard is consistent when its version is the own one at Ns"
+-- Around the transport ("A success heard"): a message that names the version at Ns is consistent
 unfoldable pub successTrigger : Talker → ℕ → Trigger
 successTrigger t version = pick (eqb version (ownVersion t)) (agreedTrigger version) successOther
 
@@ -137,8 +150,8 @@ abbrev pub higherTrigger : Place → Trigger
 higherTrigger nowhere = continueNone
 higherTrigger (here n) = continueHigher
 
--- "a heard continue is the same when its version is in the own list, else lower and higher compare
--- the version at Ns with it"
+-- Around the transport ("a heard continue"): a version from anywhere in the own list is the same. Any
+-- other is held against the version at Ns, which is the lower one or else the higher.
 unfoldable pub elseTrigger : Talker → ℕ → Trigger
 elseTrigger t version =
     pick (ltb (ownVersion t) version) continueLower (higherTrigger (findBelow (t .versions) version))
@@ -155,7 +168,7 @@ heardTrigger t version Continue = continueTrigger t version
 heardTrigger t version Success = successTrigger t version
 heardTrigger t version Failure = failureHeard
 
--- refusals, message: 10, before the state is looked at
+-- Refusals, by place, message: 10, before the state is looked at
 unfoldable pub hearJudged : Talker → Result Message → Told
 hearJudged t (accepted m) = triggered t (m .version) (heardTrigger t (m .version) (m .verdict))
 hearJudged t (refused number) = refusing t number
@@ -163,7 +176,7 @@ hearJudged t (refused number) = refusing t number
 unfoldable pub hearOf : Talker → List ℕ → Told
 hearOf t bytes = hearJudged t (readOf bytes)
 
--- "ticks of 1 ms": T1 and Tout0 a tick later
+-- T1 and Tout0 a tick, which is 1 ms, later
 abbrev pub nextPeriod : Talker → ℕ
 nextPeriod t = incrementOf (t .period)
 
@@ -187,7 +200,7 @@ tickPeriod t =
     pick (periodIsDue t) (triggered (aged t (t .period) (nextAge t)) 0 periodDue)
     (silently (aged t (nextPeriod t) (nextAge t)))
 
--- S1: "At one tick the 15 s limit goes before the period."
+-- S1: a tick at which both are due is Tout0's alone (Around the transport, "At one tick")
 unfoldable pub tickTalking : Talker → Told
 tickTalking t = pick (limitIsDue t) (triggered t 0 limitDue) (tickPeriod t)
 

@@ -56,7 +56,7 @@ unsaid t o = record { next = t; emits = false; bytes = noBytes; outcome = o }
 abbrev pub silently : Talker → Told
 silently t = unsaid t quiet
 
--- "A refusal returns its number, no frame and no report"
+-- Refusals, by place, last line: a number, and nothing is sent or reported
 abbrev pub refusing : Talker → ℕ → Told
 refusing t number = unsaid t (refused number)
 

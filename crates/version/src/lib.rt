@@ -9,14 +9,15 @@ mod vehicle;
 pub mod wire;
 
 // The versions that an end supports, as numbers (major, minor and temporary version as the digits
-// of base 256), rising. The first count of them stand; the places after them hold 0. The count is
-// as wide as a number, so that a list has no gap and is copied as it lies.
+// of base 256), rising. The first count of them stand; listing puts 0 after them, and a talker that
+// was made looks at none of those. The count is as wide as a number, so that a list has no gap and
+// is copied as it lies.
 pub struct Versions {
     pub count: u32,
     pub numbers: [u32; 8],
 }
 
-// Whether lent versions are a list; if not, the number of the refusal.
+// Whether versions are a list that an end can have; if not, the number of the refusal.
 pub enum ListOutcome {
     Accepted,
     Refused(u8),
@@ -79,6 +80,12 @@ pub struct Talker {
     pub period: u16,
     pub age: u16,
     pub timing: bool,
+}
+
+// What making a talker answers. Where it is refused, the talker is a charger with no versions.
+pub struct Made {
+    pub talker: Talker,
+    pub outcome: ListOutcome,
 }
 
 // What a call reports: nothing, a refusal by its number, the version agreed on, that the talk

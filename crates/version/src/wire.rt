@@ -81,8 +81,8 @@ pub fn write(m: Message) -> [u8; 8]
     [0x00, result, high, middle, low, m.control, 0x01, 0xFF]
 }
 
-// The message of eight bytes, or refusal 10: CAN type not 0, or result over 2. Both are judged as
-// one word, which is the result where the type is 0.
+// The message of eight bytes, or refusal 10 for another CAN type than 0 or a result above 2. Both
+// are judged as one word, which is the result where the type is 0.
 pub fn read(bytes: [u8; 8]) -> MessageReading
     ensures { λ r. ⌜ toldReading r ≡ readOf bytes ⌝ }
 {
