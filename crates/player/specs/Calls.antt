@@ -16,6 +16,7 @@ use Rattle.player.specs.Text.{textOf}
 use Rattle.player.specs.declared.Opening as opening
 use Rattle.player.specs.declared.Opening.the-variants as variants
 use Rattle.player.specs.declared.Player.{Player}
+use Rattle.player.specs.declared.Progress.{Progress}
 use Rattle.text.specs.Page.{Page, page, put}
 use Rattle.transport.specs.Answer.{worldOf}
 use Rattle.transport.specs.World.{World, begin}
@@ -34,6 +35,12 @@ pub record Progressed : Type 0 where
 
 abbrev pub progressed : Turned → Bodies → ℕ → Progressed
 progressed t b played = record { world = t .world; bodies = b; played = played; page = t .page }
+
+-- what is told of a call's answer, with the lent lines, buffer and page as the call leaves them
+abbrev pub toldProgress : Progress → List ℕ → List ℕ → List ℕ → List ℕ → Progressed
+toldProgress r forward back buffer out =
+    progressed (turned (worldOf (r .player .ends) forward back buffer) (page out (r .written)))
+    (r .player .bodies) (r .player .played)
 
 -- the lent lengths: 576 for a line, 16384 for the page; lent anything else, nothing happens
 abbrev pub beginsOn : List ℕ → List ℕ → Bool
