@@ -13,7 +13,7 @@ use Rattle.pack.specs.declared.Bodies.{Bodies}
 abbrev table : List ℕ
 table = 3 ∷ 13 ∷ 0 ∷ 10 ∷ 0 ∷ 23 ∷ 0 ∷ 9 ∷ 0 ∷ 32 ∷ 0 ∷ 7 ∷ 0 ∷ []
 
-abbrev settings : List ℕ
+abbrev pub settings : List ℕ
 settings = 1 ∷ 10 ∷ 0 ∷ 100 ∷ 0 ∷ 10 ∷ 0 ∷ 2 ∷ 249 ∷ 6 ∷ []
 
 abbrev message : List ℕ
@@ -22,10 +22,10 @@ message = 1 ∷ 2 ∷ 3 ∷ 4 ∷ 5 ∷ 6 ∷ 7 ∷ 8 ∷ 9 ∷ []
 abbrev events : List ℕ
 events = 3 ∷ 6 ∷ 1 ∷ 3 ∷ 1 ∷ 3 ∷ 6 ∷ []
 
-abbrev example : List ℕ
+abbrev pub example : List ℕ
 example = table ++ (settings ++ (message ++ events))
 
-abbrev bodies : Bodies
+abbrev pub bodies : Bodies
 bodies =
     record {
       settings = record { gap = 1; timeout = 10; limit = 100; patience = 10; window = 2; capacity = 1785 };

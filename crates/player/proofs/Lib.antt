@@ -4,4 +4,6 @@ pub mod Bounds
 pub mod Opened
 pub mod Steps
 pub mod Whole
+pub mod Runs
+pub mod Examples
 pub mod Keeps

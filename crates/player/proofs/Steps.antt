@@ -90,6 +90,9 @@ page-shows out text fits =
 -- ---- the calls
 
 -- the lent lengths pass the test
+pub lent-begin : (f o : ℕ) → f ≡ 576 → o ≡ 16384 → (eqb f 576 && eqb o 16384) ≡ true
+lent-begin f o e c = rw (e, c) refl
+
 lent : (f b o : ℕ) → f ≡ 576 → b ≡ 576 → o ≡ 16384 → (eqb f 576 && eqb b 576 && eqb o 16384) ≡ true
 lent f b o e d c = rw (e, d, c) refl
 
@@ -137,10 +140,7 @@ begin-from bytes ends b forward back out same lf lo =
     let fits : length (eventText 0 (step .event)) ≤ length out = omega (arith, event-short (start ends) (begin m) 0 (record { forward = tt; back = tt })) in
     ap (λ (l : List ℕ). l ++ textOf 1 (eventsFrom (step .world) m (eventsOf bytes b))) (sym (page-shows out (eventText 0 (step .event)) fits))
     ∙ ap (λ (t : Turned). take (t .page .place) (t .page .bytes) ++ textOf 1 (eventsFrom (t .world) m (eventsOf bytes b)))
-    (pick-true _ (lengths (length forward) (length out) lf lo) (ap (λ (v : World). printed (cappedStep v (begin m)) 0 (page out 0)) (sym same)))
-  where
-    lengths : (f o : ℕ) → f ≡ 576 → o ≡ 16384 → (eqb f 576 && eqb o 16384) ≡ true
-    lengths f o e c = rw (e, c) refl
+    (pick-true _ (lent-begin (length forward) (length out) lf lo) (ap (λ (v : World). printed (cappedStep v (begin m)) 0 (page out 0)) (sym same)))
 
 pub begin-prints : (bytes : List ℕ) (q : Player)
     → openOf bytes ≡ accepted q

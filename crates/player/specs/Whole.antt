@@ -72,3 +72,16 @@ Prints bytes (variants.Ready q) =
 abbrev pub PrintsPlayed : Type 0
 PrintsPlayed =
     (bytes : List ℕ) (answer : opening.Opening) → toldOpening answer ≡ openOf bytes → Prints bytes answer
+
+-- a begin and so many calls of play
+pub record Run (bytes : List ℕ) (q : Player) (n : ℕ) : Type 0 where
+  pub begun : List ℕ
+  pub text : List ℕ
+  pub first : Held
+  pub last : Held
+  pub begin : Begins bytes q begun first
+  pub play : Plays bytes n first text last
+
+-- there is such a run for every player and every number of calls, so the claim above is not empty
+abbrev pub RunsExist : Type 0
+RunsExist = (bytes : List ℕ) (q : Player) (n : ℕ) → Run bytes q n
