@@ -16,7 +16,7 @@ table = 3 ∷ 13 ∷ 0 ∷ 10 ∷ 0 ∷ 23 ∷ 0 ∷ 9 ∷ 0 ∷ 32 ∷ 0 ∷ 7 
 abbrev pub settings : List ℕ
 settings = 1 ∷ 10 ∷ 0 ∷ 100 ∷ 0 ∷ 10 ∷ 0 ∷ 2 ∷ 249 ∷ 6 ∷ []
 
-abbrev message : List ℕ
+abbrev pub message : List ℕ
 message = 1 ∷ 2 ∷ 3 ∷ 4 ∷ 5 ∷ 6 ∷ 7 ∷ 8 ∷ 9 ∷ []
 
 abbrev events : List ℕ

@@ -1,31 +1,71 @@
--- Document 01, The player: what is printed of its example, computed whole, from the pack's bytes to the seven lines.
+-- Document 01, The player: its example computed whole, from the pack's bytes to the seven lines; and the same pack without
+-- its events, and no pack at all.
 -- Assumes nothing.
 use Prim.Native.Nat.{ℕ}
 use mathlib.Core.Path.{_≡_, refl}
-use mathlib.Core.List.{List}
+use mathlib.Core.List.{List, [], _∷_, _++_}
+use lib.ListN.{take}
 use Rattle.frame.specs.Choice.{pick}
 use Rattle.frame.specs.Count.{frameCountOf, incrementOf}
 use Rattle.frame.specs.Frames.{fillTo, blankOf, announcementOf, informationOf, lmAckOf, endOfAckOf}
 use Rattle.frame.specs.Reading.{namedOf, allFiller, readOf}
+use Rattle.frame.specs.Result.{accepted, refused}
+use Rattle.line.specs.Ring.{emptyOf}
 use Rattle.pack.proofs.Examples as pack
 use Rattle.pack.specs.Pack.{laidOut, settingsOf, bodiesIn, messageOf, eventsOf, allEvents, bodiesOf}
 use Rattle.player.specs.Events.{callFor, turnFor, eventsFrom, runFrom}
-use Rattle.player.specs.Played.{openedWith, openedBodies, openOf, runOf, playedOpened, played}
+use Rattle.player.specs.Played.{start, openedWith, openedBodies, openOf, runOf, playedOpened, played}
 use Rattle.player.specs.Text.{framesText, eventText, textOf}
+use Rattle.player.specs.declared.Player.{Player}
 use Rattle.receiver.specs.Hear as receiver-hear
 use Rattle.receiver.specs.Make as receiver-make
 use Rattle.receiver.specs.Window as receiver-window
+use Rattle.receiver.specs.declared.Phase.the-variants as receiver-at
 use Rattle.sender.specs.Begin as sender-begin
 use Rattle.sender.specs.Hear as sender-hear
 use Rattle.sender.specs.Make as sender-make
 use Rattle.sender.specs.Tick as sender-tick
+use Rattle.sender.specs.declared.Phase.the-variants.{Idle}
 use Rattle.text.proofs.Examples as text
-use Rattle.text.specs.Text.{digitsIn, decimal, hexGlyph, spaced, hexes, headOf, frameLine, sentLine, deliveredLine, senderReport, receiverReport}
+use Rattle.text.specs.Text.{digitsIn, decimal, hexGlyph, spaced, hexes, headOf, frameLine, sentLine, deliveredLine, senderReport, receiverReport, refusedText}
 use Rattle.transport.specs.Capped.{capped, cappedStep}
 use Rattle.transport.specs.Make.{joined, makeOf}
 use Rattle.transport.specs.Step.{givenForward, givenBack, stepOf}
+use Rattle.transport.specs.World.{begin}
 
-pub example-played : played pack.example ≡ text.example
+-- the example's pack with an empty third body
+abbrev pub silent : List ℕ
+silent = 3 ∷ 13 ∷ 0 ∷ 10 ∷ 0 ∷ 23 ∷ 0 ∷ 9 ∷ 0 ∷ 32 ∷ 0 ∷ 0 ∷ 0 ∷ (pack.settings ++ pack.message)
+
+-- a player of so many events, as opening the example's pack answers it
+abbrev pub playerOf : ℕ → Player
+playerOf events =
+    record {
+      ends =
+          record {
+            sender = record { settings = record { gap = 1; timeout = 10; limit = 100 }; phase = Idle };
+            receiver = record { settings = record { timeout = 10; window = 2; capacity = 1785 }; phase = receiver-at.Idle };
+            forward = emptyOf;
+            back = emptyOf;
+          };
+      bodies = record { settings = pack.bodies .settings; message = 9; events = events };
+      played = 0;
+    }
+
+-- the begin's line
+abbrev pub firstLine : List ℕ
+firstLine = take 30 text.example
+
+pub record Computed : Type 0 where
+  pub opens : openOf pack.example ≡ accepted (playerOf 7)
+  pub prints : played pack.example ≡ text.example
+  pub opens-silent : openOf silent ≡ accepted (playerOf 0)
+  pub prints-silent : played silent ≡ firstLine
+  pub begins : eventText 0 (cappedStep (start (playerOf 7 .ends)) (begin pack.message) .event) ≡ firstLine
+  pub refuses : openOf [] ≡ refused 12
+  pub prints-refused : played [] ≡ refusedText 12
+
+pub computed : Computed
 unfolding
     pick laidOut settingsOf bodiesIn messageOf eventsOf allEvents bodiesOf
     openedWith openedBodies openOf runOf playedOpened played callFor turnFor eventsFrom runFrom framesText eventText textOf
@@ -37,5 +77,14 @@ unfolding
     sender-hear.hearOf sender-hear.hearRead sender-hear.hearKind sender-hear.hearAck sender-hear.ackOpening sender-hear.taking sender-hear.hearEnd sender-hear.ifWhole
     receiver-hear.hearOf receiver-hear.hearRead receiver-hear.hearKind receiver-hear.hearNumbered receiver-hear.hearAnnouncement receiver-hear.announceIdle receiver-hear.hearInformation receiver-hear.informationOpen receiver-hear.stored receiver-hear.storing
     receiver-window.windowOf
-    digitsIn decimal hexGlyph spaced hexes headOf frameLine sentLine deliveredLine senderReport receiverReport
-example-played = refl
+    digitsIn decimal hexGlyph spaced hexes headOf frameLine sentLine deliveredLine senderReport receiverReport refusedText
+computed =
+    record {
+      opens = refl;
+      prints = refl;
+      opens-silent = refl;
+      prints-silent = refl;
+      begins = refl;
+      refuses = refl;
+      prints-refused = refl;
+    }

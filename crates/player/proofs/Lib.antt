@@ -6,4 +6,5 @@ pub mod Steps
 pub mod Whole
 pub mod Runs
 pub mod Examples
+pub mod Counterexamples
 pub mod Keeps

@@ -29,14 +29,14 @@ held player forward back buffer =
 -- A call of begin, what it prints and what the program then holds. The lines have 576 bytes and the page 16384, of any
 -- content; the buffer is zeros.
 pub data Begins (bytes : List ℕ) (q : Player) : List ℕ → Held → Type 0 where
-  begins : (r : Progress) (forward forward′ back out out′ : List ℕ)
+  begins : (r : Progress) (forward forward′ back first first′ : List ℕ)
       → length forward ≡ 576
       → length forward′ ≡ length forward
       → length back ≡ 576
-      → length out ≡ 16384
+      → length first ≡ 16384
       → ((other buffer : List ℕ)
-      → toldProgress r forward′ other buffer out′ ≡ beginOf bytes q forward other buffer out)
-      → Begins bytes q (take (r .written) out′) (held (r .player) forward′ back (replicate 1785 0))
+      → toldProgress r forward′ other buffer first′ ≡ beginOf bytes q forward other buffer first)
+      → Begins bytes q (take (r .written) first′) (held (r .player) forward′ back (replicate 1785 0))
 
 -- So many calls of play, what they print, and what the program holds before and after them. Each call is lent what the
 -- call before left, and a page of 16384 bytes of any content.
