@@ -9,7 +9,7 @@ use Rattle.frame.specs.Result.{accepted, refused}
 use Rattle.pack.specs.Pack.{laidOut, settingsOf, bodiesIn, messageOf, eventsOf, allEvents, bodiesOf}
 use Rattle.pack.specs.declared.Bodies.{Bodies}
 
--- "With G 1, both T 10, M 100, C 2, K 1785, bytes 01 to 09, events 3 6 1 3 1 3 6"
+-- the example's pack: count and table, settings, message and events
 abbrev table : List ℕ
 table = 3 ∷ 13 ∷ 0 ∷ 10 ∷ 0 ∷ 23 ∷ 0 ∷ 9 ∷ 0 ∷ 32 ∷ 0 ∷ 7 ∷ 0 ∷ []
 

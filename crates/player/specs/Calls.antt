@@ -49,7 +49,7 @@ beginsOn forward out = eqb (length forward) 576 && eqb (length out) 16384
 abbrev pub playsOn : List ℕ → List ℕ → List ℕ → Bool
 playsOn forward back out = eqb (length forward) 576 && eqb (length back) 576 && eqb (length out) 16384
 
--- "0 is begin"
+-- begin, printed under number 0
 unfoldable pub beginOf : List ℕ → Player → List ℕ → List ℕ → List ℕ → List ℕ → Progressed
 beginOf bytes q forward back buffer out =
     let w = worldOf (q .ends) forward back buffer in

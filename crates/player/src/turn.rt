@@ -85,8 +85,8 @@ pub(crate) fn first_turn(ends: Ends, message: &[u8], forward: &mut [u8], out: &m
     Turn { ends, at }
 }
 
-// Document 01, The player: "1, 2 sender, receiver tick; 3, 4, 5 forward hear, lose, repeat; 6, 7, 8 back". The letter is that
-// of the end that is called.
+// An event by its number, as document 01 has it under The player: `callFor` of the definitions. The letter is that of the end
+// that is called.
 pub(crate) fn next_turn(
     ends: Ends,
     number: u16,
