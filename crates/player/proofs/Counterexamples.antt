@@ -6,29 +6,30 @@ use mathlib.Core.Bool.{true, false, _&&_, and-false}
 use mathlib.Core.List.{List, [], _++_, append-nil}
 use native.Mathlib.Omega.{arith}
 use lib.Dec.{eqb, leb}
-use lib.ListN.{length, take, replicate}
+use lib.ListN.{length, take, replicate, length-replicate}
 use Rattle.frame.proofs.Choice.{pick-true, pick-false}
 use Rattle.frame.specs.Choice.{pick}
 use Rattle.line.specs.Ring.{framesFrom, framesIn}
 use Rattle.pack.proofs.Examples as pack
 use Rattle.pack.specs.Pack.{messageOf}
-use Rattle.player.proofs.Examples.{silent, playerOf, firstLine, computed}
+use Rattle.player.proofs.Examples.{silent, playerOf, firstLine, begunPlayer, zeros, announced, swapped, computed}
 use Rattle.player.proofs.Runs.{runs-exist}
 use Rattle.player.proofs.Steps.{shown, page-shows, lent-begin}
 use Rattle.player.proofs.Whole.{prints-played}
-use Rattle.player.specs.Calls.{toldProgress, beginOf, playOf, isFinished}
+use Rattle.player.specs.Calls.{progressed, toldProgress, beginOf, playOf, isFinished}
 use Rattle.player.specs.Played.{start, played}
-use Rattle.player.specs.State.{Turned}
+use Rattle.player.specs.State.{Turned, turned}
 use Rattle.player.specs.Text.{eventText}
-use Rattle.player.specs.Whole.{Held, Begins, begins, Plays, none, plays, Run}
+use Rattle.player.specs.Whole.{Held, held, Begins, begins, Plays, none, plays, Run}
 use Rattle.player.specs.declared.Opening.the-variants as variants
 use Rattle.player.specs.declared.Player.{Player}
 use Rattle.text.proofs.Examples as text
-use Rattle.text.specs.Page.{page, byteAt, put}
+use Rattle.text.specs.Page.{Page, page, byteAt, put}
 use Rattle.text.specs.Text.{digitsIn, decimal, spaced, refusedText}
 use Rattle.transport.specs.Answer.{worldOf}
 use Rattle.transport.specs.Capped.{cappedStep}
-use Rattle.transport.specs.World.{begin}
+use Rattle.transport.specs.Step.{stepOf}
+use Rattle.transport.specs.World.{World, begin}
 
 never : true ≡ false → ⊥
 never e = let z : _≡_ {A = ℕ} 0 1 = cc in omega arith
@@ -77,6 +78,28 @@ page-of-16383 q forward back buffer out size = pick-false _ (other (length forwa
   where
     other : (f b o : ℕ) → o ≡ 16383 → (eqb f 576 && eqb b 576 && eqb o 16384) ≡ false
     other f b o e = rw e (and-false (eqb f 576 && eqb b 576))
+
+-- claim_lines_swapped: the example, begun on lines of zeros, and played with its lines the wrong way round; its seven events
+-- are then played, nothing is printed of them, and the begin's line would be all seven
+pub begun-on-zeros : (let p = put (page (zeros 16384) 0) (eventText 0 (cappedStep (start (playerOf 7 .ends)) (begin pack.message) .event)) in
+    Begins pack.example (playerOf 7) (take (p .place) (p .bytes)) (held begunPlayer announced (zeros 576) (zeros 1785)))
+unfolding beginOf messageOf cappedStep stepOf worldOf
+begun-on-zeros =
+    let p : Page = put (page (zeros 16384) 0) (eventText 0 (cappedStep (start (playerOf 7 .ends)) (begin pack.message) .event)) in
+    begins (record { player = begunPlayer; written = p .place }) (zeros 576) announced (zeros 576) (zeros 16384) (p .bytes) refl refl refl
+    (length-replicate {A = ℕ} 16384 0)
+    (λ other buffer. ap (λ (t : Turned). progressed t (playerOf 7 .bodies) 0)
+    (pick-true _ (lent-begin 576 (length (zeros 16384)) refl (length-replicate {A = ℕ} 16384 0))
+    (ap (λ (w : World). turned w p) (computed .begun other buffer))))
+
+pub lines-swapped : (swapped .played ≡ 7) × (firstLine ++ take (swapped .page .place) (swapped .page .bytes) ≡ played pack.example → ⊥)
+lines-swapped = (
+  computed .plays-swapped,
+  λ e. let one : length (firstLine ++ take (swapped .page .place) (swapped .page .bytes)) ≡ 30 = ap (λ (l : List ℕ). length (firstLine ++ l)) (computed .shows-swapped) in
+      let all : length (played pack.example) ≡ 179 = ap length (computed .prints) in
+      let same : length (firstLine ++ take (swapped .page .place) (swapped .page .bytes)) ≡ length (played pack.example) = ap length e in
+      omega arith,
+)
 
 -- ---- the pack without events
 

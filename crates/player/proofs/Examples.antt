@@ -4,16 +4,17 @@
 use Prim.Native.Nat.{ℕ}
 use mathlib.Core.Path.{_≡_, refl}
 use mathlib.Core.List.{List, [], _∷_, _++_}
-use lib.ListN.{take}
+use lib.ListN.{take, replicate}
 use Rattle.frame.specs.Choice.{pick}
 use Rattle.frame.specs.Count.{frameCountOf, incrementOf}
 use Rattle.frame.specs.Frames.{fillTo, blankOf, announcementOf, informationOf, lmAckOf, endOfAckOf}
 use Rattle.frame.specs.Reading.{namedOf, allFiller, readOf}
 use Rattle.frame.specs.Result.{accepted, refused}
-use Rattle.line.specs.Ring.{emptyOf}
+use Rattle.line.specs.Ring.{frameAt, framesFrom, framesIn, emptyOf}
 use Rattle.pack.proofs.Examples as pack
 use Rattle.pack.specs.Pack.{laidOut, settingsOf, bodiesIn, messageOf, eventsOf, allEvents, bodiesOf}
-use Rattle.player.specs.Events.{callFor, turnFor, eventsFrom, runFrom}
+use Rattle.player.specs.Calls.{Progressed, nextEvents, playing, playOf}
+use Rattle.player.specs.Events.{callFor, turnFor, eventsFrom, worldAfter, runFrom}
 use Rattle.player.specs.Played.{start, openedWith, openedBodies, openOf, runOf, playedOpened, played}
 use Rattle.player.specs.Text.{framesText, eventText, textOf}
 use Rattle.player.specs.declared.Player.{Player}
@@ -28,6 +29,8 @@ use Rattle.sender.specs.Tick as sender-tick
 use Rattle.sender.specs.declared.Phase.the-variants.{Idle}
 use Rattle.text.proofs.Examples as text
 use Rattle.text.specs.Text.{digitsIn, decimal, hexGlyph, spaced, hexes, headOf, frameLine, sentLine, deliveredLine, senderReport, receiverReport, refusedText}
+use Rattle.text.specs.Page.{put}
+use Rattle.transport.specs.Answer.{worldOf}
 use Rattle.transport.specs.Capped.{capped, cappedStep}
 use Rattle.transport.specs.Make.{joined, makeOf}
 use Rattle.transport.specs.Step.{givenForward, givenBack, stepOf}
@@ -56,24 +59,52 @@ playerOf events =
 abbrev pub firstLine : List ℕ
 firstLine = take 30 text.example
 
+-- the example once it is begun: the announcement on forward, in a line of zeros
+abbrev pub begunPlayer : Player
+begunPlayer =
+    record {
+      ends =
+          record {
+            sender = cappedStep (start (playerOf 7 .ends)) (begin pack.message) .world .sender;
+            receiver = playerOf 7 .ends .receiver;
+            forward = record { first = 0; count = 1 };
+            back = emptyOf;
+          };
+      bodies = playerOf 7 .bodies;
+      played = 0;
+    }
+
+abbrev pub zeros : ℕ → List ℕ
+zeros n = replicate n 0
+
+abbrev pub announced : List ℕ
+announced = 1 ∷ 0 ∷ 2 ∷ 9 ∷ 0 ∷ 255 ∷ 255 ∷ 255 ∷ 255 ∷ zeros 567
+
+-- a call of play that is lent the lines the wrong way round
+abbrev pub swapped : Progressed
+swapped = playOf pack.example begunPlayer (zeros 576) announced (zeros 1785) (zeros 16384)
+
 pub record Computed : Type 0 where
   pub opens : openOf pack.example ≡ accepted (playerOf 7)
   pub prints : played pack.example ≡ text.example
   pub opens-silent : openOf silent ≡ accepted (playerOf 0)
   pub prints-silent : played silent ≡ firstLine
   pub begins : eventText 0 (cappedStep (start (playerOf 7 .ends)) (begin pack.message) .event) ≡ firstLine
+  pub begun : (back buffer : List ℕ) → worldOf (begunPlayer .ends) announced back buffer ≡ cappedStep (worldOf (playerOf 7 .ends) (zeros 576) back buffer) (begin pack.message) .world
+  pub shows-swapped : take (swapped .page .place) (swapped .page .bytes) ≡ []
+  pub plays-swapped : swapped .played ≡ 7
   pub refuses : openOf [] ≡ refused 12
   pub prints-refused : played [] ≡ refusedText 12
 
 pub computed : Computed
 unfolding
     pick laidOut settingsOf bodiesIn messageOf eventsOf allEvents bodiesOf
-    openedWith openedBodies openOf runOf playedOpened played callFor turnFor eventsFrom runFrom framesText eventText textOf
+    worldOf framesIn framesFrom frameAt nextEvents playing playOf put worldAfter openedWith openedBodies openOf runOf playedOpened played callFor turnFor eventsFrom runFrom framesText eventText textOf
     capped cappedStep joined makeOf givenForward givenBack stepOf
     frameCountOf incrementOf fillTo blankOf announcementOf informationOf lmAckOf endOfAckOf namedOf allFiller readOf
     sender-make.makeOf receiver-make.makeOf
     sender-begin.beginOf sender-begin.beginPhase sender-begin.beginIdle sender-begin.beginLong
-    sender-tick.tickOf sender-tick.lentTo sender-tick.tickPhase sender-tick.tickSending sender-tick.unlessOver sender-tick.atLimit sender-tick.afterFrame
+    sender-tick.tickOf sender-tick.lentTo sender-tick.tickPhase sender-tick.tickOpening sender-tick.unlessThird sender-tick.tickSending sender-tick.unlessOver sender-tick.atLimit sender-tick.afterFrame
     sender-hear.hearOf sender-hear.hearRead sender-hear.hearKind sender-hear.hearAck sender-hear.ackOpening sender-hear.taking sender-hear.hearEnd sender-hear.ifWhole
     receiver-hear.hearOf receiver-hear.hearRead receiver-hear.hearKind receiver-hear.hearNumbered receiver-hear.hearAnnouncement receiver-hear.announceIdle receiver-hear.hearInformation receiver-hear.informationOpen receiver-hear.stored receiver-hear.storing
     receiver-window.windowOf
@@ -85,6 +116,9 @@ computed =
       opens-silent = refl;
       prints-silent = refl;
       begins = refl;
+      begun = λ back buffer. refl;
+      shows-swapped = refl;
+      plays-swapped = refl;
       refuses = refl;
       prints-refused = refl;
     }
