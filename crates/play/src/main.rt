@@ -9,7 +9,7 @@ fn show(page: &[u8], written: usize) {
     }
 }
 
-// Plays the events, 128 at a time; a pack has fewer than 512 times as many.
+// Plays the events, 128 in a call: 512 calls finish every pack (`PrintsPlayed` of the crate player).
 fn play_events(
     begun: Player,
     pack: &[u8],
