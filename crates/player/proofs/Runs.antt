@@ -1,5 +1,6 @@
--- The calls can be made: whatever world the definition of a call names, there are ends and lent bytes that make it. A line
--- keeps at most 64 frames of eight bytes, and a ring holds every such list: it is filled by joining one frame after the other.
+-- The calls can be made: whatever world the definition of a call names, there are ends and lent bytes that make it. A
+-- line keeps at most 64 frames of eight bytes, and a ring holds every such list: it is filled by joining one frame after
+-- the other.
 -- Assumes nothing.
 use Prim.Native.Nat.{ℕ, zero, suc, _+_, _≤_}
 use mathlib.Core.Path.{_≡_, refl, sym, ap, subst, _∙_}

@@ -1,6 +1,6 @@
--- The calls joined. Whatever a call answered, its promise names the world that its answer and the lent bytes make; so what is
--- left to print after it is what the definition leaves, and the next call goes on from there. After n calls of play 128 times
--- n events have been played, or all, and what was printed and what is left make up `played`.
+-- The calls joined. Whatever a call answered, its promise names the world that its answer and the lent bytes make; so
+-- what is left to print after it is what the definition leaves, and the next call goes on from there. After n calls of
+-- play 128 times n events have been played, or all, and what was printed and what is left make up `played`.
 -- Assumes nothing.
 use Prim.Native.Nat.{ℕ, suc, _+_, _*_, min}
 use mathlib.Core.Path.{_≡_, refl, sym, ap, subst, _∙_}

@@ -1,5 +1,5 @@
--- The calls of the player joined: what a program prints that opens a pack, begins it and then calls play until the player is
--- finished. Nothing is known here of a call but what it promises, and that a lent slice keeps its length.
+-- The calls of the player joined: what a program prints that opens a pack, begins it and then calls play until the player
+-- is finished. Nothing is known here of a call but what it promises, and that a lent slice keeps its length.
 use Prim.Native.Nat.{ℕ, suc, _*_, _≤_}
 use mathlib.Core.Bool.{true}
 use mathlib.Core.List.{List, [], _++_}
@@ -51,9 +51,9 @@ pub data Plays (bytes : List ℕ) : ℕ → Held → List ℕ → Held → Type 
       → Plays bytes n (held (r .player) forward back buffer) text k
       → Plays bytes (suc n) h (take (r .written) out′ ++ text) k
 
--- What opening answered, and what is printed then. A refusal: its line alone, on a page of at least 14 bytes. A player: after
--- n calls of play it is finished just where 128 times n reaches the number of events, as 512 calls always do; and once it is,
--- all that was printed is `played`, however many calls follow.
+-- What opening answered, and what is printed then. A refusal: its line alone, on a page of at least 14 bytes. A player:
+-- after n calls of play it is finished just where 128 times n reaches the number of events, as 512 calls always do; and
+-- once it is, all that was printed is `played`, however many calls follow.
 abbrev pub Prints : List ℕ → opening.Opening → Type 0
 Prints bytes (variants.Refused number) =
     (out out′ : List ℕ) (written : ℕ)
