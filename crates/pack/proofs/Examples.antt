@@ -9,23 +9,23 @@ use Rattle.frame.specs.Result.{accepted, refused}
 use Rattle.pack.specs.Pack.{laidOut, settingsOf, bodiesIn, messageOf, eventsOf, allEvents, bodiesOf}
 use Rattle.pack.specs.declared.Bodies.{Bodies}
 
--- "With G 1, both T 10, M 100, C 2, K 1785, bytes 01 to 09, events 3 6 1 3 1 3 6"
+-- the example's pack: count and table, settings, message and events
 abbrev table : List ℕ
 table = 3 ∷ 13 ∷ 0 ∷ 10 ∷ 0 ∷ 23 ∷ 0 ∷ 9 ∷ 0 ∷ 32 ∷ 0 ∷ 7 ∷ 0 ∷ []
 
-abbrev settings : List ℕ
+abbrev pub settings : List ℕ
 settings = 1 ∷ 10 ∷ 0 ∷ 100 ∷ 0 ∷ 10 ∷ 0 ∷ 2 ∷ 249 ∷ 6 ∷ []
 
-abbrev message : List ℕ
+abbrev pub message : List ℕ
 message = 1 ∷ 2 ∷ 3 ∷ 4 ∷ 5 ∷ 6 ∷ 7 ∷ 8 ∷ 9 ∷ []
 
 abbrev events : List ℕ
 events = 3 ∷ 6 ∷ 1 ∷ 3 ∷ 1 ∷ 3 ∷ 6 ∷ []
 
-abbrev example : List ℕ
+abbrev pub example : List ℕ
 example = table ++ (settings ++ (message ++ events))
 
-abbrev bodies : Bodies
+abbrev pub bodies : Bodies
 bodies =
     record {
       settings = record { gap = 1; timeout = 10; limit = 100; patience = 10; window = 2; capacity = 1785 };

@@ -1,6 +1,5 @@
--- Document 01, The player: the run pack. "one count byte, 3; a contents table of offset from the pack's start and length
--- (a word each) for each body; then the bodies without gaps to the end, the whole pack at most 65535 bytes. Bodies:
--- settings .., message, events ... Anything else is 12".
+-- Document 01, The player: the run pack. It has three bodies, settings, message and events, one behind the other; in front
+-- stand their number and a table that says where each begins and how long it is. What is not made so is refused 12.
 use Prim.Native.Nat.{ℕ, _+_, _*_}
 use mathlib.Core.Bool.{Bool, true, _&&_}
 use mathlib.Core.List.{List, [], _∷_}
@@ -19,23 +18,24 @@ abbrev pub toldReading : Reading → Result Bodies
 toldReading (Pack bodies) = accepted bodies
 toldReading (Refused number) = refused number
 
--- the byte at a place, and the word there, "low byte first"
+-- the byte at a place, and the word whose low byte is there
 abbrev pub byteAt : List ℕ → ℕ → ℕ
 byteAt pack place = getD pack place 0
 
 abbrev pub wordAt : List ℕ → ℕ → ℕ
 wordAt pack place = wordOf (byteAt pack place) (byteAt pack (place + 1))
 
--- "a contents table of offset from the pack's start and length (a word each) for each body": body 0 is the settings,
--- body 1 the message, body 2 the events
+-- "a contents table": four bytes for each body, a word for its place in the pack and a word for its length; body 0 is the
+-- settings, body 1 the message, body 2 the events
 abbrev pub offsetOf : List ℕ → ℕ → ℕ
 offsetOf pack body = wordAt pack (1 + 4 * body)
 
 abbrev pub lengthOf : List ℕ → ℕ → ℕ
 lengthOf pack body = wordAt pack (3 + 4 * body)
 
--- "the whole pack at most 65535 bytes"; a count byte of 3, and after the 13 bytes of count and table "the bodies without
--- gaps to the end", the first of them ten bytes of settings
+-- "the bodies without gaps": the first byte counts three bodies, ten bytes of settings come right behind the 13 bytes of
+-- count and table, each further body begins where the one before ends, and the last ends with the pack, which has no more
+-- than 65535 bytes
 unfoldable pub laidOut : List ℕ → Bool
 laidOut pack =
     leb 13 (length pack)
@@ -47,7 +47,7 @@ laidOut pack =
     && eqb (offsetOf pack 2) (offsetOf pack 1 + lengthOf pack 1)
     && eqb (length pack) (offsetOf pack 2 + lengthOf pack 2)
 
--- "settings (G byte, sender T, M, receiver T words, C byte, K word)", from place 13 on
+-- the settings in their order from place 13 on: G and C are bytes, the others words
 unfoldable pub settingsOf : List ℕ → Settings
 settingsOf pack =
     record {
@@ -70,7 +70,7 @@ messageOf pack bodies = take (bodies .message) (drop 23 pack)
 unfoldable pub eventsOf : List ℕ → Bodies → List ℕ
 eventsOf pack bodies = drop (23 + bodies .message) pack
 
--- "events (1, 2 sender, receiver tick; 3, 4, 5 forward hear, lose, repeat; 6, 7, 8 back)"
+-- the eight events there are; what each does is the player's to say
 abbrev pub isEvent : ℕ → Bool
 isEvent event = leb 1 event && leb event 8
 
@@ -78,7 +78,7 @@ unfoldable pub allEvents : List ℕ → Bool
 allEvents [] = true
 allEvents (event ∷ events) = isEvent event && allEvents events
 
--- "Anything else is 12"
+-- "Anything else is 12": a pack that is laid out so, of nothing but events, is read
 unfoldable pub bodiesOf : List ℕ → Result Bodies
 bodiesOf pack =
     pick (laidOut pack)

@@ -31,7 +31,8 @@ pub struct Settings {
     pub capacity: u16,
 }
 
-// The settings, the length of the message, which starts at 23, and the number of the events, which start behind it.
+// The settings, the length of the message, which starts at 23, and the number of the events, which
+// start behind it.
 pub struct Bodies {
     pub settings: Settings,
     pub message: u16,

@@ -1,4 +1,5 @@
-// Reads a run pack from standard input and prints what is played of it. Everything that matters is in the crate player.
+// Reads a run pack from standard input and prints what is played of it. Everything that matters is
+// in the crate player.
 use player::Opening;
 use player::Player;
 
@@ -9,7 +10,7 @@ fn show(page: &[u8], written: usize) {
     }
 }
 
-// Plays the events, 128 at a time; a pack has fewer than 512 times as many.
+// Plays the events, 128 in a call; 512 calls finish every pack (`PrintsPlayed` in crates/player).
 fn play_events(
     begun: Player,
     pack: &[u8],

@@ -2,5 +2,9 @@ pub mod Turns
 pub mod Calls
 pub mod Bounds
 pub mod Opened
+pub mod Steps
 pub mod Whole
+pub mod Runs
+pub mod Examples
+pub mod Counterexamples
 pub mod Keeps

@@ -1,157 +1,138 @@
--- What the calls print, joined, is what `played` says. A list of events is played part by part; each part's text fits the
--- page, so the page holds it whole.
+-- The calls joined. Whatever a call answered, its promise names the world that its answer and the lent bytes make; so
+-- what is left to print after it is what the definition leaves, and the next call goes on from there. After n calls of
+-- play 128 times n events have been played, or all, and what was printed and what is left make up `played`.
 -- Assumes nothing.
-use Prim.Native.Nat.{ℕ, zero, suc, _+_, _-_, _≤_, min}
+use Prim.Native.Nat.{ℕ, suc, _+_, _*_, min}
 use mathlib.Core.Path.{_≡_, refl, sym, ap, subst, _∙_}
-use mathlib.Core.Bool.{true, _&&_}
-use mathlib.Core.List.{List, [], _∷_, _++_, append-assoc}
-use native.Mathlib.Nat.{add-zero}
+use mathlib.Core.Bool.{Bool, true, false}
+use mathlib.Core.List.{List, [], _++_, append-assoc, append-nil}
 use native.Mathlib.Omega.{arith}
-use borrow.Author.Tests.{leb-true, leb-false}
-use lib.Dec.{eqb}
-use lib.ListN.{length, take, drop, replicate, length-take, length-drop, drop-of-length-le, take-append-drop}
-use lib.Seq.{take-at, drop-drop}
-use Rattle.frame.proofs.Choice.{pick-true}
-use Rattle.pack.proofs.Laws.{length-events, read-most, read-whole}
-use Rattle.pack.specs.Pack.{messageOf, eventsOf}
+use borrow.Author.Tests.{leb-true, leb-false, le-leb, lt-leb}
+use lib.Dec.{leb}
+use lib.ListN.{length, take, replicate}
+use Rattle.frame.specs.Result.{accepted, refused}
+use Rattle.pack.proofs.Laws.{read-most, read-whole}
+use Rattle.pack.specs.Pack.{bodiesOf}
 use Rattle.pack.specs.declared.Bodies.{Bodies}
-use Rattle.player.proofs.Bounds.{event-short, text-fits}
 use Rattle.player.proofs.Opened.{opened}
-use Rattle.player.specs.Calls.{Progressed, progressed, beginOf, playing, nextEvents, playOf}
-use Rattle.player.specs.Events.{turnFor, eventsFrom, worldAfter, runFrom}
-use Rattle.player.specs.Played.{start, playerFor, runOf, playedOpened, played}
-use Rattle.player.specs.State.{Turned, printed}
-use Rattle.transport.specs.Capped.{cappedStep}
-use Rattle.player.specs.Text.{eventText, textOf}
-use Rattle.player.specs.Whole.{shown, leftOf, leftAfter, BeginPrints, PlayPrints, FinishedIsAll, PlayGoesOn}
+use Rattle.player.proofs.Steps.{shown, leftOf, leftAfter, page-shows, play-prints, begin-prints, begin-count, play-count, left-none}
+use Rattle.player.specs.Calls.{Progressed, toldProgress, playOf, isFinished}
+use Rattle.player.specs.Played.{openOf, playedOpened, played}
+use Rattle.player.specs.Whole.{Held, held, Begins, begins, Plays, none, plays, Prints, PrintsPlayed}
+use Rattle.player.specs.declared.Opening.the-variants as variants
 use Rattle.player.specs.declared.Player.{Player}
-use Rattle.text.proofs.Laws.{put-fits}
-use Rattle.text.specs.Page.{page, put}
-use Rattle.transport.proofs.Events.{whole-world}
-use Rattle.transport.proofs.Making.{make-answers}
+use Rattle.player.specs.declared.Progress.{Progress}
+use Rattle.text.proofs.Laws.{refused-text-length}
+use Rattle.text.specs.Page.{Page}
+use Rattle.text.specs.Text.{refusedText}
 use Rattle.transport.specs.Answer.{worldOf}
-use Rattle.transport.specs.World.{World, Event, begin}
-use Rattle.transport.specs.declared.Ends.{Ends}
 
--- ---- part by part
+-- what is left to print of what a program holds
+abbrev left : List ℕ → Held → List ℕ
+left bytes h = leftOf bytes (worldOf (h .player .ends) (h .forward) (h .back) (h .buffer)) (h .player .bodies) (h .player .played)
 
-events-parts : (w : World) (m xs ys : List ℕ) → eventsFrom w m (xs ++ ys) ≡ eventsFrom w m xs ++ eventsFrom (worldAfter w m xs) m ys
-unfolding eventsFrom worldAfter
-events-parts w m [] ys = refl
-events-parts w m (x ∷ xs) ys = ap (λ (l : List Event). turnFor w m x .event ∷ l) (events-parts (turnFor w m x .world) m xs ys)
+-- after n calls of play, with what was printed so far
+record Reached (bytes : List ℕ) (b : Bodies) (n : ℕ) (text : List ℕ) (h : Held) : Type 0 where
+  forward : length (h .forward) ≡ 576
+  back : length (h .back) ≡ 576
+  bodies : h .player .bodies ≡ b
+  count : h .player .played ≡ min (128 * n) (b .events)
+  all : played bytes ≡ text ++ left bytes h
 
-length-events-from : (w : World) (m xs : List ℕ) → length (eventsFrom w m xs) ≡ length xs
-unfolding eventsFrom
-length-events-from w m [] = refl
-length-events-from w m (x ∷ xs) = ap suc (length-events-from (turnFor w m x .world) m xs)
+after-begin : {bytes : List ℕ} {q : Player} {text : List ℕ} {h : Held} → openOf bytes ≡ accepted q → Begins bytes q text h
+    → Reached bytes (q .bodies) 0 text h
+after-begin {bytes} {q} ready (begins r forward forward′ back out out′ lf lf′ lb lo promise) =
+    let e = promise back (replicate 1785 0) in
+    let c = begin-count bytes q forward back (replicate 1785 0) out in
+    let new : q .played ≡ 0 = ap (λ (p : Player). p .played) (sym (opened bytes q ready .just)) in
+    record {
+      forward = lf′ ∙ lf;
+      back = lb;
+      bodies = ap (λ (g : Progressed). g .bodies) e ∙ c .0;
+      count = ap (λ (g : Progressed). g .played) e ∙ c .1 ∙ omega (arith, new);
+      all =
+          begin-prints bytes q ready forward back out lf lo
+          ∙ ap (λ (g : Progressed). shown g ++ leftAfter bytes g) (sym e);
+    }
 
-text-parts : (number : ℕ) (es fs : List Event) → textOf number (es ++ fs) ≡ textOf number es ++ textOf (number + length es) fs
-unfolding textOf
-text-parts number [] fs = ap (λ (k : ℕ). textOf k fs) (sym (add-zero number))
-text-parts number (e ∷ es) fs =
-    let same : suc number + length es ≡ number + suc (length es) = omega arith in
-    ap (λ (l : List ℕ). eventText number e ++ l) (text-parts (suc number) es fs)
-    ∙ sym (append-assoc (eventText number e) (textOf (suc number) es) (textOf (suc number + length es) fs))
-    ∙ ap (λ (k : ℕ). (eventText number e ++ textOf (suc number) es) ++ textOf k fs) same
-
-played-parts : (w : World) (m xs ys : List ℕ) (number : ℕ)
-    → textOf number (eventsFrom w m (xs ++ ys))
-    ≡ textOf number (eventsFrom w m xs) ++ textOf (number + length xs) (eventsFrom (worldAfter w m xs) m ys)
-played-parts w m xs ys number =
-    ap (textOf number) (events-parts w m xs ys)
-    ∙ text-parts number (eventsFrom w m xs) (eventsFrom (worldAfter w m xs) m ys)
-    ∙ ap (λ (k : ℕ). textOf number (eventsFrom w m xs) ++ textOf (number + k) (eventsFrom (worldAfter w m xs) m ys)) (length-events-from w m xs)
-
--- what is behind the first n
-behind : (n : ℕ) (xs : List ℕ) → drop (length (take n xs)) xs ≡ drop n xs
-behind zero xs = refl
-behind (suc n) [] = refl
-behind (suc n) (x ∷ xs) = behind n xs
-
--- ---- a page that has room
-
--- from its first place on, a text that fits is what is shown
-page-shows : (out text : List ℕ) → length text ≤ length out → take (put (page out 0) text .place) (put (page out 0) text .bytes) ≡ text
-page-shows out text fits =
-    let room : 0 + length text ≤ length out = omega arith in
-    let same : 0 + length text ≡ length text = omega arith in
-    rw (put-fits (page out 0) text room) (take-at text (drop (0 + length text) out) (0 + length text) (sym same))
-
--- ---- the calls
-
--- the lent lengths pass the test
-lent : (f b o : ℕ) → f ≡ 576 → b ≡ 576 → o ≡ 16384 → (eqb f 576 && eqb b 576 && eqb o 16384) ≡ true
-lent f b o e d c = rw (e, d, c) refl
-
-pub play-prints : PlayPrints
-unfolding playOf playing leftOf nextEvents
-play-prints bytes q forward back buffer out lf lb lo =
-    let w = worldOf (q .ends) forward back buffer in
-    let m = messageOf bytes (q .bodies) in
-    let rest = drop (q .played) (eventsOf bytes (q .bodies)) in
-    let n = min 128 (65535 - q .played) in
-    let few : length (take n rest) ≤ 128 = rw length-take (omega arith) in
-    let fits : length (textOf (suc (q .played)) (eventsFrom w m (take n rest))) ≤ length out = omega (arith, text-fits w m (take n rest) (suc (q .played)) (whole-world (q .ends) forward back buffer), few) in
-    let all : playOf bytes q forward back buffer out ≡ progressed (playing w m (nextEvents bytes q) (suc (q .played)) (page out 0)) (q .bodies) (q .played + length (nextEvents bytes q)) = sym (pick-true _ (lent (length forward) (length back) (length out) lf lb lo) refl) in
-    rw all
-    (ap (λ (l : List ℕ). textOf (suc (q .played)) (eventsFrom w m l)) (sym (take-append-drop n rest))
-    ∙ played-parts w m (take n rest) (drop n rest) (suc (q .played))
-    ∙ ap (λ (l : List ℕ). l ++ textOf (suc (q .played) + length (take n rest)) (eventsFrom (worldAfter w m (take n rest)) m (drop n rest)))
-    (sym (page-shows out (textOf (suc (q .played)) (eventsFrom w m (take n rest))) fits))
-    ∙ ap (λ (l : List ℕ). shown (progressed (playing w m (take n rest) (suc (q .played)) (page out 0)) (q .bodies) (q .played)) ++ textOf (suc (q .played) + length (take n rest)) (eventsFrom (worldAfter w m (take n rest)) m l))
-    (sym (behind n rest) ∙ drop-drop (length (take n rest)) (q .played) (eventsOf bytes (q .bodies)))
-    ∙ ap (λ (k : ℕ). shown (progressed (playing w m (take n rest) (suc (q .played)) (page out 0)) (q .bodies) (q .played)) ++ textOf k (eventsFrom (worldAfter w m (take n rest)) m (drop (q .played + length (take n rest)) (eventsOf bytes (q .bodies)))))
-    (suc-first (q .played) (length (take n rest))))
-  where
-    suc-first : (a k : ℕ) → suc a + k ≡ suc (a + k)
-    suc-first a k = omega arith
-
--- the begin, of a player that was just opened
-begin-from : (bytes : List ℕ) (ends : Ends) (b : Bodies) (forward back out : List ℕ)
-    → worldOf ends forward back (replicate 1785 0) ≡ start ends
-    → length forward ≡ 576
+-- one call more
+after-play : (bytes : List ℕ) (b : Bodies) (m : ℕ) (before : List ℕ) (h : Held) (r : Progress) (forward back buffer out out′ : List ℕ)
+    → bodiesOf bytes ≡ accepted b
+    → length forward ≡ length (h .forward)
+    → length back ≡ length (h .back)
     → length out ≡ 16384
-    → (let q = playerFor ends b in
-    let begun = beginOf bytes q forward back (replicate 1785 0) out in
-    textOf 0 (runOf bytes q) ≡ shown begun ++ leftAfter bytes begun)
-unfolding beginOf leftOf runOf runFrom textOf
-begin-from bytes ends b forward back out same lf lo =
-    let m = messageOf bytes b in
-    let step = cappedStep (start ends) (begin m) in
-    let fits : length (eventText 0 (step .event)) ≤ length out = omega (arith, event-short (start ends) (begin m) 0 (record { forward = tt; back = tt })) in
-    ap (λ (l : List ℕ). l ++ textOf 1 (eventsFrom (step .world) m (eventsOf bytes b))) (sym (page-shows out (eventText 0 (step .event)) fits))
-    ∙ ap (λ (t : Turned). take (t .page .place) (t .page .bytes) ++ textOf 1 (eventsFrom (t .world) m (eventsOf bytes b)))
-    (pick-true _ (lengths (length forward) (length out) lf lo) (ap (λ (v : World). printed (cappedStep v (begin m)) 0 (page out 0)) (sym same)))
+    → toldProgress r forward back buffer out′ ≡ playOf bytes (h .player) (h .forward) (h .back) (h .buffer) out
+    → Reached bytes b m before h
+    → Reached bytes b (suc m) (before ++ take (r .written) out′) (held (r .player) forward back buffer)
+after-play bytes b m before h r forward back buffer out out′ read lf lb lo e a =
+    let same = a .bodies in
+    let c = play-count bytes (h .player) (h .forward) (h .back) (h .buffer) out (a .forward) (a .back) lo (read ∙ ap accepted (sym same)) in
+    let of : h .player .bodies .events ≡ b .events = ap (λ (x : Bodies). x .events) same in
+    record {
+      forward = lf ∙ a .forward;
+      back = lb ∙ a .back;
+      bodies = ap (λ (g : Progressed). g .bodies) e ∙ c .0 ∙ same;
+      count = ap (λ (g : Progressed). g .played) e ∙ c .1 ∙ omega (arith, a .count, of);
+      all =
+          a .all
+          ∙ ap (λ (l : List ℕ). before ++ l)
+          (play-prints bytes (h .player) (h .forward) (h .back) (h .buffer) out (a .forward) (a .back) lo
+          ∙ ap (λ (g : Progressed). shown g ++ leftAfter bytes g) (sym e))
+          ∙ sym (append-assoc before (take (r .written) out′) (left bytes (held (r .player) forward back buffer)));
+    }
+
+after-plays : {bytes : List ℕ} {b : Bodies} {n : ℕ} {text : List ℕ} {h k : Held} (m : ℕ) (before : List ℕ)
+    → bodiesOf bytes ≡ accepted b
+    → Plays bytes n h text k
+    → Reached bytes b m before h
+    → Reached bytes b (m + n) (before ++ text) k
+after-plays {bytes} {b} m before read (none {h}) a =
+    let same : m ≡ m + 0 = omega arith in
+    subst (λ (i : ℕ). Reached bytes b i (before ++ []) h) same (subst (λ (l : List ℕ). Reached bytes b m l h) (sym (append-nil before)) a)
+after-plays {bytes} {b} m before read (plays {n} {text} {h} {k} r forward back buffer out out′ lf lb lo promise more) a =
+    let same : suc m + n ≡ m + suc n = omega arith in
+    let on = after-play bytes b m before h r forward back buffer out out′ read lf lb lo promise a in
+    let last = after-plays (suc m) (before ++ take (r .written) out′) read more on in
+    subst (λ (i : ℕ). Reached bytes b i (before ++ (take (r .written) out′ ++ text)) k) same
+    (subst (λ (l : List ℕ). Reached bytes b (suc m + n) l k) (append-assoc before (take (r .written) out′) text) last)
+
+-- what is played is all of the events just where so many would be
+all-played : (events n count : ℕ) → count ≡ min (128 * n) events → leb events count ≡ leb events (128 * n)
+all-played events n count e = by (leb events (128 * n)) refl
   where
-    lengths : (f o : ℕ) → f ≡ 576 → o ≡ 16384 → (eqb f 576 && eqb o 16384) ≡ true
-    lengths f o e c = rw (e, c) refl
+    by : (t : Bool) → leb events (128 * n) ≡ t → leb events count ≡ t
+    by true t = le-leb events count (omega (arith, leb-true events (128 * n) t))
+    by false t = lt-leb events count (omega (arith, leb-false events (128 * n) t))
 
-pub begin-prints : BeginPrints
-unfolding played playedOpened
-begin-prints bytes q opens forward back out lf lo =
-    let o = opened bytes q opens in
-    let k = q .bodies .settings in
-    let made = make-answers (k .gap) (k .timeout) (k .limit) (k .patience) (k .window) (k .capacity) (q .ends) (o .made) in
-    rw opens
-    (subst
-    (λ (p : Player). let begun = beginOf bytes p forward back (replicate 1785 0) out in textOf 0 (runOf bytes p) ≡ shown begun ++ leftAfter bytes begun)
-    (o .just)
-    (begin-from bytes (q .ends) (q .bodies) forward back out (made .empty forward back (replicate 1785 0)) lf lo))
-
-pub finished-is-all : FinishedIsAll
-unfolding leftOf eventsFrom textOf
-finished-is-all bytes q w read done =
-    let l = leb-true (q .bodies .events) (q .played) done in
-    let n = length-events bytes (q .bodies) read in
-    let past : length (eventsOf bytes (q .bodies)) ≤ q .played = omega (arith, l, n) in
-    rw (drop-of-length-le (eventsOf bytes (q .bodies)) past) refl
-
-pub play-goes-on : PlayGoesOn
-unfolding playOf nextEvents
-play-goes-on bytes q forward back buffer out lf lb lo read going =
-    let l = leb-false (q .bodies .events) (q .played) going in
-    let n = length-events bytes (q .bodies) read in
+-- a player that was opened
+of-player : (bytes : List ℕ) (q : Player) → openOf bytes ≡ accepted q → Prints bytes (variants.Ready q)
+of-player bytes q ready n begun text h k first more =
+    let read = opened bytes q ready .read in
+    let a = after-plays 0 begun read more (after-begin ready first) in
+    let same : 0 + n ≡ n = omega arith in
+    let events : k .player .bodies .events ≡ q .bodies .events = ap (λ (x : Bodies). x .events) (a .bodies) in
+    let count : k .player .played ≡ min (128 * n) (q .bodies .events) = a .count ∙ omega arith in
+    let finished : isFinished (k .player) ≡ leb (q .bodies .events) (128 * n) = ap (λ (i : ℕ). leb i (k .player .played)) events ∙ all-played (q .bodies .events) n (k .player .played) count in
     let most = read-most bytes (q .bodies) read in
-    let whole = read-whole bytes (q .bodies) read in
-    let all : playOf bytes q forward back buffer out .played ≡ q .played + length (nextEvents bytes q) = sym (ap (λ (g : Progressed). g .played) (pick-true _ (lent (length forward) (length back) (length out) lf lb lo) refl)) in
-    rw (all, length-take, length-drop) (omega (arith, l, n, most, whole))
+    let whole = read-whole bytes (q .bodies) read in (
+      finished,
+      λ many. finished ∙ le-leb (q .bodies .events) (128 * n) (omega (arith, many, most, whole)),
+      λ done. sym
+          (a .all
+          ∙ ap (λ (l : List ℕ). (begun ++ text) ++ l)
+          (left-none bytes (worldOf (k .player .ends) (k .forward) (k .back) (k .buffer)) (k .player .bodies) (k .player .played)
+          (read ∙ ap accepted (sym (a .bodies))) (leb-true (k .player .bodies .events) (k .player .played) done))
+          ∙ append-nil (begun ++ text)),
+    )
+
+-- a refusal's line fits its page
+of-refusal : (bytes : List ℕ) (number : ℕ) → openOf bytes ≡ refused number → Prints bytes (variants.Refused number)
+unfolding played playedOpened
+of-refusal bytes number e out out′ written room line =
+    ap (λ (p : Page). take (p .place) (p .bytes)) line
+    ∙ page-shows out (refusedText number) (omega (arith, refused-text-length number))
+    ∙ ap (playedOpened bytes) (sym e)
+
+pub prints-played : PrintsPlayed
+prints-played bytes (variants.Ready q) e = of-player bytes q (sym e)
+prints-played bytes (variants.Refused number) e = of-refusal bytes number (sym e)

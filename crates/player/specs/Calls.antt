@@ -16,6 +16,7 @@ use Rattle.player.specs.Text.{textOf}
 use Rattle.player.specs.declared.Opening as opening
 use Rattle.player.specs.declared.Opening.the-variants as variants
 use Rattle.player.specs.declared.Player.{Player}
+use Rattle.player.specs.declared.Progress.{Progress}
 use Rattle.text.specs.Page.{Page, page, put}
 use Rattle.transport.specs.Answer.{worldOf}
 use Rattle.transport.specs.World.{World, begin}
@@ -35,6 +36,12 @@ pub record Progressed : Type 0 where
 abbrev pub progressed : Turned → Bodies → ℕ → Progressed
 progressed t b played = record { world = t .world; bodies = b; played = played; page = t .page }
 
+-- what is told of a call's answer, with the lent lines, buffer and page as the call leaves them
+abbrev pub toldProgress : Progress → List ℕ → List ℕ → List ℕ → List ℕ → Progressed
+toldProgress r forward back buffer out =
+    progressed (turned (worldOf (r .player .ends) forward back buffer) (page out (r .written)))
+    (r .player .bodies) (r .player .played)
+
 -- the lent lengths: 576 for a line, 16384 for the page; lent anything else, nothing happens
 abbrev pub beginsOn : List ℕ → List ℕ → Bool
 beginsOn forward out = eqb (length forward) 576 && eqb (length out) 16384
@@ -42,7 +49,7 @@ beginsOn forward out = eqb (length forward) 576 && eqb (length out) 16384
 abbrev pub playsOn : List ℕ → List ℕ → List ℕ → Bool
 playsOn forward back out = eqb (length forward) 576 && eqb (length back) 576 && eqb (length out) 16384
 
--- "0 is begin"
+-- begin, printed under number 0
 unfoldable pub beginOf : List ℕ → Player → List ℕ → List ℕ → List ℕ → List ℕ → Progressed
 beginOf bytes q forward back buffer out =
     let w = worldOf (q .ends) forward back buffer in

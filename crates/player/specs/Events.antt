@@ -9,8 +9,9 @@ use Rattle.transport.specs.World.{World, Call, Event}
 use Rattle.transport.specs.World.{begin, senderTick, receiverTick}
 use Rattle.transport.specs.World.{hearForward, repeatForward, loseForward, hearBack, repeatBack, loseBack}
 
--- "events (1, 2 sender, receiver tick; 3, 4, 5 forward hear, lose, repeat; 6, 7, 8 back)", each lent the one message and the
--- one buffer
+-- The bodies, "events": ticks are 1 at the sender and 2 at the receiver; the next three act on forward and the last three on
+-- back, in each case the first hears, the second loses and the third repeats. Every call is lent the pack's message and the
+-- one buffer.
 unfoldable pub callFor : World → List ℕ → ℕ → Call
 callFor w message event =
     pick (eqb event 1) (senderTick message)

@@ -17,7 +17,7 @@ use Rattle.transport.specs.declared.Ends.{Ends}
 
 -- ---- opening
 
--- "settings (G byte, sender T, M, receiver T words, C byte, K word)"
+-- the ends of a pack's settings: G, T and M are the sender's; the other T, C and K the receiver's
 abbrev pub madeFor : Bodies → Result Ends
 madeFor b =
     let s = b .settings in
@@ -31,20 +31,20 @@ start ends = startOf (ends .sender) (ends .receiver) (replicate 1785 0)
 abbrev pub playerFor : Ends → Bodies → Player
 playerFor ends b = record { ends = ends; bodies = b; played = 0 }
 
--- "a message of bad length 2": by what the begin reports
+-- the message's length is judged last, by what a begin of it reports
 abbrev pub unlessRefused : sender.Outcome → Player → Result Player
 unlessRefused sender.quiet q = accepted q
 unlessRefused (sender.refused number) q = refused number
 unlessRefused (sender.sent ticks frames) q = accepted q
 unlessRefused (sender.failed cause ticks frames) q = accepted q
 
--- "settings outside their limits are 1, a message of bad length 2"
+-- before it the settings: a refusal of making the ends is the pack's
 unfoldable pub openedWith : List ℕ → Bodies → Result Ends → Result Player
 openedWith message b (refused number) = refused number
 openedWith message b (accepted ends) =
     unlessRefused (cappedStep (start ends) (begin message) .event .sender) (playerFor ends b)
 
--- "Anything else is 12; after that settings outside their limits are 1, a message of bad length 2."
+-- Bodies, "Anything else is 12; after that": first the pack's form is judged
 unfoldable pub openedBodies : List ℕ → Result Bodies → Result Player
 openedBodies bytes (refused number) = refused number
 openedBodies bytes (accepted b) = openedWith (messageOf bytes b) b (madeFor b)
@@ -58,7 +58,8 @@ openOf bytes = openedBodies bytes (bodiesOf bytes)
 unfoldable pub runOf : List ℕ → Player → List Event
 runOf bytes q = runFrom (start (q .ends)) (messageOf bytes (q .bodies)) (eventsOf bytes (q .bodies))
 
--- "It prints `refused n` alone, or" the lines of the begin, number 0, and of each event
+-- What is printed of a pack, "It prints": of a refused one the refusal's line and nothing else; of another the lines of the
+-- begin, which is number 0, and of each event after it
 unfoldable pub playedOpened : List ℕ → Result Player → List ℕ
 playedOpened bytes (refused number) = refusedText number
 playedOpened bytes (accepted q) = textOf 0 (runOf bytes q)

@@ -7,7 +7,7 @@ use Rattle.transport.specs.World.{Call, Event}
 use Rattle.transport.specs.World.{begin, senderTick, receiverTick}
 use Rattle.transport.specs.World.{hearForward, repeatForward, loseForward, hearBack, repeatBack, loseBack}
 
--- "end": the end that is called, S or R; a loss calls none and prints nothing
+-- the end that is called, S or R; a loss calls none and prints nothing
 abbrev pub letterOf : Call → ℕ
 letterOf (begin message) = letterS
 letterOf (senderTick message) = letterS
@@ -19,12 +19,12 @@ letterOf hearBack = letterS
 letterOf repeatBack = letterS
 letterOf loseBack = letterS
 
--- "per frame: event number (0 is begin), end, kind, data"
+-- "per frame": a line for each frame that an event emitted
 unfoldable pub framesText : ℕ → ℕ → List Frame → List ℕ
 framesText number letter [] = []
 framesText number letter (f ∷ frames) = frameLine number letter f ++ framesText number letter frames
 
--- "then any report, after event number and end"
+-- "then any report": behind the frames' lines those of what the ends reported
 unfoldable pub eventText : ℕ → Event → List ℕ
 eventText number e =
     framesText number (letterOf (e .call)) (e .emitted)

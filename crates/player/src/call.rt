@@ -4,10 +4,7 @@ ghost use mathlib.Core.Bool.{_&&_};
 ghost use mathlib.Core.List.{List};
 ghost use lib.Dec.{eqb};
 ghost use Prim.Native.Nat.{ℕ, _+_, _≤_, _-_, min};
-ghost use Rattle.player.specs.Calls.{progressed, beginOf, playOf, isFinished};
-ghost use Rattle.player.specs.State.{turned};
-ghost use Rattle.text.specs.Page.{page};
-ghost use Rattle.transport.specs.Answer.{worldOf};
+ghost use Rattle.player.specs.Calls.{toldProgress, beginOf, playOf, isFinished};
 use crate::Player;
 use crate::Progress;
 use crate::parts::part;
@@ -84,11 +81,7 @@ impl Player {
     // Begins the pack's message, whatever back and the buffer hold.
     pub fn begin(self, pack: &[u8], forward: &mut [u8], out: &mut [u8]) -> Progress
         ensures { λ r. ⌜ ((back buffer : List ℕ) →
-            progressed
-            (turned
-            (worldOf (r .player .ends) (now (forward .exit)) back buffer)
-            (page (now (out .exit)) (r .written)))
-            (r .player .bodies) (r .player .played)
+            toldProgress r (now (forward .exit)) back buffer (now (out .exit))
             ≡ beginOf (now (pack .entry)) self (now (forward .entry)) back buffer (now (out .entry))) ⌝ }
     {
         if begins_on(forward.len(), out.len()) {
@@ -111,11 +104,8 @@ impl Player {
         back: &mut [u8],
         out: &mut [u8],
     ) -> Progress
-        ensures { λ r. ⌜ progressed
-            (turned
-            (worldOf (r .player .ends) (now (forward .exit)) (now (back .exit)) (now (buffer .exit)))
-            (page (now (out .exit)) (r .written)))
-            (r .player .bodies) (r .player .played)
+        ensures { λ r. ⌜ toldProgress r
+            (now (forward .exit)) (now (back .exit)) (now (buffer .exit)) (now (out .exit))
             ≡ playOf (now (pack .entry)) self
             (now (forward .entry)) (now (back .entry)) (now (buffer .entry)) (now (out .entry)) ⌝ }
     {

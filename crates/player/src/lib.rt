@@ -1,5 +1,5 @@
-// The player: reads a run pack, plays its events on the transport, and writes what is printed of them into lent bytes. It
-// knows of the transport what that promises, and of the ends nothing.
+// The player: reads a run pack, plays its events on the transport, and writes what is printed of
+// them into lent bytes. It knows of the transport what that promises, and of the ends nothing.
 mod call;
 mod open;
 mod parts;

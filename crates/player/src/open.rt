@@ -1,4 +1,5 @@
-// Opening a run pack: its bodies are read, the ends made of its settings, and a begin of its message tried.
+// Opening a run pack: its bodies are read, the ends made of its settings, and a begin of its
+// message tried.
 ghost use mathlib.Core.Path.{_≡_};
 ghost use Rattle.frame.specs.Result.{accepted};
 ghost use Rattle.player.specs.Calls.{toldOpening};
@@ -68,7 +69,8 @@ fn open_bodies(pack: &[u8], bodies: Bodies) -> Opening
 }
 
 impl Player {
-    // Opens a run pack: refused 12 where it is none, then 1 for a setting, then 2 for the message's length.
+    // Opens a run pack: refused 12 where it is none, then 1 for a setting, then 2 for the message's
+    // length.
     pub fn open(pack: &[u8]) -> Opening
         ensures { λ o. ⌜ toldOpening o ≡ openOf (now (pack .entry)) ⌝ }
     {

@@ -10,7 +10,8 @@ use crate::turn::Turn;
 use crate::turn::next_turn;
 use transport::Ends;
 
-// The events are numbered from the one after `played` on, and printed from the page's first place on.
+// The events are numbered from the one after `played` on, and printed from the page's first place
+// on.
 pub(crate) fn run(
     ends: Ends,
     played: u16,

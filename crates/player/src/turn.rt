@@ -22,8 +22,8 @@ pub(crate) struct Turn {
     pub at: usize,
 }
 
-// Whether there is anything to print of an answer. Asked in each arm of the match below, so that a call which is known to say
-// nothing, as one on an empty line is, is done at once.
+// Whether there is anything to print of an answer. Asked in each arm of the match below, so that a
+// call which is known to say nothing, as one on an empty line is, is done at once.
 fn says(a: Answer) -> bool
     ensures { λ r. ⌜ r ≡ says (a .said) ⌝ }
 {
@@ -85,8 +85,8 @@ pub(crate) fn first_turn(ends: Ends, message: &[u8], forward: &mut [u8], out: &m
     Turn { ends, at }
 }
 
-// Document 01, The player: "1, 2 sender, receiver tick; 3, 4, 5 forward hear, lose, repeat; 6, 7, 8 back". The letter is that
-// of the end that is called.
+// An event by its number, as document 01 has it under The player: `callFor` of the definitions. The
+// letter is that of the end that is called.
 pub(crate) fn next_turn(
     ends: Ends,
     number: u16,

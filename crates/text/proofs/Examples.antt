@@ -35,7 +35,7 @@ answers s r =
     ∷ []
 
 -- the seven lines, as they stand in document 01
-abbrev example : List ℕ
+abbrev pub example : List ℕ
 example =
     -- 0 S 1 00 02 09 00 FF FF FF FF
     48 ∷ 32 ∷ 83 ∷ 32 ∷ 49 ∷ 32 ∷ 48 ∷ 48 ∷ 32 ∷ 48 ∷ 50 ∷ 32 ∷ 48 ∷ 57 ∷ 32 ∷ 48 ∷ 48 ∷ 32 ∷ 70 ∷ 70 ∷ 32 ∷ 70 ∷ 70 ∷ 32 ∷ 70 ∷ 70 ∷ 32 ∷ 70 ∷ 70 ∷ 10

@@ -116,7 +116,7 @@ module _ (number : ℕ) where
   receiver-report-length receiver-told.short bytes eight =
       simp length-append (omega (arith, head-length letterR, hexes-length bytes))
 
-  pub refused-text-length : length (refusedText number) ≤ 128
+  pub refused-text-length : length (refusedText number) ≤ 14
   unfolding refusedText
   refused-text-length = simp length-append (omega (arith, spaced-length number))
 

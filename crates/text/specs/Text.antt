@@ -8,7 +8,7 @@ use Rattle.frame.specs.declared.Frame.{Frame}
 use Rattle.receiver.specs.Told as receiver-told
 use Rattle.sender.specs.Told as sender-told
 
--- ---- numbers: "Numbers are decimal unless they .. stand as byte pairs in a frame, which are hexadecimal"
+-- ---- numbers: decimal, but for a frame's bytes and those of a short delivery, which are two hexadecimal digits each
 
 -- the digit of a number below 10
 abbrev pub glyph : ℕ → ℕ
@@ -73,11 +73,11 @@ refusedWord = 114 ∷ 101 ∷ 102 ∷ 117 ∷ 115 ∷ 101 ∷ 100 ∷ []
 
 -- ---- lines
 
--- "event number (0 is begin), end": how every line but a refusal begins
+-- how every line but a refusal's begins: the event's number and the end's letter
 unfoldable pub headOf : ℕ → ℕ → List ℕ
 headOf number letter = decimal number ++ (space ∷ letter ∷ [])
 
--- "per frame: event number (0 is begin), end, kind, data"
+-- "per frame": behind number and letter the kind and the eight bytes
 unfoldable pub frameLine : ℕ → ℕ → Frame → List ℕ
 frameLine number letter f = headOf number letter ++ (spaced (f .kind) ++ (hexes (f .bytes) ++ (newline ∷ [])))
 
@@ -86,29 +86,29 @@ unfoldable pub emittedText : ℕ → ℕ → Bool → Frame → List ℕ
 emittedText number letter true f = frameLine number letter f
 emittedText number letter false f = []
 
--- "sent ticks frames"
+-- the sender's `sent`, with ticks and frames
 unfoldable pub sentLine : ℕ → ℕ → ℕ → List ℕ
 sentLine number ticks frames =
     headOf number letterS ++ (sentWord ++ (spaced ticks ++ (spaced frames ++ (newline ∷ []))))
 
--- "failed cause ticks frames"
+-- the sender's `failed`, with cause, ticks and frames
 unfoldable pub failedLine : ℕ → ℕ → ℕ → ℕ → List ℕ
 failedLine number cause ticks frames =
     headOf number letterS ++ (failedWord ++ (spaced cause ++ (spaced ticks ++ (spaced frames ++ (newline ∷ [])))))
 
--- "for R `delivered L`"
+-- the receiver's `delivered`, with the length
 unfoldable pub deliveredLine : ℕ → ℕ → List ℕ
 deliveredLine number length = headOf number letterR ++ (deliveredWord ++ (spaced length ++ (newline ∷ [])))
 
--- for R "`failed cause`"
+-- the receiver's `failed`, with the cause alone
 unfoldable pub closedLine : ℕ → ℕ → List ℕ
 closedLine number cause = headOf number letterR ++ (failedWord ++ (spaced cause ++ (newline ∷ [])))
 
--- for R "`short` with its bytes"
+-- the receiver's `short`, with the eight bytes
 unfoldable pub shortLine : ℕ → List ℕ → List ℕ
 shortLine number bytes = headOf number letterR ++ (shortWord ++ (hexes bytes ++ (newline ∷ [])))
 
--- "then any report, after event number and end"
+-- "then any report": the line of what an end reported; quiet or refused it reported nothing
 unfoldable pub senderReport : ℕ → sender-told.Outcome → List ℕ
 senderReport number sender-told.quiet = []
 senderReport number (sender-told.refused n) = []
@@ -122,7 +122,7 @@ receiverReport number (receiver-told.delivered length) bytes = deliveredLine num
 receiverReport number (receiver-told.failed cause) bytes = closedLine number cause
 receiverReport number receiver-told.short bytes = shortLine number bytes
 
--- "It prints `refused n` alone"
+-- the one line of a refused pack
 unfoldable pub refusedText : ℕ → List ℕ
 refusedText number = refusedWord ++ (spaced number ++ (newline ∷ []))
 

@@ -1,5 +1,5 @@
-// Writing bytes into a lent slice from a place on. Each function answers the place after what it wrote; a byte that finds
-// the slice full is left out.
+// Writing bytes into a lent slice from a place on. Each function answers the place after what it
+// wrote; a byte that finds the slice full is left out.
 ghost use mathlib.Core.Path.{_≡_};
 ghost use mathlib.Core.List.{[], _∷_};
 ghost use Rattle.text.specs.Page.{page, put};

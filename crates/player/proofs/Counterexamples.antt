@@ -1,0 +1,121 @@
+-- Runs of which an edited claim is false, one for each edit of `Prints` and of the calls that it speaks of (claim_*.edit).
+-- Assumes nothing.
+use Prim.Native.Nat.{ℕ, _*_}
+use mathlib.Core.Path.{_≡_, refl, sym, ap, _∙_}
+use mathlib.Core.Bool.{true, false, _&&_, and-false}
+use mathlib.Core.List.{List, [], _++_, append-nil}
+use native.Mathlib.Omega.{arith}
+use lib.Dec.{eqb, leb}
+use lib.ListN.{length, take, replicate, length-replicate}
+use Rattle.frame.proofs.Choice.{pick-true, pick-false}
+use Rattle.frame.specs.Choice.{pick}
+use Rattle.line.specs.Ring.{framesFrom, framesIn}
+use Rattle.pack.proofs.Examples as pack
+use Rattle.pack.specs.Pack.{messageOf}
+use Rattle.player.proofs.Examples.{silent, playerOf, firstLine, begunPlayer, zeros, announced, swapped, computed}
+use Rattle.player.proofs.Runs.{runs-exist}
+use Rattle.player.proofs.Steps.{shown, page-shows, lent-begin}
+use Rattle.player.proofs.Whole.{prints-played}
+use Rattle.player.specs.Calls.{progressed, toldProgress, beginOf, playOf, isFinished}
+use Rattle.player.specs.Played.{start, played}
+use Rattle.player.specs.State.{Turned, turned}
+use Rattle.player.specs.Text.{eventText}
+use Rattle.player.specs.Whole.{Held, held, Begins, begins, Plays, none, plays, Run}
+use Rattle.player.specs.declared.Opening.the-variants as variants
+use Rattle.player.specs.declared.Player.{Player}
+use Rattle.text.proofs.Examples as text
+use Rattle.text.specs.Page.{Page, page, byteAt, put}
+use Rattle.text.specs.Text.{digitsIn, decimal, spaced, refusedText}
+use Rattle.transport.specs.Answer.{worldOf}
+use Rattle.transport.specs.Capped.{cappedStep}
+use Rattle.transport.specs.Step.{stepOf}
+use Rattle.transport.specs.World.{World, begin}
+
+never : true ≡ false → ⊥
+never e = let z : _≡_ {A = ℕ} 0 1 = cc in omega arith
+
+-- ---- the example's pack, begun and not yet played
+
+abbrev begun : Run pack.example (playerOf 7) 0
+begun = runs-exist pack.example (playerOf 7) 0
+
+going : isFinished (begun .last .player) ≡ false
+going = prints-played pack.example (variants.Ready (playerOf 7)) (sym (computed .opens)) 0 (begun .begun) (begun .text) (begun .first) (begun .last) (begun .begin) (begun .play) .0
+
+-- claim_finished_a_call_early: it would be finished
+pub finished-a-call-early : isFinished (begun .last .player) ≡ leb 7 (128 * 1) → ⊥
+finished-a-call-early e = never (sym e ∙ going)
+
+no-plays : {bytes text : List ℕ} {n : ℕ} {h k : Held} → n ≡ 0 → Plays bytes n h text k → text ≡ []
+no-plays e none = refl
+no-plays e (plays r forward back buffer out out′ lf lb lo promise rest) = absurd (omega arith)
+
+-- a begin prints one line of it
+begun-line : {printed : List ℕ} {h : Held} → Begins pack.example (playerOf 7) printed h → printed ≡ firstLine
+unfolding beginOf worldOf framesIn framesFrom messageOf
+begun-line (begins r forward forward′ back out out′ lf lf′ lb lo promise) =
+    let line = eventText 0 (cappedStep (start (playerOf 7 .ends)) (begin pack.message) .event) in
+    let thirty : length line ≡ 30 = ap length (computed .begins) in
+    ap shown (promise back (replicate 1785 0))
+    ∙ ap (λ (t : Turned). take (t .page .place) (t .page .bytes)) (sym (pick-true _ (lent-begin (length forward) (length out) lf lo) refl))
+    ∙ page-shows out line (omega arith)
+    ∙ computed .begins
+
+-- claim_printed_before_the_end: one line would be all seven
+pub printed-before-the-end : begun .begun ++ begun .text ≡ played pack.example → ⊥
+printed-before-the-end e =
+    let one : length (begun .begun ++ begun .text) ≡ 30 = ap length (ap (λ (l : List ℕ). begun .begun ++ l) (no-plays refl (begun .play)) ∙ append-nil (begun .begun) ∙ begun-line (begun .begin)) in
+    let all : length (played pack.example) ≡ 179 = ap length (computed .prints) in
+    let same : length (begun .begun ++ begun .text) ≡ length (played pack.example) = ap length e in
+    omega arith
+
+-- claim_page_of_16383: lent such a page a call leaves the player as it is, so that after one call the example's pack is as
+-- little finished as before, and 128 events would have been played
+pub page-of-16383 : (q : Player) (forward back buffer out : List ℕ) → length out ≡ 16383
+    → toldProgress (record { player = q; written = 0 }) forward back buffer out ≡ playOf pack.example q forward back buffer out
+unfolding playOf
+page-of-16383 q forward back buffer out size = pick-false _ (other (length forward) (length back) (length out) size) refl
+  where
+    other : (f b o : ℕ) → o ≡ 16383 → (eqb f 576 && eqb b 576 && eqb o 16384) ≡ false
+    other f b o e = rw e (and-false (eqb f 576 && eqb b 576))
+
+-- claim_lines_swapped: the example, begun on lines of zeros, and played with its lines the wrong way round; its seven events
+-- are then played, nothing is printed of them, and the begin's line would be all seven
+pub begun-on-zeros : (let p = put (page (zeros 16384) 0) (eventText 0 (cappedStep (start (playerOf 7 .ends)) (begin pack.message) .event)) in
+    Begins pack.example (playerOf 7) (take (p .place) (p .bytes)) (held begunPlayer announced (zeros 576) (zeros 1785)))
+unfolding beginOf messageOf cappedStep stepOf worldOf
+begun-on-zeros =
+    let p : Page = put (page (zeros 16384) 0) (eventText 0 (cappedStep (start (playerOf 7 .ends)) (begin pack.message) .event)) in
+    begins (record { player = begunPlayer; written = p .place }) (zeros 576) announced (zeros 576) (zeros 16384) (p .bytes) refl refl refl
+    (length-replicate {A = ℕ} 16384 0)
+    (λ other buffer. ap (λ (t : Turned). progressed t (playerOf 7 .bodies) 0)
+    (pick-true _ (lent-begin 576 (length (zeros 16384)) refl (length-replicate {A = ℕ} 16384 0))
+    (ap (λ (w : World). turned w p) (computed .begun other buffer))))
+
+pub lines-swapped : (swapped .played ≡ 7) × (firstLine ++ take (swapped .page .place) (swapped .page .bytes) ≡ played pack.example → ⊥)
+lines-swapped = (
+  computed .plays-swapped,
+  λ e. let one : length (firstLine ++ take (swapped .page .place) (swapped .page .bytes)) ≡ 30 = ap (λ (l : List ℕ). length (firstLine ++ l)) (computed .shows-swapped) in
+      let all : length (played pack.example) ≡ 179 = ap length (computed .prints) in
+      let same : length (firstLine ++ take (swapped .page .place) (swapped .page .bytes)) ≡ length (played pack.example) = ap length e in
+      omega arith,
+)
+
+-- ---- the pack without events
+
+abbrev ended : Run silent (playerOf 0) 0
+ended = runs-exist silent (playerOf 0) 0
+
+-- claim_begins_page_left_out: nothing would be all that is printed
+pub begins-page-left-out : (isFinished (ended .last .player) ≡ true → ended .text ≡ played silent) → ⊥
+begins-page-left-out claim =
+    let done : isFinished (ended .last .player) ≡ true = prints-played silent (variants.Ready (playerOf 0)) (sym (computed .opens-silent)) 0 (ended .begun) (ended .text) (ended .first) (ended .last) (ended .begin) (ended .play) .0 in
+    let none : _≡_ {A = ℕ} 0 30 = ap length (sym (no-plays refl (ended .play)) ∙ claim done ∙ computed .prints-silent) in
+    omega arith
+
+-- ---- no pack
+
+-- claim_refusal_on_a_page_of_10: the refusal's line would have ten bytes
+pub refusal-on-a-page-of-10 : (let p = put (page (replicate 10 0) 0) (refusedText 12) in take (p .place) (p .bytes) ≡ played []) → ⊥
+unfolding put byteAt pick digitsIn decimal spaced refusedText
+refusal-on-a-page-of-10 e = let ten : _≡_ {A = ℕ} 10 11 = ap length (e ∙ computed .prints-refused) in omega arith
