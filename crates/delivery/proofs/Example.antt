@@ -49,8 +49,35 @@ unfolding
 twice =
     record {
       shows = refl;
-      meets =
-          (λ _. (refl, refl, refl), (λ t. absurd (false≢true t), (λ t. absurd (false≢true t), (λ _. λ _. refl,
-          (λ t. absurd (false≢true t), (λ _. refl, (λ t. absurd (false≢true t), (λ _. refl, (tt, (tt,
-          (λ _. (refl, refl, refl), (λ _. refl, (tt, (λ _. λ _. refl, (λ _. refl, (λ _. λ _. refl, (λ _. refl, (tt, tt))))))))))))))))));
+      meets = (
+        λ _. (refl, refl, refl),
+        (
+          λ t. absurd (false≢true t),
+          (
+            λ t. absurd (false≢true t),
+            (
+              λ _. λ _. refl,
+              (
+                λ t. absurd (false≢true t),
+                (
+                  λ _. refl,
+                  (
+                    λ t. absurd (false≢true t),
+                    (
+                      λ _. refl,
+                      (
+                        tt,
+                        (
+                          tt,
+                          (λ _. (refl, refl, refl), (λ _. refl, (tt, (λ _. λ _. refl, (λ _. refl, (λ _. λ _. refl, (λ _. refl, (tt, tt)))))))),
+                        ),
+                      ),
+                    ),
+                  ),
+                ),
+              ),
+            ),
+          ),
+        ),
+      );
     }
