@@ -12,6 +12,7 @@ use Rattle.frame.specs.Choice.{pick}
 use Rattle.frame.specs.declared.Frame.{Frame}
 use Rattle.receiver.specs.Make as receiver-making
 use Rattle.receiver.specs.Told as receiver
+use Rattle.receiver.specs.declared.Phase as receiver-phase
 use Rattle.receiver.specs.declared.Phase.the-variants as at
 use Rattle.receiver.specs.declared.Receiver.{Receiver}
 use Rattle.receiver.specs.declared.Settings as receiver-settings
@@ -21,7 +22,7 @@ use Rattle.sender.specs.declared.Phase.the-variants.{Idle}
 use Rattle.sender.specs.declared.Sender.{Sender}
 use Rattle.sender.specs.declared.Settings.{Settings}
 use Rattle.frame.proofs.Choice.{both-left, both-right}
-use Rattle.delivery.proofs.Lives.{Acted, Received, tick-live, hear-live, begin-live, receiver-tick-live, receiver-hear-live, lose-forward-live, lose-back-live, idle-live}
+use Rattle.delivery.proofs.Lives.{Stands, Acted, Received, tick-live, hear-live, begin-live, receiver-tick-live, receiver-hear-live, lose-forward-live, lose-back-live, idle-live}
 use Rattle.receiver.proofs.View.{receiverIn, Shut}
 use Rattle.delivery.proofs.Stages.{senderIn, Live, resting, long, short}
 use Rattle.delivery.proofs.Timing.{Timed, before, between, during, Listened, timed-later, tick-timed, hear-timed, in-time}
@@ -92,11 +93,16 @@ module _ (st : Settings) (rs : receiver-settings.Settings) (events : List Event)
   step-back k c w o h [] e = none-called c w o (idle-live (h .live)) (h .timed)
   step-back k c w o h (f ∷ rest) e = sender-heard c w (leaving k f rest) f o (hear-live k (rw e at (h .live))) (h .timed)
 
--- while no connection is open, the receiver is not Open
-idle-shut : {rs : receiver-settings.Settings} {r : Receiver} {o : Opened} → Timed rs r o → idle o ≡ true → Shut (r .phase)
-idle-shut (before shut) e = shut
-idle-shut (between shut) e = shut
-idle-shut (during w) e = absurd (false≢true e)
+-- the receiver is shut, or at a frame of its connection
+shut-stands : (p : receiver-phase.Phase) → Shut p → Stands p
+shut-stands at.Idle shut = tt
+shut-stands (at.Done y) shut = tt
+shut-stands (at.Open x) shut = absurd shut
+
+stands : {rs : receiver-settings.Settings} {r : Receiver} {o : Opened} → Timed rs r o → Stands (r .phase)
+stands (before {p} shut) = shut-stands p shut
+stands (between {p} shut) = shut-stands p shut
+stands (during w) = (w .low, w .high, w .long)
 
 -- the settings that making allows, as far as they are needed
 record Limits (st : Settings) (rs : receiver-settings.Settings) : Type 0 where
@@ -114,7 +120,7 @@ module _ (st : Settings) (rs : receiver-settings.Settings) (limits : Limits st r
   step w events h (begin m) d =
       let k =
       begin-live (limits .some) (h .live) m
-      (λ t. let found = d t in record { shut = idle-shut (h .timed) (found .0); clear = found .1; clear-back = found .2 }) in
+      (λ t. let found = d t in record { stands = stands (h .timed); clear = found .1; clear-back = found .2 }) in
       record { live = k .live; timed = timed-later (h .timed); sent = k .sent _; again = k .again }
   step w events h (senderTick m) d =
       let k = tick-live (limits .few) (h .live) m d in
@@ -141,7 +147,7 @@ module _ (st : Settings) (rs : receiver-settings.Settings) (limits : Limits st r
   reported Begun.never l = tt
   reported (Begun.since m n reports ds) (resting h) = (omega arith, λ _. h)
   reported (Begun.since m n reports ds) (long wide fits young v s) = (omega arith, λ late. absurd (omega arith))
-  reported (Begun.since m n reports ds) (short w young v shut l e c) = (omega arith, λ late. absurd (omega arith))
+  reported (Begun.since m n reports ds) (short w young v l e c) = (omega arith, λ late. absurd (omega arith))
 
   finished : {r : Receiver} {o : Opened} → Timed rs r o → Finished (rs .timeout) o
   finished (before shut) = tt
