@@ -127,7 +127,6 @@ module _ (m : List ℕ) (rs : Settings) where
         let low′ : 1 ≤ x .expected + 1 = omega arith in
         let high′ : x .expected + 1 ≤ framesOf m = omega arith in
         opened {buffer = stored x} many long low′ high′ (rw (at, long) (next-stored m left (x .expected) held fits low high before (omega arith)))
-
     next last at more (stray other small) = stray other small
 
     pub half-information : {q : Phase} {h : Heard} → number ≤ framesOf m → Informed rs number (fillTo 7 (partFrom number m)) left q h

@@ -1,7 +1,7 @@
 -- Demand 3. What the calls keep (`Lives`) and the receiver's time (`Timing`) hold from the start on, along every list of
--- calls that meets the conditions, and the promise is read off them.
+-- calls that meets the conditions, and the promise is read off them. That a begin finds the receiver idle is not used.
 use Prim.Native.Nat.{ℕ, _≤_}
-use mathlib.Core.Bool.{Bool, true, false, _&&_, false≢true}
+use mathlib.Core.Bool.{Bool, true, false, _&&_}
 use mathlib.Core.List.{List, [], _∷_}
 use mathlib.Core.Path.{_≡_, refl, subst}
 use native.Mathlib.Omega.{arith}
@@ -26,9 +26,10 @@ use Rattle.delivery.proofs.Lives.{Stands, Acted, Received, tick-live, h
 use Rattle.receiver.proofs.View.{receiverIn, Shut}
 use Rattle.delivery.proofs.Stages.{senderIn, Live, resting, long, short}
 use Rattle.delivery.proofs.Timing.{Timed, before, between, during, Listened, timed-later, tick-timed, hear-timed, in-time}
+use Rattle.delivery.specs.WhileOpen.{LineCondition, LineConditions, Demand3WhileOpen}
 use Rattle.delivery.specs.Demand3.{Condition, Conditions, Reported, Finished, Sent, Again, Promise, Demand3}
 use Rattle.delivery.specs.Run.{Past, fresh, next, runOf}
-use Rattle.delivery.specs.Seen.{Begun, Opened, further, begunAfter, begunIn, openedAfter, openedIn, idle, listened, other, sortOf}
+use Rattle.delivery.specs.Seen.{Begun, Opened, further, begunAfter, begunIn, openedAfter, openedIn, listened, other, sortOf}
 use Rattle.transport.specs.Step.{Stepped, unheard, bySender, byReceiver, Rest, gone, still, leaving, givenForward, givenBack, stepOf}
 use Rattle.transport.specs.World.{World, Call, begin, senderTick, receiverTick, hearForward, repeatForward, loseForward, hearBack, repeatBack, loseBack, Event, toSender, toReceiver}
 
@@ -114,13 +115,13 @@ record Limits (st : Settings) (rs : receiver-settings.Settings) : Type 0 where
 module _ (st : Settings) (rs : receiver-settings.Settings) (limits : Limits st rs) where
   -- every call keeps what holds
   step : (w : World) (events : List Event) → Holds st rs w events → (c : Call)
-      → Condition (record { world = w; events = events }) c (stepOf w c .event)
+      → LineCondition (record { world = w; events = events }) c (stepOf w c .event)
       → Holds st rs (stepOf w c .world) (stepOf w c .event ∷ events)
   unfolding stepOf begunIn begunAfter openedIn openedAfter pick
   step w events h (begin m) d =
       let k =
       begin-live (limits .some) (h .live) m
-      (λ t. let found = d t in record { stands = stands (h .timed); clear = found .1; clear-back = found .2 }) in
+      (λ t. let found = d t in record { stands = stands (h .timed); clear = found .0; clear-back = found .1 }) in
       record { live = k .live; timed = timed-later (h .timed); sent = k .sent _; again = k .again }
   step w events h (senderTick m) d =
       let k = tick-live (limits .few) (h .live) m d in
@@ -136,7 +137,7 @@ module _ (st : Settings) (rs : receiver-settings.Settings) (limits : Limits st r
   step w events h loseBack d = none-called st rs events loseBack _ refl (lose-back-live (h .live)) (h .timed)
 
   -- so does every list of calls
-  run : (calls : List Call) (p : Past) → Holds st rs (p .world) (p .events) → Conditions stepOf p calls
+  run : (calls : List Call) (p : Past) → Holds st rs (p .world) (p .events) → LineConditions stepOf p calls
       → Holds st rs (runOf stepOf p calls .world) (runOf stepOf p calls .events)
   unfolding runOf
   run [] p h d = h
@@ -215,13 +216,33 @@ promise-kept : (gap timeout limit timeout′ window capacity : ℕ) {s : Sender}
     → SenderMade gap timeout limit s
     → ReceiverMade timeout′ window capacity r
     → (buffer : List ℕ) (calls : List Call)
-    → Conditions stepOf (fresh s r buffer) calls
+    → LineConditions stepOf (fresh s r buffer) calls
     → Promise limit timeout′ (runOf stepOf (fresh s r buffer) calls .events)
 unfolding begunIn openedIn
 promise-kept gap timeout limit timeout′ window capacity {s} {r} (fits e) (fits d) buffer calls c =
     let l = limits-of gap timeout limit timeout′ window capacity e d in
     promised _ _ l _ _ (run _ _ l calls (fresh s r buffer) (record { live = resting tt; timed = before tt; sent = tt; again = tt }) c)
 
+pub demand-3-while-open : Demand3WhileOpen
+demand-3-while-open gap timeout limit s e timeout′ window capacity r d buffer held calls c =
+    promise-kept gap timeout limit timeout′ window capacity (sender-made gap timeout limit s e) (receiver-made timeout′ window capacity r d) buffer calls c
+
+-- the conditions of demand 3 ask for more
+asks-less : (p : Past) (c : Call) (e : Event) → Condition p c e → LineCondition p c e
+asks-less p (begin m) e d = λ t. let found = d t in (found .1, found .2)
+asks-less p (senderTick m) e d = d
+asks-less p receiverTick e d = d
+asks-less p (hearForward b) e d = d
+asks-less p (repeatForward b) e d = d
+asks-less p loseForward e d = d
+asks-less p hearBack e d = d
+asks-less p repeatBack e d = d
+asks-less p loseBack e d = d
+
+ask-less : (calls : List Call) (p : Past) → Conditions stepOf p calls → LineConditions stepOf p calls
+ask-less [] p d = tt
+ask-less (c ∷ calls) p d = (asks-less p c (stepOf (p .world) c .event) (d .0), ask-less calls (next stepOf p c) (d .1))
+
 pub demand-3 : Demand3
 demand-3 gap timeout limit s e timeout′ window capacity r d buffer held calls c =
-    promise-kept gap timeout limit timeout′ window capacity (sender-made gap timeout limit s e) (receiver-made timeout′ window capacity r d) buffer calls c
+    demand-3-while-open gap timeout limit s e timeout′ window capacity r d buffer held calls (ask-less calls (fresh s r buffer) c)

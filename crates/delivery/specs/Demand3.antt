@@ -118,9 +118,9 @@ pub record Promise (limit timeout : ℕ) (events : List Event) : Type 0 where
 -- ---- the claim
 
 -- on a line, for the ends that making answers, from whatever settings it takes, for every buffer of 1785 bytes and every
--- list of calls that meets the conditions
-abbrev pub Demand3On : Line → Type 0
-Demand3On line =
+-- list of calls that meets some conditions
+abbrev pub Promised : Line → (Past → List Call → Type 0) → Type 0
+Promised line conditions =
     (gap timeout limit : ℕ) (s : Sender)
     → sender-making.makeOf gap timeout limit ≡ accepted s
     → (timeout′ window capacity : ℕ) (r : Receiver)
@@ -128,8 +128,12 @@ Demand3On line =
     → (buffer : List ℕ)
     → length buffer ≡ 1785
     → (calls : List Call)
-    → Conditions line (fresh s r buffer) calls
+    → conditions (fresh s r buffer) calls
     → Promise limit timeout′ (runOf line (fresh s r buffer) calls .events)
+
+-- under the conditions above
+abbrev pub Demand3On : Line → Type 0
+Demand3On line = Promised line (Conditions line)
 
 -- on the line that keeps every frame until it is heard or lost
 abbrev pub Demand3 : Type 0

@@ -1,5 +1,6 @@
--- Two lists of calls that meet the conditions of demand 3, and what is seen of them: the example of document 01, The player
--- (the event numbers and the text are the player's), and one with two begins and refused calls.
+-- Lists of calls, and what is seen of them. Two meet the conditions of demand 3: the example of document 01, The player (the
+-- event numbers and the text are the player's), and one with two begins and refused calls. The third begins while a
+-- connection is open.
 use Prim.Native.Nat.{ℕ}
 use mathlib.Core.List.{List, [], _∷_, _++_}
 use lib.ListN.{take, replicate}
@@ -13,8 +14,9 @@ use Rattle.sender.specs.declared.Sender.{Sender}
 use mathlib.Core.Path.{_≡_}
 use Rattle.delivery.specs.Demand3.{Conditions}
 use Rattle.delivery.specs.Run.{Past, fresh, runOf}
+use Rattle.delivery.specs.WhileOpen.{LineConditions}
 use Rattle.transport.specs.Step.{stepOf}
-use Rattle.transport.specs.World.{Call, begin, senderTick, hearForward, repeatForward, hearBack, loseBack, Event}
+use Rattle.transport.specs.World.{Call, begin, senderTick, hearForward, repeatForward, loseForward, hearBack, loseBack, Event}
 
 -- what is printed of an event: the frame emitted, the sender's report, the receiver's
 pub record Shown : Type 0 where
@@ -46,10 +48,11 @@ senderSays outcome = record { emitted = []; sender = outcome; receiver = receive
 abbrev pub receiverSays : receiver.Outcome → Shown
 receiverSays outcome = record { emitted = []; sender = sender.quiet; receiver = outcome }
 
--- a list of calls meets the conditions, and this is seen of it
-pub record Witness (start : Past) (calls : List Call) (shown : List Shown) : Type 0 where
+-- a list of calls meets some conditions, and this is seen of it
+pub record Witness
+    (conditions : Past → List Call → Type 0) (start : Past) (calls : List Call) (shown : List Shown) : Type 0 where
   pub shows : shownBefore (runOf stepOf start calls .events) [] ≡ shown
-  pub meets : Conditions stepOf start calls
+  pub meets : conditions start calls
 
 -- ---- the example
 
@@ -154,3 +157,49 @@ twiceShown =
     ∷ senderSays (sender.sent 1 2)
     ∷ nothing
     ∷ exampleShown
+
+-- ---- a begin while a connection is open
+
+-- the sender of the example with M 3
+abbrev pub hastySender : Sender
+hastySender = record { settings = record { gap = 1; timeout = 10; limit = 3 }; phase = Idle }
+
+abbrev pub openStart : Past
+openStart = fresh hastySender exampleReceiver (replicate 1785 0)
+
+-- Nine other bytes open a connection and fail at M, and what is on the line is lost. The receiver still waits for frame 1
+-- when the example's message begins, with the same N and L.
+unfoldable pub openCalls : List Call
+openCalls =
+    begin (replicate 9 0)
+    ∷ hearForward (replicate 1785 0)
+    ∷ senderTick (replicate 9 0)
+    ∷ senderTick (replicate 9 0)
+    ∷ senderTick (replicate 9 0)
+    ∷ loseForward
+    ∷ loseBack
+    ∷ exampleCalls
+
+abbrev pub openShown : List Shown
+openShown =
+    emits 1 (0x00 ∷ 0x02 ∷ 0x09 ∷ 0x00 ∷ 0xFF ∷ 0xFF ∷ 0xFF ∷ 0xFF ∷ [])
+    ∷ emits 2 (0x01 ∷ 0x02 ∷ 0xFF ∷ 0xFF ∷ 0xFF ∷ 0xFF ∷ 0xFF ∷ 0xFF ∷ [])
+    ∷ nothing
+    ∷ nothing
+    ∷ record {
+      emitted = frameOf 3 (0x03 ∷ 0xFF ∷ 0xFF ∷ 0xFF ∷ 0xFF ∷ 0xFF ∷ 0xFF ∷ 0xFF ∷ []) ∷ [];
+      sender = sender.failed 3 3 2;
+      receiver = receiver.quiet;
+    }
+    ∷ nothing
+    ∷ nothing
+    ∷ exampleShown
+
+-- ---- what is claimed of them
+
+pub record Examples : Type 0 where
+  pub example : Witness (Conditions stepOf) exampleStart exampleCalls exampleShown
+  pub twice : Witness (Conditions stepOf) twiceStart twiceCalls twiceShown
+  pub whileOpen : Witness (LineConditions stepOf) openStart openCalls openShown
+  -- demand 3 says nothing of the third
+  pub beyond : Conditions stepOf openStart openCalls → ⊥
