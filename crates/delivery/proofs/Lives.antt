@@ -5,8 +5,8 @@ use mathlib.Core.List.{List, [], _∷_, _++_, append-nil}
 use mathlib.Core.Path.{_≡_, refl, _∙_}
 use native.Mathlib.Nat.{add-zero}
 use native.Mathlib.Omega.{arith}
-use borrow.Author.Tests.{leb-true, leb-false}
-use lib.Dec.{leb}
+use borrow.Author.Tests.{leb-true, leb-false, eqb-true, eqb-false}
+use lib.Dec.{eqb, leb}
 use lib.ListN.{length}
 use Rattle.frame.specs.Frames.{fillTo, smRmOf}
 use Rattle.frame.specs.declared.Frame.{Frame}
@@ -15,6 +15,7 @@ use Rattle.receiver.specs.Tick as receiver-tick
 use Rattle.receiver.specs.Told as receiver
 use Rattle.receiver.specs.Told.{Heard, heard}
 use Rattle.receiver.specs.declared.Phase as receiver-phase
+use Rattle.receiver.specs.declared.Phase.the-variants as at
 use Rattle.receiver.specs.declared.Receiver.{Receiver}
 use Rattle.receiver.specs.declared.Settings as receiver-settings
 use Rattle.sender.specs.Begin.{beginOf, beginPhase, beginIdle, beginLong, beginShort}
@@ -30,11 +31,11 @@ use Rattle.frame.proofs.Choice.{both-right}
 use Rattle.delivery.proofs.Lines.{Line, none, more, joins, widens, behind, none-late, joins-late}
 use Rattle.delivery.proofs.Moves.{Fits, Took, left-line, stage-tick, stage-hear, stage-leaving, stage-back}
 use Rattle.transport.proofs.Refusals.{Unrefused}
-use Rattle.delivery.proofs.Sends.{Ticks, over, kept, waits, adds, long-tick, short-tick, Hears, stays, finishes, Acked, same, windowed, long-ack, long-nack, long-end, short-end, Rests, ignores, refuses, idle-tick, idle-hear}
+use Rattle.delivery.proofs.Sends.{Ticks, over, kept, waits, adds, long-tick, short-tick, Hears, stays, finishes, Acked, same, windowed, long-ack, long-nack, long-end, short-end, opening-ack, other-end, short-reply, Rests, ignores, refuses, idle-tick, idle-hear}
 use Rattle.delivery.proofs.Stages as stages
-use Rattle.delivery.proofs.Stages.{senderIn, framesOf, announces, Adds, announcement, information, Replies, Moving, Stage, fresh, asked, going, there, Lone, lone, Echoes, echoes, Repeats, repeats, Live, resting, long, short}
+use Rattle.delivery.proofs.Stages.{senderIn, framesOf, Announces, announces, Adds, announcement, information, Replies, Moving, stray, opened, Stage, early, fresh, asked, going, there, lost, Lone, lone, Echoes, echoes, Repeats, repeats, Live, resting, long, short}
 use Rattle.receiver.proofs.View as view
-use Rattle.receiver.proofs.View.{receiverIn, Shut}
+use Rattle.receiver.proofs.View.{receiverIn}
 use Rattle.delivery.specs.Demand3.{Copies, Exactly, HadReport, SentMeans, LentMessage, AgainAfter}
 use Rattle.delivery.specs.Seen.{taken, one, senderReports, deliveriesBy, Begun, never, since, further, begunBy, begins}
 use Rattle.transport.specs.Step.{emission, wasRefused, bufferAfter, Rest, gone, leaving, dropped}
@@ -61,10 +62,12 @@ rests {b = b} {k = k} h refuses = record { live = resting (had-further b (k fals
 -- a frame of the transfer joins forward
 stage-adds : {m : List ℕ} {isOpening : Bool} {q : receiver-phase.Phase} {forward back : List Frame} {buffer : List ℕ} {ds : List (List ℕ)} {f : Frame}
     → Stage m isOpening q forward back buffer ds → Adds m isOpening f → Stage m isOpening q (forward ++ f ∷ []) back buffer ds
+stage-adds (early past l b) (announcement a) = early past (joins l a) b
 stage-adds (fresh shut l b) (announcement a) = fresh shut (joins l a) b
 stage-adds (asked h l b) (announcement a) = asked h (joins l a) b
 stage-adds (going h l b) (information a) = going h (joins-late l a) b
 stage-adds (there l b) (information a) = there (joins l a) b
+stage-adds (lost other small l b) (information a) = lost other small (joins l a) b
 
 module _ {st : Settings} {r : Receiver} {forward back : List Frame} {buffer : List ℕ} {m : List ℕ} {n : ℕ} {ds : List (List ℕ)} where
   long-ticked : {isOpening : Bool} {a : Told} → Fits m → n < st .limit → Stage m isOpening (r .phase) forward back buffer ds
@@ -75,13 +78,13 @@ module _ {st : Settings} {r : Receiver} {forward back : List Frame} {buffer : Li
   long-ticked w young s (waits time v) = record { live = rw append-nil (long (w .long) (w .fits) time v s); sent = tt }
   long-ticked w young s (adds time v a) = record { live = long (w .long) (w .fits) time v (stage-adds s a); sent = tt }
 
-  short-ticked : {a : Told} → length m ≤ 8 → n < st .limit → Shut (r .phase) → Line (Repeats m) forward → Line (Echoes ds) back → Copies (fillTo 8 m) ds
+  short-ticked : {a : Told} → length m ≤ 8 → n < st .limit → Line (Repeats m) forward → Line (Echoes ds) back → Copies (fillTo 8 m) ds
       → Ticks st (Lone m) (Repeats m) n a
       → Acted st r forward back buffer (since m n 0 ds) one a
-  short-ticked w young shut l e c over = record { live = resting refl; sent = tt }
-  short-ticked w young shut l e c (kept v) = record { live = rw (append-nil, add-zero n) (short w young v shut l e c); sent = tt }
-  short-ticked w young shut l e c (waits time v) = record { live = rw append-nil (short w time v shut l e c); sent = tt }
-  short-ticked w young shut l e c (adds time v a) = record { live = short w time v shut (joins l a) e c; sent = tt }
+  short-ticked w young l e c over = record { live = resting refl; sent = tt }
+  short-ticked w young l e c (kept v) = record { live = rw (append-nil, add-zero n) (short w young v l e c); sent = tt }
+  short-ticked w young l e c (waits time v) = record { live = rw append-nil (short w time v l e c); sent = tt }
+  short-ticked w young l e c (adds time v a) = record { live = short w time v (joins l a) e c; sent = tt }
 
 pub tick-live : {st : Settings} {s : Sender} {r : Receiver} {forward back : List Frame} {buffer : List ℕ} {b : Begun}
     → st .limit ≤ 60000
@@ -92,8 +95,8 @@ pub tick-live : {st : Settings} {s : Sender} {r : Receiver} {forward back : List
 tick-live {st} small (resting h) l c = rests h (idle-tick st l)
 tick-live {st} small (long {m} {n} wide fits young v s) l c =
     long-ticked (record { long = wide; fits = fits }) young s (long-tick st small m n young v l (λ t. c t refl))
-tick-live {st} small (short {m} {n} w young v shut f e k) l c =
-    short-ticked w young shut f e k (short-tick st small m n young v l (λ t. c t refl))
+tick-live {st} small (short {m} {n} w young v f e k) l c =
+    short-ticked w young f e k (short-tick st small m n young v l (λ t. c t refl))
 
 -- ---- hearing at the sender
 
@@ -107,6 +110,7 @@ whole wide = record { long = λ _. refl; short = λ narrow. absurd (omega arith)
 -- one more delivery
 echo-more : {ds : List (List ℕ)} (d : List ℕ) (f : Frame) → Echoes ds f → Echoes (d ∷ ds) f
 echo-more d f (echoes first some) = echoes first (omega arith)
+echo-more d f (stages.Echoes.replies r) = stages.Echoes.replies r
 
 abbrev none-counted : Bool → ℕ
 none-counted t = 0
@@ -154,19 +158,33 @@ module _ {st : Settings} (rs : receiver-settings.Settings) {m : List ℕ} {n : �
       → Moving m n isOpening p
       → Stage m isOpening q forward (f ∷ rest) buffer ds
       → Acted st (receiverIn rs q) forward (leaving k f rest) buffer (since m n 0 ds) none-counted (hearOf (senderIn st p) f)
-  long-hear k v (fresh shut l (more (stages.Refuses.refuses cause) b)) =
+  long-hear k v (early past l (more (stages.Declines.refuses cause) b)) =
       heard-on (λ p z. absurd z) (λ z. absurd z) (long-nack st m n v cause)
+  long-hear k v (early past l (more (stages.later start count other) b)) =
+      let s = early past l (left-line k (more (stages.later start count other) b)) in
+      heard-on (goes-on s) (λ z. absurd z) (opening-ack st m n v start count other)
+  long-hear k v (fresh shut l (more (stages.Declines.refuses cause) b)) =
+      heard-on (λ p z. absurd z) (λ z. absurd z) (long-nack st m n v cause)
+  long-hear k v (fresh shut l (more (stages.later start count other) b)) =
+      let s = fresh shut l (left-line k (more (stages.later start count other) b)) in
+      heard-on (goes-on s) (λ z. absurd z) (opening-ack st m n v start count other)
   long-hear k v (asked h l (more x b)) =
       let back = left-line k (more x b) in
       long-replied v (asked h l back) (going h (none-late l) back) x
   long-hear k v (going h l (more x b)) =
       let s = going h l (left-line k (more x b)) in
       long-replied v s s x
-  long-hear k v (there l (more (stages.replies x) b)) =
-      let s = there l (left-line k (more (stages.replies x) b)) in
+  long-hear k v (lost other small l (more (stages.Strays.replies x) b)) =
+      let s = lost other small l (left-line k (more (stages.Strays.replies x) b)) in
       long-replied v s s x
-  long-hear k v (there l (more (stages.ends e) b)) =
-      let s = there l (left-line k (more (stages.ends e) b)) in
+  long-hear k v (lost other small l (more (stages.Strays.ends frames length not-m few) b)) =
+      let s = lost other small l (left-line k (more (stages.Strays.ends frames length not-m few) b)) in
+      heard-on (goes-on s) (λ z. absurd z) (other-end st m n v frames length not-m few)
+  long-hear k v (there l (more (stages.Closes.replies x) b)) =
+      let s = there l (left-line k (more (stages.Closes.replies x) b)) in
+      long-replied v s s x
+  long-hear k v (there l (more (stages.Closes.ends e) b)) =
+      let s = there l (left-line k (more (stages.Closes.ends e) b)) in
       heard-on (goes-on s) (λ _. whole (w .long)) (long-end st m n v (framesOf m) (length m) e)
 
 pub hear-live : {st : Settings} {s : Sender} {r : Receiver} {forward rest : List Frame} {buffer : List ℕ} {b : Begun} {f : Frame} (k : Rest)
@@ -174,8 +192,10 @@ pub hear-live : {st : Settings} {s : Sender} {r : Receiver} {forward rest : List
     → Acted st r forward (leaving k f rest) buffer b none-counted (hearOf s f)
 hear-live {st} {f = f} k (resting h) = rests h (idle-hear st f)
 hear-live k (long {r = r} wide fits young v s) = long-hear (r .settings) (record { long = wide; fits = fits }) young k v s
-hear-live {st} k (short {m} {n} {r = r} w young v shut l (more (echoes first some) e) c) =
-    heard-on (λ p u. short w young u shut l (left-line k (more (echoes first some) e)) c) (λ _. echoed w some c) (short-end st m n v first)
+hear-live {st} k (short {m} {n} {r = r} w young v l (more (echoes first some) e) c) =
+    heard-on (λ p u. short w young u l (left-line k (more (echoes first some) e)) c) (λ _. echoed w some c) (short-end st m n v first)
+hear-live {st} k (short {m} {n} {r = r} w young v l (more (stages.Echoes.replies x) e) c) =
+    heard-on (λ p u. short w young u l (left-line k (more (stages.Echoes.replies x) e)) c) (λ z. absurd z) (short-reply st m n v x)
 
 -- ---- begin
 
@@ -187,9 +207,38 @@ pub record Began (st : Settings) (r : Receiver) (forward back : List Frame) (buf
   pub sent : (c : Begun) → SentMeans (a .outcome) c
   pub again : AgainAfter (begins l) (taken (a .outcome)) b
 
+-- the receiver is shut, or at a frame of an earlier transfer
+abbrev pub Stands : receiver-phase.Phase → Type 0
+Stands at.Idle = Unit
+Stands (at.Done y) = Unit
+Stands (at.Open x) = (1 ≤ x .expected) × (x .expected ≤ x .frames) × (x .length ≤ 1785)
+
+-- the stage that a begin starts in
+starts : (m : List ℕ) {forward : List Frame} {buffer : List ℕ} (q : receiver-phase.Phase) → Stands q → Line (Announces m) forward
+    → Stage m true q forward [] buffer []
+starts m at.Idle s l = fresh tt l none
+starts m (at.Done y) s l = fresh tt l none
+starts m {forward} {buffer} (at.Open x) s l =
+    go (eqb (x .expected) 1) refl (eqb (x .frames) (framesOf m)) refl (eqb (x .length) (length m)) refl
+  where
+    go : (first : Bool) → eqb (x .expected) 1 ≡ first → (many : Bool) → eqb (x .frames) (framesOf m) ≡ many → (exact : Bool) → eqb (x .length) (length m) ≡ exact
+        → Stage m true (at.Open x) forward [] buffer []
+    go false e many d exact c =
+        let low = s .0 in
+        let other : x .expected ≡ 1 → ⊥ = eqb-false (x .expected) 1 e in
+        let more : 1 < x .expected = omega (arith, other) in
+        early more l none
+    go true e false d exact c = asked (stray (λ f. absurd (eqb-false _ _ d f)) (s .2)) l none
+    go true e true d false c = asked (stray (λ f g. absurd (eqb-false _ _ c g)) (s .2)) l none
+    go true e true d true c =
+        let one = eqb-true (x .expected) 1 e in
+        let as-many = eqb-true (x .frames) (framesOf m) d in
+        let in-range = s .1 in
+        asked (opened {buffer = buffer} as-many (eqb-true _ _ c) (s .0) (omega arith) (rw one refl)) l none
+
 -- what an accepted begin finds
 pub record Found (r : Receiver) (forward back : List Frame) : Type 0 where
-  pub shut : Shut (r .phase)
+  pub stands : Stands (r .phase)
   pub clear : forward ≡ []
   pub clear-back : back ≡ []
 
@@ -214,7 +263,7 @@ module _ (st : Settings) (r : Receiver) (forward back : List Frame) (buffer : Li
   unfolding beginShort
   begins-short b l h some narrow found =
       record {
-        live = rw (found .clear, found .clear-back) (short narrow some (lone refl refl) (found .shut) (more repeats none) none tt);
+        live = rw (found .clear, found .clear-back) (short narrow some (lone refl refl) (more repeats none) none tt);
         sent = λ c. tt;
         again = h;
       }
@@ -226,7 +275,7 @@ module _ (st : Settings) (r : Receiver) (forward back : List Frame) (buffer : Li
       record {
         live =
             rw (found .clear, found .clear-back)
-            (long wide fits some (stages.opening (record { long = refl; many = refl; old = refl })) (fresh (found .shut) (more (announces refl) none) none));
+            (long wide fits some (stages.opening (record { long = refl; many = refl; old = refl })) (starts l (r .phase) (found .stands) (more (announces refl) none)));
         sent = λ c. tt;
         again = h;
       }
@@ -253,8 +302,8 @@ pub begin-live : {st : Settings} {s : Sender} {r : Receiver} {forward back : Lis
 begin-live {st} {r = r} {forward} {back} {buffer} {b} some (resting h) l c = begin-idle st r forward back buffer b l h some c
 begin-live {st} {r = r} {forward} {back} {buffer} some (long wide fits young v s) l c =
     begin-long st r forward back buffer l v (long wide fits young v s)
-begin-live {st} {r = r} {forward} {back} {buffer} some (short w young v shut f e k) l c =
-    begin-short st r forward back buffer l v (short w young v shut f e k)
+begin-live {st} {r = r} {forward} {back} {buffer} some (short w young v f e k) l c =
+    begin-short st r forward back buffer l v (short w young v f e k)
 
 -- ---- the receiver's calls
 
@@ -273,27 +322,29 @@ long-took {n = n} w young v t = record { live = rw (add-zero n) (long (w .long) 
 
 module _ {st : Settings} {m : List ℕ} {n : ℕ} {p : Phase} {forward back : List Frame} {buffer : List ℕ} {ds : List (List ℕ)}
     (narrow : length m ≤ 8) (young : n < st .limit) (v : Lone m n p) (e : Line (Echoes ds) back) (c : Copies (fillTo 8 m) ds) where
-  -- a shut receiver's tick does nothing
-  short-rests : {rs : receiver-settings.Settings} {q : receiver-phase.Phase} {t : receiver.Told} → Shut q → Line (Repeats m) forward → view.Ticks rs q t
+  -- a tick of the receiver is none of the transfer's
+  short-rests : {rs : receiver-settings.Settings} {q : receiver-phase.Phase} {t : receiver.Told} → Line (Repeats m) forward → view.Ticks rs q t
       → Received st (senderIn st p) forward back buffer (since m n 0 ds) (heard t buffer)
-  short-rests shut l (view.rests _) = record { live = rw (append-nil, add-zero n) (short narrow young v shut l e c) }
-  short-rests shut l (view.waits _) = absurd shut
-  short-rests shut l (view.retries _ _) = absurd shut
-  short-rests shut l view.expires = absurd shut
+  short-rests l (view.rests _) = record { live = rw (append-nil, add-zero n) (short narrow young v l e c) }
+  short-rests l (view.waits _) = record { live = rw (append-nil, add-zero n) (short narrow young v l e c) }
+  short-rests l (view.retries _ _) =
+      record { live = rw (add-zero n) (short narrow young v l (joins e (stages.Echoes.replies (stages.grants _ _))) c) }
+  short-rests l view.expires =
+      record { live = rw (add-zero n) (short narrow young v l (joins e (stages.Echoes.replies (stages.Replies.refuses 2))) c) }
 
   -- SM_RM is delivered and acknowledged, or nothing happens
-  short-hear : {rs : receiver-settings.Settings} {q : receiver-phase.Phase} {lent : List ℕ} {h : Heard} → Shut q → Line (Repeats m) forward
+  short-hear : {rs : receiver-settings.Settings} {q : receiver-phase.Phase} {lent : List ℕ} {h : Heard} → Line (Repeats m) forward
       → view.Hears rs (smRmOf m) lent q h → Received st (senderIn st p) forward back buffer (since m n 0 ds) h
   unfolding smRmOf
-  short-hear shut l (view.refuses _) = record { live = rw (append-nil, add-zero n) (short narrow young v shut l e c) }
-  short-hear shut l view.ignores = record { live = rw (append-nil, add-zero n) (short narrow young v shut l e c) }
-  short-hear shut l (view.announced k _ _) = absurd (omega arith)
-  short-hear shut l (view.informed _ k _ _) = absurd (omega arith)
-  short-hear shut l (view.closes k) = absurd (omega arith)
-  short-hear shut l (view.short _) =
+  short-hear l (view.refuses _) = record { live = rw (append-nil, add-zero n) (short narrow young v l e c) }
+  short-hear l view.ignores = record { live = rw (append-nil, add-zero n) (short narrow young v l e c) }
+  short-hear l (view.announced k _ _) = absurd (omega arith)
+  short-hear l (view.informed _ k _ _) = absurd (omega arith)
+  short-hear l (view.closes k) = absurd (omega arith)
+  short-hear l (view.short _) =
       let some : 1 ≤ length (fillTo 8 m ∷ ds) = omega arith in
-      record { live = rw (add-zero n) (short narrow young v shut l (joins (widens (echo-more (fillTo 8 m)) e) (echoes _ some)) (refl, c)) }
-  short-hear shut l (view.short-only k) = absurd (omega arith)
+      record { live = rw (add-zero n) (short narrow young v l (joins (widens (echo-more (fillTo 8 m)) e) (echoes _ some)) (refl, c)) }
+  short-hear l (view.short-only k) = absurd (omega arith)
 
 pub receiver-tick-live : {st : Settings} {s : Sender} {r : Receiver} {forward back : List Frame} {buffer : List ℕ} {b : Begun}
     → Live st s r forward back buffer b
@@ -301,7 +352,7 @@ pub receiver-tick-live : {st : Settings} {s : Sender} {r : Receiver} {forward ba
 receiver-tick-live {b = b} (resting h) = record { live = resting (had-further b 0 _ h) }
 receiver-tick-live (long {r = r} wide fits young v s) =
     long-took (record { long = wide; fits = fits }) young v (stage-tick (r .settings) s)
-receiver-tick-live (short {r = r} narrow young v shut l e c) = short-rests narrow young v e c shut l (view.tick-does r)
+receiver-tick-live (short {r = r} narrow young v l e c) = short-rests narrow young v e c l (view.tick-does r)
 
 pub receiver-hear-live : {st : Settings} {s : Sender} {r : Receiver} {f : Frame} {rest back : List Frame} {buffer : List ℕ} {b : Begun} (k : Rest) (lent : List ℕ)
     → Live st s r (f ∷ rest) back buffer b
@@ -311,8 +362,8 @@ receiver-hear-live {b = b} k lent (resting h) d = record { live = resting (had-f
 receiver-hear-live k lent (long {m} {r = r} wide fits young v s) d =
     let w : Fits m = record { long = wide; fits = fits } in
     long-took w young v (stage-hear w (r .settings) lent k s d)
-receiver-hear-live k lent (short {r = r} narrow young v shut (more repeats l) e c) d =
-    short-hear narrow young v e c shut (left-line k (more repeats l)) (view.hear-does r _ lent)
+receiver-hear-live k lent (short {r = r} narrow young v (more repeats l) e c) d =
+    short-hear narrow young v e c (left-line k (more repeats l)) (view.hear-does r _ lent)
 
 -- ---- losses
 
@@ -323,8 +374,8 @@ pub lose-forward-live : {st : Settings} {s : Sender} {r : Receiver} {forward bac
 lose-forward-live {b = b} (resting h) = resting (had-further b 0 [] h)
 lose-forward-live {forward = []} (long {n = n} wide fits young v s) = rw (add-zero n) (long wide fits young v s)
 lose-forward-live {forward = f ∷ rest} (long {n = n} wide fits young v s) = rw (add-zero n) (long wide fits young v (stage-leaving gone s))
-lose-forward-live {forward = []} (short {n = n} w young v shut l e c) = rw (add-zero n) (short w young v shut l e c)
-lose-forward-live {forward = f ∷ rest} (short {n = n} w young v shut l e c) = rw (add-zero n) (short w young v shut (behind l) e c)
+lose-forward-live {forward = []} (short {n = n} w young v l e c) = rw (add-zero n) (short w young v l e c)
+lose-forward-live {forward = f ∷ rest} (short {n = n} w young v l e c) = rw (add-zero n) (short w young v (behind l) e c)
 
 pub lose-back-live : {st : Settings} {s : Sender} {r : Receiver} {forward back : List Frame} {buffer : List ℕ} {b : Begun}
     → Live st s r forward back buffer b
@@ -332,8 +383,8 @@ pub lose-back-live : {st : Settings} {s : Sender} {r : Receiver} {forward back :
 lose-back-live {b = b} (resting h) = resting (had-further b 0 [] h)
 lose-back-live {back = []} (long {n = n} wide fits young v s) = rw (add-zero n) (long wide fits young v s)
 lose-back-live {back = f ∷ rest} (long {n = n} wide fits young v s) = rw (add-zero n) (long wide fits young v (stage-back s))
-lose-back-live {back = []} (short {n = n} w young v shut l e c) = rw (add-zero n) (short w young v shut l e c)
-lose-back-live {back = f ∷ rest} (short {n = n} w young v shut l e c) = rw (add-zero n) (short w young v shut l (behind e) c)
+lose-back-live {back = []} (short {n = n} w young v l e c) = rw (add-zero n) (short w young v l e c)
+lose-back-live {back = f ∷ rest} (short {n = n} w young v l e c) = rw (add-zero n) (short w young v l (behind e) c)
 
 -- nothing happens
 pub idle-live : {st : Settings} {s : Sender} {r : Receiver} {forward back : List Frame} {buffer : List ℕ} {b : Begun}
@@ -341,4 +392,4 @@ pub idle-live : {st : Settings} {s : Sender} {r : Receiver} {forward back : List
     → Live st s r forward back buffer (further b 0 0 [])
 idle-live {b = b} (resting h) = resting (had-further b 0 [] h)
 idle-live (long {n = n} wide fits young v s) = rw (add-zero n) (long wide fits young v s)
-idle-live (short {n = n} w young v shut l e c) = rw (add-zero n) (short w young v shut l e c)
+idle-live (short {n = n} w young v l e c) = rw (add-zero n) (short w young v l e c)

@@ -12,13 +12,15 @@ use Rattle.receiver.specs.Hear.{hearOf}
 use Rattle.receiver.specs.Tick.{tickOf}
 use Rattle.receiver.specs.Told.{Told, Heard, heard}
 use Rattle.receiver.specs.declared.Phase.{Phase}
-use Rattle.receiver.specs.declared.Phase.the-variants.{Done}
+use Rattle.receiver.specs.declared.Delivery.{Delivery}
+use Rattle.receiver.specs.declared.Phase.the-variants.{Idle, Done, Open}
 use Rattle.receiver.specs.declared.Settings.{Settings}
-use Rattle.delivery.proofs.Lines.{Line, more, joins, widens, behind, Ordered, late, early, behind-ordered}
-use Rattle.delivery.proofs.Receives.{Read, refused, ignored, read, reads-announcement, reads-information, Goes, silent, replies, fails, Ends, goes, ends, half-tick, half-announcement, half-information}
+use Rattle.delivery.proofs.Lines as lines
+use Rattle.delivery.proofs.Lines.{Line, more, joins, widens, behind, Ordered, late, behind-ordered}
+use Rattle.delivery.proofs.Receives.{Read, refused, ignored, read, reads-announcement, reads-information, early-reads, Goes, silent, replies, fails, Ends, goes, ends, astray, half-tick, half-announcement, half-information}
 use Rattle.transport.proofs.Refusals.{Unrefused}
 use Rattle.delivery.proofs.Stages as stages
-use Rattle.delivery.proofs.Stages.{framesOf, Announces, announces, Carries, carries, Refuses, Replies, grants, Closes, Halfway, closed, opened, Stage, fresh, asked, going, there}
+use Rattle.delivery.proofs.Stages.{framesOf, Announces, announces, Carries, carries, Other, Declines, Replies, grants, Closes, Strays, Early, Halfway, closed, opened, Stage, early, fresh, asked, going, there, lost}
 use Rattle.delivery.specs.Seen.{deliveriesBy}
 use Rattle.transport.specs.Step.{emission, wasRefused, bufferAfter, Rest, gone, still, leaving}
 
@@ -38,8 +40,9 @@ holding m = Done (record { frames = framesOf m; length = length m })
 same : {P : Frame → Type 0} {fs : List Frame} → Line P fs → Line P (fs ++ [])
 same l = rw append-nil l
 
-refused-is : (f : Frame) → Refuses f → Replies f
-refused-is f (stages.Refuses.refuses cause) = stages.Replies.refuses cause
+declined-is : (f : Frame) → Declines f → Replies f
+declined-is f (stages.Declines.refuses cause) = stages.Replies.refuses cause
+declined-is f (stages.later start count _) = grants start count
 
 module _ {m : List ℕ} {rs : Settings} {forward back : List Frame} {buffer : List ℕ} where
   asked-goes : {h : Heard} → Line (Announces m) forward → Line Replies back → Goes m rs h → Took m true forward back buffer [] h
@@ -55,31 +58,50 @@ module _ {m : List ℕ} {rs : Settings} {forward back : List Frame} {buffer : Li
   -- the last frame: m has been delivered, and only information frames are left on forward
   going-ends : {h : Heard} → Line (Carries m) forward → Line Replies back → Ends m rs h → Took m false forward back buffer [] h
   going-ends l b (goes g) = going-goes (late l) b g
+  going-ends l b (astray x other small) =
+      record { stage = lost other small l (joins (widens (λ f r. stages.Strays.replies r) b) (stages.Strays.ends _ _ other small)) }
   going-ends l b (ends x many long whole) =
       record {
         stage =
-            rw (many, long, whole) (there l (joins (widens (λ f r. stages.replies r) b) (stages.ends refl)));
+            rw (many, long, whole) (there l (joins (widens (λ f r. stages.Closes.replies r) b) (stages.Closes.ends refl)));
       }
 
 module _ {m : List ℕ} {rs : Settings} {forward back : List Frame} {buffer : List ℕ} where
   -- the announcement of m, heard while the receiver is shut and has not opened: refused, or it opens
-  fresh-announcement : {q : Phase} {lent : List ℕ} {h : Heard} → 1 ≤ framesOf m → Shut q → Line (Announces m) forward → Line Refuses back
+  fresh-announcement : {q : Phase} {lent : List ℕ} {h : Heard} → 1 ≤ framesOf m → Shut q → Line (Announces m) forward → Line Declines back
       → Announced rs (framesOf m) (length m) lent q h → Took m true forward back buffer [] h
-  fresh-announcement some shut l b (nacks _ cause) = record { stage = fresh shut l (joins b (stages.Refuses.refuses cause)) }
+  fresh-announcement some shut l b (nacks _ cause) = record { stage = fresh shut l (joins b (stages.Declines.refuses cause)) }
   fresh-announcement some shut l b (opens _ _ _ _ _) =
       let one : 1 ≤ 1 = omega arith in
-      record { stage = asked (opened refl refl one some refl) l (joins (widens refused-is b) (grants 1 _)) }
+      record { stage = asked (opened refl refl one some refl) l (joins (widens declined-is b) (grants 1 _)) }
   fresh-announcement some shut l b again = absurd shut
 
   -- after the delivery the last frame again draws EndofACK again; nothing else happens
   there-information : {lent bytes : List ℕ} {number : ℕ} {h : Heard} → Line (Carries m) forward → Line (Closes m) back
       → Informed rs number bytes lent (holding m) h → Took m false forward back buffer (m ∷ []) h
-  there-information l b (ended _) = record { stage = there l (joins b (stages.ends refl)) }
+  there-information l b (ended _) = record { stage = there l (joins b (stages.Closes.ends refl)) }
+
+  -- so it does where another delivery came of the transfer
+  lost-information : {y : Delivery} {ds : List (List ℕ)} {lent bytes : List ℕ} {number : ℕ} {h : Heard} → Other m (y .frames) (y .length) → y .length ≤ 1785
+      → Line (Carries m) forward → Line (Strays m) back
+      → Informed rs number bytes lent (Done y) h → Took m false forward back buffer ds h
+  lost-information other small l b (ended _) = record { stage = lost other small l (joins b (stages.Strays.ends _ _ other small)) }
 
 -- ---- every stage
 
+early-open : (p : Phase) → Early p → Shut p → ⊥
+early-open Idle e s = e
+early-open (Done y) e s = e
+early-open (Open x) e s = s
+
 ticked : {m : List ℕ} {isOpening : Bool} {q : Phase} {forward back : List Frame} {buffer : List ℕ} {ds : List (List ℕ)} {rs : Settings} {t : Told}
     → Stage m isOpening q forward back buffer ds → Ticks rs q t → Took m isOpening forward back buffer ds (heard t buffer)
+ticked (early {p} past l b) (rests shut) = absurd (early-open p past shut)
+ticked (early past l b) (waits _) = record { stage = early past l (same b) }
+ticked (early past l b) (retries {x} _ _) =
+    let more : 1 < x .expected = past in
+    record { stage = early past l (joins b (stages.later (x .expected) _ (λ one. absurd (omega arith)))) }
+ticked (early past l b) expires = record { stage = fresh tt l (joins b (stages.Declines.refuses 2)) }
 ticked (fresh shut l b) (rests _) = record { stage = fresh shut l (same b) }
 ticked (fresh shut l b) (waits _) = absurd shut
 ticked (fresh shut l b) (retries _ _) = absurd shut
@@ -87,6 +109,7 @@ ticked (fresh shut l b) expires = absurd shut
 ticked {m} {rs = rs} (asked h l b) v = asked-goes l b (half-tick m rs v h)
 ticked {m} {rs = rs} (going h l b) v = going-goes l b (half-tick m rs v h)
 ticked (there l b) (rests _) = record { stage = there l (same b) }
+ticked (lost other small l b) (rests _) = record { stage = lost other small l (same b) }
 
 pub stage-tick : {m : List ℕ} {isOpening : Bool} {q : Phase} {forward back : List Frame} {buffer : List ℕ} {ds : List (List ℕ)} (rs : Settings)
     → Stage m isOpening q forward back buffer ds
@@ -106,19 +129,23 @@ left-ordered still o = o
 pub stage-leaving : {m : List ℕ} {isOpening : Bool} {q : Phase} {f : Frame} {rest back : List Frame} {buffer : List ℕ} {ds : List (List ℕ)} (k : Rest)
     → Stage m isOpening q (f ∷ rest) back buffer ds
     → Stage m isOpening q (leaving k f rest) back buffer ds
+stage-leaving k (early past l b) = early past (left-line k l) b
 stage-leaving k (fresh shut l b) = fresh shut (left-line k l) b
 stage-leaving k (asked h l b) = asked h (left-line k l) b
 stage-leaving k (going h l b) = going h (left-ordered k l) b
 stage-leaving k (there l b) = there (left-line k l) b
+stage-leaving k (lost other small l b) = lost other small (left-line k l) b
 
 -- the first frame of back has been lost
 pub stage-back : {m : List ℕ} {isOpening : Bool} {q : Phase} {f : Frame} {forward rest : List Frame} {buffer : List ℕ} {ds : List (List ℕ)}
     → Stage m isOpening q forward (f ∷ rest) buffer ds
     → Stage m isOpening q forward rest buffer ds
+stage-back (early past l b) = early past l (behind b)
 stage-back (fresh shut l b) = fresh shut l (behind b)
 stage-back (asked h l b) = asked h l (behind b)
 stage-back (going h l b) = going h l (behind b)
 stage-back (there l b) = there l (behind b)
+stage-back (lost other small l b) = lost other small l (behind b)
 
 -- the transfer's own facts
 pub record Fits (m : List ℕ) : Type 0 where
@@ -148,22 +175,32 @@ module _ {m : List ℕ} (w : Fits m) {rs : Settings} {lent : List ℕ} (k : Rest
   heard-stage : {isOpening : Bool} {q : Phase} {f : Frame} {rest back : List Frame} {buffer : List ℕ} {ds : List (List ℕ)} {h : Heard}
       → Stage m isOpening q (f ∷ rest) back buffer ds
       → (Unrefused h → lent ≡ buffer)
+      → (Announces m f → Early q → Read rs q lent (λ _. ⊥) h)
       → Hears rs f lent q h
       → Took m isOpening (leaving k f rest) back buffer ds h
-  heard-stage (fresh shut (more a l) b) c v =
+  heard-stage (early past (more a l) b) c z v = taken (early past (more a l) b) c (z a past) (λ e n. absurd n)
+  heard-stage (fresh shut (more a l) b) c z v =
       taken (fresh shut (more a l) b) c (announcement a v) (λ e n. fresh-announcement (some-frames m w) shut (left-line k (more a l)) b n)
-  heard-stage {q = q} (asked h (more a l) b) c v =
+  heard-stage {q = q} (asked h (more a l) b) c z v =
       taken (asked h (more a l) b) c (announcement a v)
       (λ e n. asked-goes (left-line k (more a l)) b (half-announcement m rs (some-frames m w) n (subst⁻¹ (Halfway m q) e h)))
-  heard-stage {q = q} (going h (early a o) b) c v =
-      taken (going h (early a o) b) c (announcement a v)
-      (λ e n. going-goes (left-ordered k (early a o)) b (half-announcement m rs (some-frames m w) n (subst⁻¹ (Halfway m q) e h)))
-  heard-stage {q = q} (going h (late (more (carries number low high) l)) b) c v =
+  heard-stage {q = q} (going h (lines.early a o) b) c z v =
+      taken (going h (lines.early a o) b) c (announcement a v)
+      (λ e n. going-goes (left-ordered k (lines.early a o)) b (half-announcement m rs (some-frames m w) n (subst⁻¹ (Halfway m q) e h)))
+  heard-stage {q = q} (going h (late (more (carries number low high) l)) b) c z v =
       taken (going h (late (more (carries number low high) l)) b) c (reads-information number m low v)
       (λ e n. going-ends (left-line k (more (carries number low high) l)) b (half-information m rs number lent (n .0) (w .fits) high (n .1) (subst⁻¹ (Halfway m q) e h)))
-  heard-stage (there (more (carries number low high) l) b) c v =
+  heard-stage (lost other small (more (carries number low high) l) b) c z v =
+      taken (lost other small (more (carries number low high) l) b) c (reads-information number m low v)
+      (λ e n. lost-information other small (left-line k (more (carries number low high) l)) b (n .1))
+  heard-stage (there (more (carries number low high) l) b) c z v =
       taken (there (more (carries number low high) l) b) c (reads-information number m low v)
       (λ e n. there-information (left-line k (more (carries number low high) l)) b (n .1))
+
+early-reading : {m : List ℕ} {f : Frame} (rs : Settings) (q : Phase) (lent : List ℕ) → Announces m f → Early q
+    → Read rs q lent (λ _. ⊥) (hearOf (receiverIn rs q) f lent)
+early-reading rs q lent (announces e) past =
+    subst⁻¹ (λ (g : Frame). Read rs q lent (λ _. ⊥) (hearOf (receiverIn rs q) g lent)) e (early-reads rs _ _ lent q past)
 
 -- a hearing of the first frame of forward
 pub stage-hear : {m : List ℕ} → Fits m → {isOpening : Bool} {q : Phase} {f : Frame} {rest back : List Frame} {buffer : List ℕ} {ds : List (List ℕ)}
@@ -171,4 +208,4 @@ pub stage-hear : {m : List ℕ} → Fits m → {isOpening : Bool} {q : Phase} {f
     → Stage m isOpening q (f ∷ rest) back buffer ds
     → (Unrefused (hearOf (receiverIn rs q) f lent) → lent ≡ buffer)
     → Took m isOpening (leaving k f rest) back buffer ds (hearOf (receiverIn rs q) f lent)
-stage-hear w {q = q} {f = f} rs lent k s c = heard-stage w k s c (hear-does (receiverIn rs q) f lent)
+stage-hear w {q = q} {f = f} rs lent k s c = heard-stage w k s c (early-reading rs q lent) (hear-does (receiverIn rs q) f lent)

@@ -1,24 +1,30 @@
 -- What the receiver does in a long transfer, at a tick and at each frame that the sender of that transfer emits.
 use Prim.Native.Nat.{ℕ, _+_, _-_, _≤_, _<_}
+use mathlib.Core.Bool.{_&&_}
 use mathlib.Core.List.{List}
 use mathlib.Core.Path.{_≡_, refl, _∙_}
 use native.Mathlib.Omega.{arith}
 use lib.ListN.{length, take}
-use Rattle.frame.specs.Frames.{fillTo, partFrom, announcementOf, informationOf}
+use borrow.Author.Tests.{eqb-true}
+use lib.Dec.{eqb}
+use Rattle.frame.specs.Choice.{pick}
+use Rattle.frame.specs.Frames.{fillTo, partFrom, wordAt, announcementOf, informationOf}
+use Rattle.frame.specs.Reading.{readOf, namedOf, allFiller}
+use Rattle.frame.proofs.Choice.{pick-elim, both-right}
 use Rattle.frame.proofs.Laws.{word-whole}
 use Rattle.frame.specs.declared.Frame.{Frame}
 use Rattle.receiver.proofs.View.{receiverIn, Ticks, rests, waits, retries, expires, Announced, nacks, opens, again, Informed, above, delivers, asks, goes-on, Hears, refuses, ignores, announced, informed, closes, short, short-only}
-use Rattle.receiver.specs.Hear.{ending, storing}
+use Rattle.receiver.specs.Hear.{ending, storing, announcedAgain, announceOpen, hearAnnouncement, hearNumbered, hearKind, hearRead, hearOf}
 use Rattle.receiver.specs.State.{moved}
 use Rattle.receiver.specs.Told.{Told, Heard, heard, refusing, silently, emitting, failingWith}
 use Rattle.receiver.specs.declared.Connection.{Connection}
 use Rattle.receiver.specs.declared.Phase.{Phase}
-use Rattle.receiver.specs.declared.Phase.the-variants.{Idle, Open}
+use Rattle.receiver.specs.declared.Phase.the-variants.{Idle, Done, Open}
 use Rattle.receiver.specs.declared.Settings.{Settings}
 use Rattle.sender.specs.Tick.{informationAt}
 use Rattle.delivery.proofs.Pieces.{next-stored, last-stored}
 use Rattle.delivery.proofs.Stages as stages
-use Rattle.delivery.proofs.Stages.{framesOf, Replies, grants, Halfway, opened}
+use Rattle.delivery.proofs.Stages.{framesOf, Other, Replies, grants, Early, Halfway, opened, stray}
 use Rattle.transport.proofs.Refusals.{Unrefused, announced-taken, informed-taken}
 
 -- ---- the frames of a transfer, as the receiver reads them
@@ -52,6 +58,22 @@ module _ {rs : Settings} {lent : List ℕ} where
   reads-information number m low (short k) = absurd (omega arith)
   reads-information number m low (short-only k) = absurd (omega arith)
 
+-- an announcement while the receiver is past the first frame of another transfer: refused or ignored
+pub early-reads : (rs : Settings) (frames l : ℕ) (lent : List ℕ) (q : Phase) → Early q
+    → Read rs q lent (λ _. ⊥) (hearOf (receiverIn rs q) (announcementOf frames l) lent)
+unfolding hearOf hearRead hearKind hearNumbered hearAnnouncement announceOpen readOf namedOf allFiller pick announcementOf
+early-reads rs frames l lent Idle e = absurd e
+early-reads rs frames l lent (Done y) e = absurd e
+early-reads rs frames l lent (Open x) e =
+    let P : Heard → Type 0 = Read rs (Open x) lent (λ _. ⊥) in
+    pick-elim P (eqb (length lent) 1785)
+    (λ _. pick-elim (λ (t : Told). P (heard t lent)) (announcedAgain x frames (wordAt (announcementOf frames l) 2 3))
+    (λ again.
+    let first = eqb-true (x .expected) 1 (both-right (eqb frames (x .frames) && eqb (wordAt (announcementOf frames l) 2 3) (x .length)) _ again) in
+    absurd (omega arith))
+    (λ _. ignored))
+    (λ _. refused 5)
+
 -- ---- what the receiver answers while the message is on its way
 
 -- nothing, a reply, or a failure
@@ -63,7 +85,7 @@ pub data Goes (m : List ℕ) (rs : Settings) : Heard → Type 0 where
       → Goes m rs (heard (emitting (receiverIn rs q) f) left)
   fails : (cause : ℕ) {left : List ℕ} → Goes m rs (heard (failingWith (receiverIn rs Idle) cause) left)
 
--- or the delivery
+-- or the delivery, of m or of what an earlier transfer announced
 pub data Ends (m : List ℕ) (rs : Settings) : Heard → Type 0 where
   goes : {h : Heard} → Goes m rs h → Ends m rs h
   ends : (x : Connection) {left : List ℕ}
@@ -71,12 +93,18 @@ pub data Ends (m : List ℕ) (rs : Settings) : Heard → Type 0 where
       → x .length ≡ length m
       → take (length m) left ≡ m
       → Ends m rs (heard (ending (receiverIn rs (Open x)) x) left)
+  astray : (x : Connection) {left : List ℕ}
+      → Other m (x .frames) (x .length)
+      → x .length ≤ 1785
+      → Ends m rs (heard (ending (receiverIn rs (Open x)) x) left)
 
 module _ (m : List ℕ) (rs : Settings) where
   pub half-tick : {q : Phase} {t : Told} {left : List ℕ} → Ticks rs q t → Halfway m q left → Goes m rs (heard t left)
   half-tick (rests _) h = silent h
   half-tick (waits _) (opened many long low high before) = silent (opened many long low high before)
   half-tick (retries _ _) (opened many long low high before) = replies (opened many long low high before) (grants _ _)
+  half-tick (waits _) (stray other small) = silent (stray other small)
+  half-tick (retries _ _) (stray other small) = replies (stray other small) (grants _ _)
   half-tick expires h = fails 2
 
   -- the announcement of m: refused, or the connection is open for m
@@ -99,11 +127,14 @@ module _ (m : List ℕ) (rs : Settings) where
         let low′ : 1 ≤ x .expected + 1 = omega arith in
         let high′ : x .expected + 1 ≤ framesOf m = omega arith in
         opened {buffer = stored x} many long low′ high′ (rw (at, long) (next-stored m left (x .expected) held fits low high before (omega arith)))
+    next last at more (stray other small) = stray other small
 
     pub half-information : {q : Phase} {h : Heard} → number ≤ framesOf m → Informed rs number (fillTo 7 (partFrom number m)) left q h
         → Halfway m q left → Ends m rs h
     half-information inside (above over) (opened many long low high before) = absurd (omega arith)
     half-information inside (delivers {x} at whole) (opened many long low high before) =
         ends x {left = stored x} many long (rw (at, long) (last-stored m left (x .expected) held fits low high before (whole ∙ many)))
+    half-information inside (above over) (stray other small) = goes (fails 4)
+    half-information inside (delivers {x} at whole) (stray other small) = astray x other small
     half-information inside (asks at more _) h = goes (replies (next _ at more h) (grants _ _))
     half-information inside (goes-on at more _) h = goes (silent (next _ at more h))

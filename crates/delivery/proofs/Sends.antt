@@ -3,9 +3,10 @@
 use Prim.Native.Nat.{ℕ, _+_, _≤_, _<_}
 use mathlib.Core.Bool.{Bool, true, false}
 use mathlib.Core.List.{List}
-use mathlib.Core.Path.{_≡_, refl, ap, ap₂, _∙_, subst⁻¹}
+use mathlib.Core.Path.{_≡_, refl, sym, ap, ap₂, _∙_, subst⁻¹}
 use native.Mathlib.Omega.{arith}
-use borrow.Author.Tests.{leb-false}
+use borrow.Author.Tests.{leb-false, eqb-true}
+use lib.Dec.{eqb}
 use lib.ListN.{length}
 use Rattle.frame.specs.Choice.{pick}
 use Rattle.frame.specs.Count.{incrementOf}
@@ -13,7 +14,7 @@ use Rattle.frame.specs.Frames.{wordAt, announcementOf, lmAckOf, lmNackOf, endOf
 use Rattle.frame.specs.Reading.{readOf, namedOf, allFiller}
 use Rattle.frame.specs.declared.Frame.{Frame}
 use Rattle.sender.proofs.Choices.{limit-elim, tick-elim, over-elim, timeout-elim, bad-elim, hear-elim}
-use Rattle.sender.specs.Hear.{hearOf, hearRead, hearKind, hearAck, hearNack, hearEnd, hearShortAck, ackOpening, ackWindow, windowLast, taking, ifWhole, ifFirst}
+use Rattle.sender.specs.Hear.{hearOf, hearRead, hearKind, hearAck, hearNack, hearEnd, hearShortAck, ackOpening, ackWindow, windowLast, taking, isWhole, ifWhole, ifFirst}
 use Rattle.sender.specs.State.{aged, counted}
 use Rattle.sender.specs.Tick.{tickOf, lentTo, tickPhase, tickOpening, tickSending, tickWaiting, tickShort, afterFrame}
 use Rattle.sender.specs.Told.{Told, quiet, refused, sent, failed, refusing}
@@ -26,9 +27,10 @@ use Rattle.sender.specs.declared.Settings.{Settings}
 use Rattle.sender.specs.declared.Single.{Single}
 use Rattle.sender.specs.declared.Streamed.{Streamed}
 use Rattle.sender.specs.declared.Transfer.{Transfer}
-use Rattle.frame.proofs.Choice.{pick-elim}
-use Rattle.frame.proofs.Laws.{increment-is}
-use Rattle.delivery.proofs.Stages.{senderIn, framesOf, announces, carries, Adds, announcement, information, Keeps, Moving, opening, sending, waiting, Lone, lone, Repeats, repeats}
+use Rattle.frame.proofs.Choice.{pick-elim, both-left, both-right}
+use Rattle.frame.proofs.Laws.{increment-is, word-whole}
+use Rattle.delivery.proofs.Stages as stages
+use Rattle.delivery.proofs.Stages.{senderIn, framesOf, announces, carries, Adds, announcement, information, Other, Replies, Keeps, Moving, opening, sending, waiting, Lone, lone, Repeats, repeats}
 use Rattle.delivery.specs.Seen.{taken}
 
 -- a tick that is lent the begun length is not refused
@@ -245,6 +247,16 @@ module _ (st : Settings) (m : List ℕ) (n : ℕ) where
   long-ack (waiting {x} k low high) start count =
       rw hears-ack (window-ack (Waiting x) (waiting k low high) (x .transfer) (x .start) (x .misses) start count k)
 
+  -- an LM_ACK of a later window: an Opening sender stays
+  pub opening-ack : {p : Phase} → Moving m n true p → (start count : ℕ) → (start ≡ 1 → ⊥)
+      → Hears st (Moving m n true) ⊥ (hearOf (senderIn st p) (lmAckOf start count))
+  unfolding hearAck ackOpening
+  opening-ack (opening {x} k) start count later =
+      let P = Hears st (Moving m n true) ⊥ in
+      rw hears-ack
+      (bad-elim P (senderIn st (Opening x)) (x .transfer) start count (stays (opening k)) over
+      (λ low some inside. pick-elim P _ (λ first. absurd (later (eqb-true _ _ first))) (λ other. stays (opening k))))
+
   -- LM_NACK: failed
   pub long-nack : {isOpening : Bool} {p : Phase} → Moving m n isOpening p → (cause : ℕ)
       → Hears st (λ _. ⊥) ⊥ (hearOf (senderIn st p) (lmNackOf cause))
@@ -266,6 +278,32 @@ module _ (st : Settings) (m : List ℕ) (n : ℕ) where
       → Hears st (Moving m n false) Unit (hearOf (senderIn st p) f)
   long-end {p} v frames length e =
       subst⁻¹ (λ (g : Frame). Hears st (Moving m n false) Unit (hearOf (senderIn st p) g)) e (end-heard v frames length)
+
+  -- EndofACK of another N or L: ignored
+  pub other-end : {p : Phase} → Moving m n false p → (frames l : ℕ) → Other m frames l → l ≤ 1785
+      → Hears st (Moving m n false) ⊥ (hearOf (senderIn st p) (endOfAckOf frames l))
+  unfolding hearEnd ifWhole endOfAckOf
+  other-end v frames l other small = rw hears-end (go v)
+    where
+      word : wordAt (endOfAckOf frames l) 1 2 ≡ l
+      word = word-whole l (omega arith)
+
+      never : (t : Transfer) → Keeps m t n → isWhole t frames (wordAt (endOfAckOf frames l) 1 2) ≡ true → ⊥
+      never t k agrees =
+          other (eqb-true _ _ (both-left _ _ agrees) ∙ k .many)
+          (sym word ∙ eqb-true _ _ (both-right (eqb frames (t .frames)) _ agrees) ∙ k .long)
+
+      go : {p : Phase} → Moving m n false p → Hears st (Moving m n false) ⊥ (hearEnd (senderIn st p) p frames (wordAt (endOfAckOf frames l) 1 2))
+      go (sending {x} k low mid high) =
+          pick-elim (Hears st (Moving m n false) ⊥) _ (λ agrees. absurd (never (x .transfer) k agrees)) (λ _. stays (sending k low mid high))
+      go (waiting {x} k low high) =
+          pick-elim (Hears st (Moving m n false) ⊥) _ (λ agrees. absurd (never (x .transfer) k agrees)) (λ _. stays (waiting k low high))
+
+  -- LM_ACK and LM_NACK in a short transfer: ignored
+  pub short-reply : {p : Phase} {f : Frame} → Lone m n p → Replies f → Hears st (Lone m n) ⊥ (hearOf (senderIn st p) f)
+  unfolding hearAck hearNack
+  short-reply (lone whole old) (stages.grants start count) = rw hears-ack (stays (lone whole old))
+  short-reply (lone whole old) (stages.Replies.refuses cause) = rw hears-nack (stays (lone whole old))
 
   -- SM_ACK: sent, or ignored
   pub short-end : {p : Phase} → Lone m n p → (first : ℕ) → Hears st (Lone m n) Unit (hearOf (senderIn st p) (smAckOf first))

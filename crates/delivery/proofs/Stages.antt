@@ -8,6 +8,7 @@ use Rattle.frame.specs.Count.{frameCountOf}
 use Rattle.frame.specs.Frames.{announcementOf, lmAckOf, lmNackOf, endOfAckOf, smRmOf, smAckOf, fillTo}
 use Rattle.frame.specs.declared.Frame.{Frame}
 use Rattle.receiver.specs.declared.Connection.{Connection}
+use Rattle.receiver.specs.declared.Delivery.{Delivery}
 use Rattle.receiver.specs.declared.Phase as receiver-phase
 use Rattle.receiver.specs.declared.Phase.the-variants as at
 use Rattle.receiver.specs.declared.Receiver.{Receiver}
@@ -42,9 +43,15 @@ pub data Announces (m : List ℕ) : Frame → Type 0 where
 pub data Carries (m : List ℕ) : Frame → Type 0 where
   carries : (number : ℕ) → 1 ≤ number → number ≤ framesOf m → Carries m (informationAt number m)
 
--- a refusal by the receiver; that, or an acknowledgement; or the end of a transfer of m
-pub data Refuses : Frame → Type 0 where
-  refuses : (cause : ℕ) → Refuses (lmNackOf cause)
+-- an N and an L that are not m's
+abbrev pub Other : List ℕ → ℕ → ℕ → Type 0
+Other m frames l = frames ≡ framesOf m → l ≡ length m → ⊥
+
+-- what no Opening sender goes on with: a refusal by the receiver, or a later window; a refusal or an acknowledgement; that, or
+-- the end of a transfer of m; that, or the end of another
+pub data Declines : Frame → Type 0 where
+  refuses : (cause : ℕ) → Declines (lmNackOf cause)
+  later : (start count : ℕ) → (start ≡ 1 → ⊥) → Declines (lmAckOf start count)
 
 pub data Replies : Frame → Type 0 where
   grants : (start count : ℕ) → Replies (lmAckOf start count)
@@ -53,6 +60,10 @@ pub data Replies : Frame → Type 0 where
 pub data Closes (m : List ℕ) : Frame → Type 0 where
   replies : {f : Frame} → Replies f → Closes m f
   ends : {f : Frame} → f ≡ endOfAckOf (framesOf m) (length m) → Closes m f
+
+pub data Strays (m : List ℕ) : Frame → Type 0 where
+  replies : {f : Frame} → Replies f → Strays m f
+  ends : (frames l : ℕ) → Other m frames l → l ≤ 1785 → Strays m (endOfAckOf frames l)
 
 -- what the sender adds to forward: while Opening the announcement, later an information frame
 pub data Adds (m : List ℕ) : Bool → Frame → Type 0 where
@@ -78,7 +89,14 @@ pub data Moving (m : List ℕ) (n : ℕ) : Bool → Phase → Type 0 where
       → Moving m n false (Sending x)
   waiting : {x : Awaited} → Keeps m (x .transfer) n → 1 ≤ x .last → x .last ≤ framesOf m → Moving m n false (Waiting x)
 
--- the receiver has forgotten every earlier delivery, and holds the first bytes of m if it is open
+-- the receiver is open for an earlier transfer and past its first frame
+abbrev pub Early : receiver-phase.Phase → Type 0
+Early at.Idle = ⊥
+Early (at.Done y) = ⊥
+Early (at.Open x) = 1 < x .expected
+
+-- The receiver has forgotten every earlier delivery, and holds the first bytes of m if it is open; or it is open for an
+-- earlier transfer of another N or L.
 pub data Halfway (m : List ℕ) : receiver-phase.Phase → List ℕ → Type 0 where
   closed : {buffer : List ℕ} → Halfway m at.Idle buffer
   opened : {x : Connection} {buffer : List ℕ}
@@ -88,15 +106,23 @@ pub data Halfway (m : List ℕ) : receiver-phase.Phase → List ℕ → Type 0 w
       → x .expected ≤ framesOf m
       → take (7 * (x .expected - 1)) buffer ≡ take (7 * (x .expected - 1)) m
       → Halfway m (at.Open x) buffer
+  stray : {x : Connection} {buffer : List ℕ} → Other m (x .frames) (x .length) → x .length ≤ 1785 → Halfway m (at.Open x) buffer
 
--- fresh: the receiver has not opened since the begin. asked: it has, and the sender has not taken it up. going: the
--- sender has; every announcement stands before every information frame, so that none follows the last frame. there: m
--- has been delivered, and no announcement is left to open again.
+-- early: the receiver is still at an earlier transfer, and hears announcements only, which it ignores. fresh: it has not
+-- opened since the begin. asked: it has, and the sender has not taken it up. going: the sender has; every announcement stands
+-- before every information frame, so that none follows the last frame. there: m has been delivered, and no announcement is
+-- left to open again. lost: frames of m have ended an earlier transfer of another N or L, and no announcement is left, so
+-- that m is never acknowledged.
 pub data Stage (m : List ℕ) : Bool → receiver-phase.Phase → (forward back : List Frame) → List ℕ → List (List ℕ) → Type 0 where
+  early : {p : receiver-phase.Phase} {forward back : List Frame} {buffer : List ℕ}
+      → Early p
+      → Line (Announces m) forward
+      → Line Declines back
+      → Stage m true p forward back buffer []
   fresh : {p : receiver-phase.Phase} {forward back : List Frame} {buffer : List ℕ}
       → Shut p
       → Line (Announces m) forward
-      → Line Refuses back
+      → Line Declines back
       → Stage m true p forward back buffer []
   asked : {p : receiver-phase.Phase} {forward back : List Frame} {buffer : List ℕ}
       → Halfway m p buffer
@@ -112,6 +138,12 @@ pub data Stage (m : List ℕ) : Bool → receiver-phase.Phase → (forward back 
       → Line (Carries m) forward
       → Line (Closes m) back
       → Stage m false (at.Done (record { frames = framesOf m; length = length m })) forward back buffer (m ∷ [])
+  lost : {y : Delivery} {forward back : List Frame} {buffer : List ℕ} {ds : List (List ℕ)}
+      → Other m (y .frames) (y .length)
+      → y .length ≤ 1785
+      → Line (Carries m) forward
+      → Line (Strays m) back
+      → Stage m false (at.Done y) forward back buffer ds
 
 -- ---- a short transfer of m
 
@@ -119,9 +151,10 @@ pub data Stage (m : List ℕ) : Bool → receiver-phase.Phase → (forward back 
 pub data Lone (m : List ℕ) (n : ℕ) : Phase → Type 0 where
   lone : {x : Single} → x .transfer .length ≡ length m → x .transfer .age ≡ n → Lone m n (Short x)
 
--- every SM_ACK came after a delivery
+-- every SM_ACK came after a delivery; the other frames are those of an earlier transfer
 pub data Echoes (deliveries : List (List ℕ)) : Frame → Type 0 where
   echoes : (first : ℕ) → 1 ≤ length deliveries → Echoes deliveries (smAckOf first)
+  replies : {f : Frame} → Replies f → Echoes deliveries f
 
 pub data Repeats (m : List ℕ) : Frame → Type 0 where
   repeats : Repeats m (smRmOf m)
@@ -144,7 +177,6 @@ pub data Live (st : Settings) : Sender → Receiver → (forward back : List Fra
       → length m ≤ 8
       → n < st .limit
       → Lone m n p
-      → Shut (r .phase)
       → Line (Repeats m) forward
       → Line (Echoes ds) back
       → Copies (fillTo 8 m) ds

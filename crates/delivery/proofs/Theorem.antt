@@ -1,7 +1,7 @@
 -- Demand 3. What the calls keep (`Lives`) and the receiver's time (`Timing`) hold from the start on, along every list of
--- calls that meets the conditions, and the promise is read off them.
+-- calls that meets the conditions, and the promise is read off them. That a begin finds the receiver idle is not used.
 use Prim.Native.Nat.{ℕ, _≤_}
-use mathlib.Core.Bool.{Bool, true, false, _&&_, false≢true}
+use mathlib.Core.Bool.{Bool, true, false, _&&_}
 use mathlib.Core.List.{List, [], _∷_}
 use mathlib.Core.Path.{_≡_, refl, subst}
 use native.Mathlib.Omega.{arith}
@@ -12,6 +12,7 @@ use Rattle.frame.specs.Choice.{pick}
 use Rattle.frame.specs.declared.Frame.{Frame}
 use Rattle.receiver.specs.Make as receiver-making
 use Rattle.receiver.specs.Told as receiver
+use Rattle.receiver.specs.declared.Phase as receiver-phase
 use Rattle.receiver.specs.declared.Phase.the-variants as at
 use Rattle.receiver.specs.declared.Receiver.{Receiver}
 use Rattle.receiver.specs.declared.Settings as receiver-settings
@@ -21,13 +22,14 @@ use Rattle.sender.specs.declared.Phase.the-variants.{Idle}
 use Rattle.sender.specs.declared.Sender.{Sender}
 use Rattle.sender.specs.declared.Settings.{Settings}
 use Rattle.frame.proofs.Choice.{both-left, both-right}
-use Rattle.delivery.proofs.Lives.{Acted, Received, tick-live, hear-live, begin-live, receiver-tick-live, receiver-hear-live, lose-forward-live, lose-back-live, idle-live}
+use Rattle.delivery.proofs.Lives.{Stands, Acted, Received, tick-live, hear-live, begin-live, receiver-tick-live, receiver-hear-live, lose-forward-live, lose-back-live, idle-live}
 use Rattle.receiver.proofs.View.{receiverIn, Shut}
 use Rattle.delivery.proofs.Stages.{senderIn, Live, resting, long, short}
 use Rattle.delivery.proofs.Timing.{Timed, before, between, during, Listened, timed-later, tick-timed, hear-timed, in-time}
+use Rattle.delivery.specs.WhileOpen.{LineCondition, LineConditions, Demand3WhileOpen}
 use Rattle.delivery.specs.Demand3.{Condition, Conditions, Reported, Finished, Sent, Again, Promise, Demand3}
 use Rattle.delivery.specs.Run.{Past, fresh, next, runOf}
-use Rattle.delivery.specs.Seen.{Begun, Opened, further, begunAfter, begunIn, openedAfter, openedIn, idle, listened, other, sortOf}
+use Rattle.delivery.specs.Seen.{Begun, Opened, further, begunAfter, begunIn, openedAfter, openedIn, listened, other, sortOf}
 use Rattle.transport.specs.Step.{Stepped, unheard, bySender, byReceiver, Rest, gone, still, leaving, givenForward, givenBack, stepOf}
 use Rattle.transport.specs.World.{World, Call, begin, senderTick, receiverTick, hearForward, repeatForward, loseForward, hearBack, repeatBack, loseBack, Event, toSender, toReceiver}
 
@@ -92,11 +94,16 @@ module _ (st : Settings) (rs : receiver-settings.Settings) (events : List Event)
   step-back k c w o h [] e = none-called c w o (idle-live (h .live)) (h .timed)
   step-back k c w o h (f ∷ rest) e = sender-heard c w (leaving k f rest) f o (hear-live k (rw e at (h .live))) (h .timed)
 
--- while no connection is open, the receiver is not Open
-idle-shut : {rs : receiver-settings.Settings} {r : Receiver} {o : Opened} → Timed rs r o → idle o ≡ true → Shut (r .phase)
-idle-shut (before shut) e = shut
-idle-shut (between shut) e = shut
-idle-shut (during w) e = absurd (false≢true e)
+-- the receiver is shut, or at a frame of its connection
+shut-stands : (p : receiver-phase.Phase) → Shut p → Stands p
+shut-stands at.Idle shut = tt
+shut-stands (at.Done y) shut = tt
+shut-stands (at.Open x) shut = absurd shut
+
+stands : {rs : receiver-settings.Settings} {r : Receiver} {o : Opened} → Timed rs r o → Stands (r .phase)
+stands (before {p} shut) = shut-stands p shut
+stands (between {p} shut) = shut-stands p shut
+stands (during w) = (w .low, w .high, w .long)
 
 -- the settings that making allows, as far as they are needed
 record Limits (st : Settings) (rs : receiver-settings.Settings) : Type 0 where
@@ -108,13 +115,13 @@ record Limits (st : Settings) (rs : receiver-settings.Settings) : Type 0 where
 module _ (st : Settings) (rs : receiver-settings.Settings) (limits : Limits st rs) where
   -- every call keeps what holds
   step : (w : World) (events : List Event) → Holds st rs w events → (c : Call)
-      → Condition (record { world = w; events = events }) c (stepOf w c .event)
+      → LineCondition (record { world = w; events = events }) c (stepOf w c .event)
       → Holds st rs (stepOf w c .world) (stepOf w c .event ∷ events)
   unfolding stepOf begunIn begunAfter openedIn openedAfter pick
   step w events h (begin m) d =
       let k =
       begin-live (limits .some) (h .live) m
-      (λ t. let found = d t in record { shut = idle-shut (h .timed) (found .0); clear = found .1; clear-back = found .2 }) in
+      (λ t. let found = d t in record { stands = stands (h .timed); clear = found .0; clear-back = found .1 }) in
       record { live = k .live; timed = timed-later (h .timed); sent = k .sent _; again = k .again }
   step w events h (senderTick m) d =
       let k = tick-live (limits .few) (h .live) m d in
@@ -130,7 +137,7 @@ module _ (st : Settings) (rs : receiver-settings.Settings) (limits : Limits st r
   step w events h loseBack d = none-called st rs events loseBack _ refl (lose-back-live (h .live)) (h .timed)
 
   -- so does every list of calls
-  run : (calls : List Call) (p : Past) → Holds st rs (p .world) (p .events) → Conditions stepOf p calls
+  run : (calls : List Call) (p : Past) → Holds st rs (p .world) (p .events) → LineConditions stepOf p calls
       → Holds st rs (runOf stepOf p calls .world) (runOf stepOf p calls .events)
   unfolding runOf
   run [] p h d = h
@@ -141,7 +148,7 @@ module _ (st : Settings) (rs : receiver-settings.Settings) (limits : Limits st r
   reported Begun.never l = tt
   reported (Begun.since m n reports ds) (resting h) = (omega arith, λ _. h)
   reported (Begun.since m n reports ds) (long wide fits young v s) = (omega arith, λ late. absurd (omega arith))
-  reported (Begun.since m n reports ds) (short w young v shut l e c) = (omega arith, λ late. absurd (omega arith))
+  reported (Begun.since m n reports ds) (short w young v l e c) = (omega arith, λ late. absurd (omega arith))
 
   finished : {r : Receiver} {o : Opened} → Timed rs r o → Finished (rs .timeout) o
   finished (before shut) = tt
@@ -209,13 +216,33 @@ promise-kept : (gap timeout limit timeout′ window capacity : ℕ) {s : Sender}
     → SenderMade gap timeout limit s
     → ReceiverMade timeout′ window capacity r
     → (buffer : List ℕ) (calls : List Call)
-    → Conditions stepOf (fresh s r buffer) calls
+    → LineConditions stepOf (fresh s r buffer) calls
     → Promise limit timeout′ (runOf stepOf (fresh s r buffer) calls .events)
 unfolding begunIn openedIn
 promise-kept gap timeout limit timeout′ window capacity {s} {r} (fits e) (fits d) buffer calls c =
     let l = limits-of gap timeout limit timeout′ window capacity e d in
     promised _ _ l _ _ (run _ _ l calls (fresh s r buffer) (record { live = resting tt; timed = before tt; sent = tt; again = tt }) c)
 
+pub demand-3-while-open : Demand3WhileOpen
+demand-3-while-open gap timeout limit s e timeout′ window capacity r d buffer held calls c =
+    promise-kept gap timeout limit timeout′ window capacity (sender-made gap timeout limit s e) (receiver-made timeout′ window capacity r d) buffer calls c
+
+-- the conditions of demand 3 ask for more
+asks-less : (p : Past) (c : Call) (e : Event) → Condition p c e → LineCondition p c e
+asks-less p (begin m) e d = λ t. let found = d t in (found .1, found .2)
+asks-less p (senderTick m) e d = d
+asks-less p receiverTick e d = d
+asks-less p (hearForward b) e d = d
+asks-less p (repeatForward b) e d = d
+asks-less p loseForward e d = d
+asks-less p hearBack e d = d
+asks-less p repeatBack e d = d
+asks-less p loseBack e d = d
+
+ask-less : (calls : List Call) (p : Past) → Conditions stepOf p calls → LineConditions stepOf p calls
+ask-less [] p d = tt
+ask-less (c ∷ calls) p d = (asks-less p c (stepOf (p .world) c .event) (d .0), ask-less calls (next stepOf p c) (d .1))
+
 pub demand-3 : Demand3
 demand-3 gap timeout limit s e timeout′ window capacity r d buffer held calls c =
-    promise-kept gap timeout limit timeout′ window capacity (sender-made gap timeout limit s e) (receiver-made timeout′ window capacity r d) buffer calls c
+    demand-3-while-open gap timeout limit s e timeout′ window capacity r d buffer held calls (ask-less calls (fresh s r buffer) c)

@@ -30,6 +30,7 @@ use Rattle.transport.specs.World.{toReceiver}
 pub record Within (st : Settings) (x : Connection) (ticks : ℕ) : Type 0 where
   pub low : 1 ≤ x .expected
   pub high : x .expected ≤ x .frames
+  pub long : x .length ≤ 1785
   pub waits : x .wait < st .timeout
   pub tries : x .misses < 3
   pub bound : ticks ≤ st .timeout * (3 * (x .expected - 1) + x .misses) + x .wait
@@ -46,7 +47,7 @@ timed-later (before shut) = before shut
 timed-later (between shut) = between shut
 timed-later (during {x} {t} w) =
     during {t = t + 0}
-    (record { low = w .low; high = w .high; waits = w .waits; tries = w .tries; bound = rw add-zero (w .bound) })
+    (record { low = w .low; high = w .high; long = w .long; waits = w .waits; tries = w .tries; bound = rw add-zero (w .bound) })
 
 -- q whole timeouts and a wait short of one more are under k timeouts, for each k above q
 under : (timeout q k : ℕ) {t wait : ℕ} → t ≤ timeout * q + wait → wait < timeout → q < k → t < timeout * k
@@ -83,14 +84,14 @@ module _ (st : Settings) (pos : 1 ≤ st .timeout) (small : st .timeout ≤ 1000
       → Within st (moved x (x .expected) (x .last) (incrementOf (x .wait)) (x .misses)) (t + 1)
   waited x w early =
       let i = increment-is (x .wait) (omega arith) in
-      record { low = w .low; high = w .high; waits = early; tries = w .tries; bound = rw i (omega arith) }
+      record { low = w .low; high = w .high; long = w .long; waits = early; tries = w .tries; bound = rw i (omega arith) }
 
   timed-out : (x : Connection) (last : ℕ) {t : ℕ} → Within st x t → st .timeout ≤ incrementOf (x .wait) → incrementOf (x .misses) < 3
       → Within st (moved x (x .expected) last 0 (incrementOf (x .misses))) (t + 1)
   timed-out x last w due more =
       let i = increment-is (x .wait) (omega arith) in
       let j = increment-is (x .misses) (omega arith) in
-      record { low = w .low; high = w .high; waits = pos; tries = more; bound = rw j (omega arith) }
+      record { low = w .low; high = w .high; long = w .long; waits = pos; tries = more; bound = rw j (omega arith) }
 
   ticked : {r : Receiver} {o : Opened} {t : Told} → Timed st r o → Ticks (r .settings) (r .phase) t → Ticked st o t
   ticked (before shut) (rests _) = before shut
@@ -122,7 +123,7 @@ module _ (st : Settings) (pos : 1 ≤ st .timeout) (small : st .timeout ≤ 1000
   next-expected : (x : Connection) (last : ℕ) {t : ℕ} → Within st x t → x .expected < x .frames → Within st (moved x (x .expected + 1) last 0 0) (t + 0)
   next-expected x last {t} w more =
       let k : t < st .timeout * (3 * (x .expected + 1 - 1) + 0) = under (st .timeout) _ _ (w .bound) (w .waits) (omega arith) in
-      record { low = omega arith; high = omega arith; waits = pos; tries = omega arith; bound = omega (arith, k) }
+      record { low = omega arith; high = omega arith; long = w .long; waits = pos; tries = omega arith; bound = omega (arith, k) }
 
   module _ (x : Connection) {t : ℕ} (w : Within st x t) (f : Frame) where
     abbrev To : Told → Type 0
@@ -158,9 +159,9 @@ module _ (st : Settings) (pos : 1 ≤ st .timeout) (small : st .timeout ≤ 1000
     heard-shut shut same (refuses number) = quietly refl same
     heard-shut shut same ignores = quietly refl same
     heard-shut shut same (announced k z (nacks _ cause)) = quietly (nack-drawn cause) same
-    heard-shut shut same (announced k z (opens _ nine _ fits _)) =
+    heard-shut shut same (announced k z (opens _ nine top fits _)) =
         let w : Within st (opened (byteOf f 1) (wordAt f 2 3) (windowOf st 1 (byteOf f 1))) 0 =
-        record { low = omega arith; high = omega arith; waits = pos; tries = omega arith; bound = omega arith } in
+        record { low = omega arith; high = omega arith; long = top; waits = pos; tries = omega arith; bound = omega arith } in
         record { timed = rw (k, z, free) (during w) }
     heard-shut shut same (announced k z again) = absurd shut
     heard-shut shut same (informed _ k z (ended {y} _)) = quietly (end-drawn (y .frames) (y .length)) same

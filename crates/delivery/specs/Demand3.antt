@@ -1,14 +1,13 @@
--- Demand 3, as one claim about every list of calls. Its words, each with its place below:
---   "When the sender reports 'sent', the receiver has already delivered exactly that message: once if long, at least once
---    if short (filled to eight bytes), and no other since the begin."                                  sent
---   "Each accepted begin has its one report by the sender's tick M after it."                           reported, again
---   "Each connection that the receiver opens for N frames has its one report by the receiver's tick 3 × T × N after
---    that."                                                                                            finished
---   "All this holds after EVERY list of begins, ticks, hearings, losses and repeats, refused calls included, from fresh
---    ends and an empty line."                                                                          Demand3
---   "the line keeps order and neither invents nor alters a frame"                                       stepOf
---   "each accepted begin finds the receiver idle and the line empty; calls not refused are lent one message from begin to
---    report, and one receiving buffer, changed by nobody else."                                        Conditions
+-- Demand 3, as one claim about every list of calls; document 01, The line, has the meaning of its words.
+--   sent       where the sender says sent, its message is what was delivered since the begin, and nothing else was: a long
+--              one once, a short one, filled up to eight bytes, once or oftener
+--   reported   an accepted begin is reported once, at the sender's tick M after it at the latest
+--   again      so before the next accepted begin
+--   finished   a connection of N frames is reported once, at the receiver's tick 3 × T × N after its opening at the latest
+--   Demand3    this after any calls whatever, refused ones among them, by ends just made and over a line that starts empty
+--   stepOf     the line gives frames in the order and shape in which they were emitted, and no others
+--   Conditions what is asked of whoever makes the calls: to begin only where nothing of an earlier transfer is under way, and
+--              to lend one message and one buffer
 use Prim.Native.Nat.{ℕ, _≤_, _<_, _*_}
 use mathlib.Core.Bool.{Bool, true, false}
 use mathlib.Core.List.{List, [], _∷_}
@@ -31,12 +30,13 @@ use Rattle.transport.specs.World.{hearForward, repeatForward, loseForward, hear
 
 -- ---- the conditions
 
--- "one message from begin to report": while the last begin has no report, a message that is lent is the begun one
+-- while the last begin has no report, a message that is lent is the begun one
 abbrev pub LentMessage : Begun → List ℕ → Type 0
 LentMessage Begun.never m = Unit
 LentMessage (Begun.since message ticks reports deliveries) m = reports ≡ 0 → m ≡ message
 
--- what is asked of one call, by what was seen before it and what is seen of it
+-- What is asked of one call, by what was seen before it and what is seen of it. A refused call may be lent anything. An
+-- accepted begin finds no connection open and both lists empty; a hearing is lent the buffer as the calls have left it.
 abbrev pub Condition : Past → Call → Event → Type 0
 Condition p (begin m) e =
     taken (e .sender) ≡ true
@@ -62,7 +62,7 @@ abbrev pub Copies : List ℕ → List (List ℕ) → Type 0
 Copies bytes [] = Unit
 Copies bytes (d ∷ deliveries) = (d ≡ bytes) × Copies bytes deliveries
 
--- "delivered exactly that message: once if long, at least once if short (filled to eight bytes), and no other"
+-- the deliveries since a begin, the newest first, are its message and nothing else
 pub record Exactly (message : List ℕ) (deliveries : List (List ℕ)) : Type 0 where
   pub long : 8 < length message → deliveries ≡ message ∷ []
   pub short : length message ≤ 8 → (1 ≤ length deliveries) × Copies (fillTo 8 message) deliveries
@@ -117,10 +117,10 @@ pub record Promise (limit timeout : ℕ) (events : List Event) : Type 0 where
 
 -- ---- the claim
 
--- on a line, for the ends that making answers, "from any settings within their limits", every "buffer of 1785 bytes of any
--- content" and every list of calls that meets the conditions
-abbrev pub Demand3On : Line → Type 0
-Demand3On line =
+-- on a line, for the ends that making answers, from whatever settings it takes, for every buffer of 1785 bytes and every
+-- list of calls that meets some conditions
+abbrev pub Promised : Line → (Past → List Call → Type 0) → Type 0
+Promised line conditions =
     (gap timeout limit : ℕ) (s : Sender)
     → sender-making.makeOf gap timeout limit ≡ accepted s
     → (timeout′ window capacity : ℕ) (r : Receiver)
@@ -128,9 +128,13 @@ Demand3On line =
     → (buffer : List ℕ)
     → length buffer ≡ 1785
     → (calls : List Call)
-    → Conditions line (fresh s r buffer) calls
+    → conditions (fresh s r buffer) calls
     → Promise limit timeout′ (runOf line (fresh s r buffer) calls .events)
 
--- "the line keeps order and neither invents nor alters a frame": a frame goes by hear and by lose alone
+-- under the conditions above
+abbrev pub Demand3On : Line → Type 0
+Demand3On line = Promised line (Conditions line)
+
+-- on the line that keeps every frame until it is heard or lost
 abbrev pub Demand3 : Type 0
 Demand3 = Demand3On stepOf

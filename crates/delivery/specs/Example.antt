@@ -1,4 +1,6 @@
--- Document 01, The player: its example, as a list of calls. (The event numbers and the text are the player's.)
+-- Lists of calls, and what is seen of them. Two meet the conditions of demand 3: the example of document 01, The player (the
+-- event numbers and the text are the player's), and one with two begins and refused calls. The third begins while a
+-- connection is open.
 use Prim.Native.Nat.{ℕ}
 use mathlib.Core.List.{List, [], _∷_, _++_}
 use lib.ListN.{take, replicate}
@@ -9,8 +11,12 @@ use Rattle.receiver.specs.declared.Receiver.{Receiver}
 use Rattle.sender.specs.Told as sender
 use Rattle.sender.specs.declared.Phase.the-variants.{Idle}
 use Rattle.sender.specs.declared.Sender.{Sender}
-use Rattle.delivery.specs.Run.{Past, fresh}
-use Rattle.transport.specs.World.{Call, begin, senderTick, hearForward, hearBack, Event}
+use mathlib.Core.Path.{_≡_}
+use Rattle.delivery.specs.Demand3.{Conditions}
+use Rattle.delivery.specs.Run.{Past, fresh, runOf}
+use Rattle.delivery.specs.WhileOpen.{LineConditions}
+use Rattle.transport.specs.Step.{stepOf}
+use Rattle.transport.specs.World.{Call, begin, senderTick, hearForward, repeatForward, loseForward, hearBack, loseBack, Event}
 
 -- what is printed of an event: the frame emitted, the sender's report, the receiver's
 pub record Shown : Type 0 where
@@ -35,7 +41,22 @@ emits kind bytes =
 abbrev pub nothing : Shown
 nothing = record { emitted = []; sender = sender.quiet; receiver = receiver.quiet }
 
--- "With G 1, both T 10, M 100, C 2, K 1785, bytes 01 to 09, events 3 6 1 3 1 3 6", and a buffer of zeros
+-- an event that emits none, with what an end says
+abbrev pub senderSays : sender.Outcome → Shown
+senderSays outcome = record { emitted = []; sender = outcome; receiver = receiver.quiet }
+
+abbrev pub receiverSays : receiver.Outcome → Shown
+receiverSays outcome = record { emitted = []; sender = sender.quiet; receiver = outcome }
+
+-- a list of calls meets some conditions, and this is seen of it
+pub record Witness
+    (conditions : Past → List Call → Type 0) (start : Past) (calls : List Call) (shown : List Shown) : Type 0 where
+  pub shows : shownBefore (runOf stepOf start calls .events) [] ≡ shown
+  pub meets : conditions start calls
+
+-- ---- the example
+
+-- its settings and its message of nine bytes; the buffer holds zeros
 abbrev pub exampleSender : Sender
 exampleSender = record { settings = record { gap = 1; timeout = 10; limit = 100 }; phase = Idle }
 
@@ -66,25 +87,119 @@ exampleCalls =
     ∷ hearBack
     ∷ []
 
--- the example's seven lines, by event number; an event that prints nothing stands between them
+-- the seven printed lines; an event that prints nothing stands between them
 abbrev pub exampleShown : List Shown
 exampleShown =
-    -- 0 S 1 00 02 09 00 FF FF FF FF
+    -- 0 S 1 00 02 09 00 ..
     emits 1 (0x00 ∷ 0x02 ∷ 0x09 ∷ 0x00 ∷ 0xFF ∷ 0xFF ∷ 0xFF ∷ 0xFF ∷ [])
-    -- 1 R 2 01 02 FF FF FF FF FF FF
+    -- 1 R 2 01 02 ..
     ∷ emits 2 (0x01 ∷ 0x02 ∷ 0xFF ∷ 0xFF ∷ 0xFF ∷ 0xFF ∷ 0xFF ∷ 0xFF ∷ [])
     ∷ nothing
-    -- 3 S 1 01 01 02 03 04 05 06 07
+    -- 3 S 1 01 ..
     ∷ emits 1 (0x01 ∷ 0x01 ∷ 0x02 ∷ 0x03 ∷ 0x04 ∷ 0x05 ∷ 0x06 ∷ 0x07 ∷ [])
     ∷ nothing
-    -- 5 S 1 02 08 09 FF FF FF FF FF
+    -- 5 S 1 02 ..
     ∷ emits 1 (0x02 ∷ 0x08 ∷ 0x09 ∷ 0xFF ∷ 0xFF ∷ 0xFF ∷ 0xFF ∷ 0xFF ∷ [])
-    -- 6 R 4 02 09 00 FF FF FF FF FF, 6 R delivered 9
+    -- 6 R 4 02 09 00 .., 6 R delivered 9
     ∷ record {
       emitted = frameOf 4 (0x02 ∷ 0x09 ∷ 0x00 ∷ 0xFF ∷ 0xFF ∷ 0xFF ∷ 0xFF ∷ 0xFF ∷ []) ∷ [];
       sender = sender.quiet;
       receiver = receiver.delivered 9;
     }
     -- 7 S sent 2 3
-    ∷ record { emitted = []; sender = sender.sent 2 3; receiver = receiver.quiet }
+    ∷ senderSays (sender.sent 2 3)
     ∷ []
+
+-- ---- two begins, and calls that are refused
+
+-- the sender of the example with T 1: SM_RM goes again at each tick
+abbrev pub eagerSender : Sender
+eagerSender = record { settings = record { gap = 1; timeout = 1; limit = 100 }; phase = Idle }
+
+abbrev pub twiceStart : Past
+twiceStart = fresh eagerSender exampleReceiver (replicate 1785 0)
+
+-- A short message: its SM_RM is lost to a hearing that is lent no buffer, a tick is lent no message, a begin comes too
+-- early. It goes again and is heard twice; one of the two SM_ACKs is lost. Then the example's message.
+unfoldable pub twiceCalls : List Call
+twiceCalls =
+    begin (1 ∷ 2 ∷ [])
+    ∷ hearForward []
+    ∷ senderTick []
+    ∷ senderTick (1 ∷ 2 ∷ [])
+    ∷ repeatForward []
+    ∷ repeatForward (replicate 1785 0)
+    ∷ begin exampleMessage
+    ∷ hearForward (replicate 1785 0)
+    ∷ hearBack
+    ∷ loseBack
+    ∷ exampleCalls
+
+abbrev pub shortShown : Shown
+shortShown =
+    record {
+      emitted = frameOf 6 (0x01 ∷ 0xFF ∷ 0xFF ∷ 0xFF ∷ 0xFF ∷ 0xFF ∷ 0xFF ∷ 0xFF ∷ []) ∷ [];
+      sender = sender.quiet;
+      receiver = receiver.short;
+    }
+
+-- both begins have their report: sent after one tick and two frames, and what the example shows
+abbrev pub twiceShown : List Shown
+twiceShown =
+    emits 5 (0x01 ∷ 0x02 ∷ 0xFF ∷ 0xFF ∷ 0xFF ∷ 0xFF ∷ 0xFF ∷ 0xFF ∷ [])
+    ∷ receiverSays (receiver.refused 5)
+    ∷ senderSays (sender.refused 4)
+    ∷ emits 5 (0x01 ∷ 0x02 ∷ 0xFF ∷ 0xFF ∷ 0xFF ∷ 0xFF ∷ 0xFF ∷ 0xFF ∷ [])
+    ∷ receiverSays (receiver.refused 5)
+    ∷ shortShown
+    ∷ senderSays (sender.refused 3)
+    ∷ shortShown
+    ∷ senderSays (sender.sent 1 2)
+    ∷ nothing
+    ∷ exampleShown
+
+-- ---- a begin while a connection is open
+
+-- the sender of the example with M 3
+abbrev pub hastySender : Sender
+hastySender = record { settings = record { gap = 1; timeout = 10; limit = 3 }; phase = Idle }
+
+abbrev pub openStart : Past
+openStart = fresh hastySender exampleReceiver (replicate 1785 0)
+
+-- Nine other bytes open a connection and fail at M, and what is on the line is lost. The receiver still waits for frame 1
+-- when the example's message begins, with the same N and L.
+unfoldable pub openCalls : List Call
+openCalls =
+    begin (replicate 9 0)
+    ∷ hearForward (replicate 1785 0)
+    ∷ senderTick (replicate 9 0)
+    ∷ senderTick (replicate 9 0)
+    ∷ senderTick (replicate 9 0)
+    ∷ loseForward
+    ∷ loseBack
+    ∷ exampleCalls
+
+abbrev pub openShown : List Shown
+openShown =
+    emits 1 (0x00 ∷ 0x02 ∷ 0x09 ∷ 0x00 ∷ 0xFF ∷ 0xFF ∷ 0xFF ∷ 0xFF ∷ [])
+    ∷ emits 2 (0x01 ∷ 0x02 ∷ 0xFF ∷ 0xFF ∷ 0xFF ∷ 0xFF ∷ 0xFF ∷ 0xFF ∷ [])
+    ∷ nothing
+    ∷ nothing
+    ∷ record {
+      emitted = frameOf 3 (0x03 ∷ 0xFF ∷ 0xFF ∷ 0xFF ∷ 0xFF ∷ 0xFF ∷ 0xFF ∷ 0xFF ∷ []) ∷ [];
+      sender = sender.failed 3 3 2;
+      receiver = receiver.quiet;
+    }
+    ∷ nothing
+    ∷ nothing
+    ∷ exampleShown
+
+-- ---- what is claimed of them
+
+pub record Examples : Type 0 where
+  pub example : Witness (Conditions stepOf) exampleStart exampleCalls exampleShown
+  pub twice : Witness (Conditions stepOf) twiceStart twiceCalls twiceShown
+  pub whileOpen : Witness (LineConditions stepOf) openStart openCalls openShown
+  -- demand 3 says nothing of the third
+  pub beyond : Conditions stepOf openStart openCalls → ⊥

@@ -1,5 +1,6 @@
 pub mod Run
 pub mod Seen
 pub mod Demand3
+pub mod WhileOpen
 pub mod Capped
 pub mod Example

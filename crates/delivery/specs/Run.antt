@@ -15,7 +15,7 @@ pub record Past : Type 0 where
   pub world : World
   pub events : List Event
 
--- "from fresh ends and an empty line": no event yet
+-- ends just made, and no event yet
 abbrev pub fresh : Sender → Receiver → List ℕ → Past
 fresh s r buffer = record { world = startOf s r buffer; events = [] }
 
@@ -23,7 +23,8 @@ abbrev pub next : Line → Past → Call → Past
 next line p c =
     record { world = line (p .world) c .world; events = line (p .world) c .event ∷ p .events }
 
--- "Each call finds the ends, the line and the buffer as the call before left them": a list of calls, the first first
+-- Document 01, The line: a call starts from what its predecessor left, and nothing comes between. The calls stand in the
+-- list in their order.
 unfoldable pub runOf : Line → Past → List Call → Past
 runOf line p [] = p
 runOf line p (c ∷ calls) = runOf line (next line p c) calls

@@ -1,4 +1,5 @@
--- What a list of events shows, in the words of document 01, The line. Nothing here looks at an end's state.
+-- What a list of events shows: the words that document 01, The line, gives for demand 3. Nothing here looks at an end's
+-- state.
 use Prim.Native.Nat.{ℕ, _+_}
 use mathlib.Core.Bool.{Bool, true, false, not, _&&_}
 use mathlib.Core.List.{List, [], _∷_, _++_}
@@ -35,7 +36,7 @@ sortOf loseBack = other
 
 -- ---- the sender's side
 
--- "a begin is accepted if it is not refused"; so of a tick
+-- a begin or a tick of the sender counts unless it was refused
 abbrev pub taken : sender.Outcome → Bool
 taken sender.quiet = true
 taken (sender.refused number) = false
@@ -47,22 +48,22 @@ abbrev pub one : Bool → ℕ
 one true = 1
 one false = 0
 
--- "An end's tick n after a call is its nth later tick that is not refused": the sender's ticks in an event, none or one
+-- the sender's ticks in an event, none or one: a refused tick is none
 abbrev pub senderTicksBy : Sort → Bool → ℕ
 senderTicksBy (begins message) accepted = 0
 senderTicksBy ticksSender accepted = one accepted
 senderTicksBy ticksReceiver accepted = 0
 senderTicksBy other accepted = 0
 
--- "A begin's report is the sender's sent or failed": the sender's reports in an event, none or one
+-- the sender's reports in an event, none or one
 abbrev pub senderReports : sender.Outcome → ℕ
 senderReports sender.quiet = 0
 senderReports (sender.refused number) = 0
 senderReports (sender.sent ticks frames) = 1
 senderReports (sender.failed cause ticks frames) = 1
 
--- "A long delivery is the first L bytes of the buffer as the hearing that reports delivered L leaves it; a short delivery
--- is the eight bytes that its hearing reports": the deliveries in an event, none or one
+-- The deliveries in an event, none or one. A long one is read from the lent buffer once the hearing has ended, as far as the
+-- length that is reported; a short one stands in the answer.
 abbrev pub deliveriesBy : receiver.Outcome → List ℕ → List ℕ → List (List ℕ)
 deliveriesBy receiver.quiet bytes lent = []
 deliveriesBy (receiver.refused number) bytes lent = []
@@ -109,7 +110,7 @@ receiverTicksBy ticksSender = 0
 receiverTicksBy ticksReceiver = 1
 receiverTicksBy other = 0
 
--- a connection's report is "the receiver's delivered L or failed"
+-- a connection's report: delivered, or failed; a short delivery is none
 abbrev pub receiverReports : receiver.Outcome → ℕ
 receiverReports receiver.quiet = 0
 receiverReports (receiver.refused number) = 0
@@ -122,23 +123,23 @@ pub data Opened : Type 0 where
   never : Opened
   since : (frames ticks reports : ℕ) → Opened
 
--- "Its report .. ends it. The receiver is idle while no connection is open."
+-- no connection is open: none has been opened, or the last one has had its report
 abbrev pub idle : Opened → Bool
 idle never = true
 idle (since frames ticks reports) = not (eqb reports 0)
 
--- "draws LM_ACK 1, w"
+-- the answer to an announcement that is taken: LM_ACK with start 1
 abbrev pub firstAck : List Frame → Bool
 firstAck [] = false
 firstAck (f ∷ more) = eqb (f .kind) 2 && eqb (byteOf f 0) 1
 
--- "a frame 0": heard by the receiver
+-- the receiver heard an announcement, frame 0
 abbrev pub announces : Given → Bool
 announces nobody = false
 announces (toSender f) = false
 announces (toReceiver f) = eqb (f .kind) 1 && eqb (byteOf f 0) 0
 
--- "N is that frame's d1"
+-- the number of frames that it announced
 abbrev pub announced : Given → ℕ
 announced nobody = 0
 announced (toSender f) = 0
@@ -148,7 +149,7 @@ abbrev pub later : Opened → ℕ → ℕ → Opened
 later never ticks reports = never
 later (since frames ticks₀ reports₀) ticks reports = since frames (ticks₀ + ticks) (reports₀ + reports)
 
--- "A connection opens when a frame 0, heard while none is open, draws LM_ACK 1, w"
+-- A frame 0 that is answered with LM_ACK 1 opens a connection, unless one is open; all else counts for the one before.
 unfoldable pub openedAfter : Event → Opened → Opened
 openedAfter e o =
     pick (announces (e .given) && firstAck (e .emitted) && idle o) (since (announced (e .given)) 0 0)

@@ -1,9 +1,9 @@
--- Document 01, The player: the line of 64.
+-- Document 01, The player: its line has room for 64 frames in each direction.
 use lib.ListN.{take}
 use Rattle.transport.specs.Step.{Stepped, withLines, stepOf}
 use Rattle.transport.specs.World.{World, Call}
 
--- "Its line loses a frame that finds 64 before it": of a list that a frame joined, the first 64 stay
+-- of a list that a frame joined, the first 64 stay
 unfoldable pub capped : World → World
 capped w = withLines w (take 64 (w .forward)) (take 64 (w .back))
 

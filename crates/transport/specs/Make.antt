@@ -1,4 +1,4 @@
--- Document 01, The line: "two ends just made .., forward and back empty", or the refusal of a setting.
+-- Both ends, made from their settings, with nothing on the line; or the refusal of a setting.
 use Prim.Native.Nat.{ℕ}
 use Rattle.frame.specs.Result.{Result, accepted, refused}
 use Rattle.line.specs.Ring.{emptyOf}
@@ -22,7 +22,7 @@ joined (accepted s) (refused number) = refused number
 joined (accepted s) (accepted r) =
     accepted (record { sender = s; receiver = r; forward = emptyOf; back = emptyOf })
 
--- G, the sender's T, M; the receiver's T, C, K: "making an end: 1 setting"
+-- from G, the sender's T and M, and the receiver's T, C and K; document 01, Refusals, by place: making an end
 unfoldable pub makeOf : ℕ → ℕ → ℕ → ℕ → ℕ → ℕ → Result Ends
 makeOf gap timeout limit patience window capacity =
     joined (sender.makeOf gap timeout limit) (receiver.makeOf patience window capacity)

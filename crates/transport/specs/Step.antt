@@ -26,7 +26,7 @@ abbrev pub emission : Bool → Frame → List Frame
 emission true f = f ∷ []
 emission false f = []
 
--- what is seen where no end is called: "On an empty list nothing happens", and a loss calls none
+-- what is seen where no end is called: at a loss, and where the list is empty
 abbrev pub uncalled : Call → Event
 uncalled c =
     record {
@@ -48,7 +48,7 @@ abbrev pub withLines : World → List Frame → List Frame → World
 withLines w forward back =
     record { sender = w .sender; receiver = w .receiver; forward = forward; back = back; buffer = w .buffer }
 
--- a call of the sender, given a frame or none: "Emitted frames join the end", here of forward
+-- a call of the sender, given a frame or none: what it emits is the last on forward
 abbrev pub bySender : Call → World → Given → List Frame → sender.Told → Stepped
 bySender c w given back t =
     record {
@@ -81,13 +81,12 @@ wasRefused (receiver.delivered length) = false
 wasRefused (receiver.failed cause) = false
 wasRefused receiver.short = false
 
--- the receiving buffer after a call of the receiver: what the call left of the lent one; refused, what it was: "ends and
--- buffer stay"
+-- the receiving buffer after a call of the receiver: what the call left of the lent one; after a refused call, what it was
 abbrev pub bufferAfter : Bool → List ℕ → List ℕ → List ℕ
 bufferAfter true buffer left = buffer
 bufferAfter false buffer left = left
 
--- a call of the receiver, given a frame or none: its frame joins back
+-- a call of the receiver, given a frame or none: what it emits is the last on back
 abbrev pub byReceiver : Call → World → Given → List Frame → receiver.Heard → Stepped
 byReceiver c w given forward h =
     record {
@@ -112,7 +111,7 @@ byReceiver c w given forward h =
           };
     }
 
--- what is left of a list whose first frame was given: "Hear takes the first away ..; repeat gives it and keeps it"
+-- what is left of a list whose first frame was given: hear removes it, repeat does not
 pub data Rest : Type 0 where
   gone : Rest
   still : Rest
@@ -132,7 +131,7 @@ unfoldable pub givenBack : Rest → Call → World → List Frame → Stepped
 givenBack k c w [] = unheard c w
 givenBack k c w (f ∷ rest) = bySender c w (toSender f) (leaving k f rest) (hearOf (w .sender) f)
 
--- "lose drops it"
+-- lose: the first frame is gone and nobody has heard it
 abbrev pub dropped : List Frame → List Frame
 dropped [] = []
 dropped (f ∷ rest) = rest

@@ -7,8 +7,8 @@ use Rattle.receiver.specs.declared.Receiver.{Receiver}
 use Rattle.sender.specs.Told as sender
 use Rattle.sender.specs.declared.Sender.{Sender}
 
--- "Two lists of frames, forward and back": forward goes from the sender to the receiver. The ends, the line and the
--- receiving buffer, as a call finds them and leaves them.
+-- The ends, the line and the receiving buffer, as a call finds them and leaves them. The frames on forward are on their way
+-- from the sender to the receiver, those on back the other way.
 pub record World : Type 0 where
   pub sender : Sender
   pub receiver : Receiver
@@ -16,8 +16,8 @@ pub record World : Type 0 where
   pub back : List Frame
   pub buffer : List ℕ
 
--- "The calls are begin, sender tick, receiver tick, and hear, lose and repeat on forward or back": each with what it is
--- lent, a message to begin and to the sender's tick, a buffer to the receiver's hearing.
+-- The calls of demand 3, each with what it is lent: a message to begin and to the sender's tick, a buffer to the receiver's
+-- hearing.
 pub data Call : Type 0 where
   begin : (message : List ℕ) → Call
   senderTick : (message : List ℕ) → Call
@@ -52,6 +52,6 @@ pub record Event : Type 0 where
   -- the lent buffer as the receiver's call leaves it; empty where the receiver was not called
   pub lent : List ℕ
 
--- "The start is two ends just made .., forward and back empty, and a buffer of 1785 bytes of any content."
+-- where every list of calls starts
 abbrev pub startOf : Sender → Receiver → List ℕ → World
 startOf s r buffer = record { sender = s; receiver = r; forward = []; back = []; buffer = buffer }

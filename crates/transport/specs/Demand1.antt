@@ -1,0 +1,79 @@
+-- Demand 1 at the transport: a call that an end refuses leaves both ends and the buffer as they were and emits nothing, and
+-- lines of another length are not touched. Making answers the number of a refusal and then no ends (`makeOf`).
+use Prim.Native.Nat.{ℕ}
+use mathlib.Core.Bool.{Bool, true, false, _||_}
+use mathlib.Core.List.{List, []}
+use mathlib.Core.Path.{_≡_}
+use Rattle.frame.specs.Frames.{blankOf}
+use Rattle.receiver.specs.Told as receiver
+use Rattle.sender.specs.Told as sender
+use Rattle.transport.specs.Answer.{worldOf, quietly, lentOf}
+use Rattle.transport.specs.Capped.{cappedStep}
+use Rattle.transport.specs.Step.{Stepped, withLines, wasRefused, dropped}
+use Rattle.transport.specs.World.{World, Call, Event}
+use Rattle.transport.specs.World.{begin, senderTick, receiverTick}
+use Rattle.transport.specs.World.{hearForward, repeatForward, loseForward, hearBack, repeatBack, loseBack}
+use Rattle.transport.specs.declared.Ends.{Ends}
+
+-- whether the sender's call was refused
+abbrev pub senderRefused : sender.Outcome → Bool
+senderRefused sender.quiet = false
+senderRefused (sender.refused number) = true
+senderRefused (sender.sent ticks frames) = false
+senderRefused (sender.failed cause ticks frames) = false
+
+-- whether the called end refused
+abbrev pub isRefusal : Event → Bool
+isRefusal e = senderRefused (e .sender) || wasRefused (e .receiver)
+
+-- Document 01, The line, of refused calls: nothing but the lines can change, and of these only what the call itself does:
+-- hear has taken its frame away, whoever refused it; repeat has kept it
+abbrev pub leftBy : Call → World → World
+leftBy (begin message) w = w
+leftBy (senderTick message) w = w
+leftBy receiverTick w = w
+leftBy (hearForward buffer) w = withLines w (dropped (w .forward)) (w .back)
+leftBy (repeatForward buffer) w = w
+leftBy loseForward w = withLines w (dropped (w .forward)) (w .back)
+leftBy hearBack w = withLines w (w .forward) (dropped (w .back))
+leftBy repeatBack w = w
+leftBy loseBack w = withLines w (w .forward) (dropped (w .back))
+
+-- the buffer that a hearing of the receiver is lent
+abbrev pub lentBy : Call → List ℕ
+lentBy (begin message) = []
+lentBy (senderTick message) = []
+lentBy receiverTick = []
+lentBy (hearForward buffer) = buffer
+lentBy (repeatForward buffer) = buffer
+lentBy loseForward = []
+lentBy hearBack = []
+lentBy repeatBack = []
+lentBy loseBack = []
+
+-- all that a refused call does: no frame, no bytes, the lent buffer as it was; the number stands in the outcome
+abbrev pub refusedStep : World → Call → Event → Stepped
+refusedStep w c e =
+    record {
+      world = leftBy c w;
+      event =
+          record {
+            call = c;
+            given = e .given;
+            emitted = [];
+            frame = blankOf;
+            sender = e .sender;
+            receiver = e .receiver;
+            bytes = receiver.noBytes;
+            lent = lentBy c;
+          };
+    }
+
+-- whatever states the ends are in, and whatever bytes the lines and the buffer hold
+pub record Demand1 : Type 0 where
+  -- by an end
+  pub refused : (ends : Ends) (forward back buffer : List ℕ) (c : Call)
+      → let w = worldOf ends forward back buffer in
+      isRefusal (cappedStep w c .event) ≡ true → cappedStep w c ≡ refusedStep w c (cappedStep w c .event)
+  -- by the length of a line: both ends, both lines and the buffer stay
+  pub misfit : (w : World) (c : Call) → lentOf false w c ≡ quietly w
