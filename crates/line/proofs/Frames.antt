@@ -124,7 +124,7 @@ length-frames bytes (suc n) p = ap suc (length-frames bytes n (suc p))
 
 -- ---- the ring
 
--- "Emitted frames join the end"; "Its line loses a frame that finds 64 before it"
+-- The line: a frame goes to the end of the list; The player, "Its line loses": of 65 the last is lost
 pub frames-joined : (r : Ring) (f : Frame) (bytes : List ℕ)
     → length bytes ≡ 576
     → length (f .bytes) ≡ 8
@@ -169,7 +169,7 @@ rest-frames r bytes some =
     ∙ ap (λ (l : List Frame). frameAt bytes (r .first % 64) ∷ l)
     (frames-around bytes (min (min (r .count) 64 - 1) 64) (suc (r .first)) ((r .first % 64 + 1) % 64) (omega arith)))
 
--- "Hear takes the first away": the first frame and the rest, or nothing where the ring is empty
+-- the first frame, which a hearing takes away, and the rest; or nothing where the ring is empty
 pub frames-some : (r : Ring) (bytes : List ℕ)
     → length bytes ≡ 576
     → (r .count ≡ 0 → ⊥)
