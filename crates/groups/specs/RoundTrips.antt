@@ -1,6 +1,6 @@
--- Writing and reading undo each other, by the rows of a table: what was written is read as the group that it was, and a group
--- that was read is written as the bytes that it came from. `proofs/Inverse.antt` proves it of every table that passes a
--- computed test, and so of document 01's.
+-- Writing and reading undo each other, by the rows of a table: what was written is read as the group that it was, and a
+-- group that was read is written as the bytes that it came from. `proofs/Inverse.antt` proves it of every table that passes
+-- a computed test, and so of document 01's.
 use Prim.Native.Nat.{ℕ, _<_}
 use mathlib.Core.Path.{_≡_}
 use mathlib.Core.List.{List}

@@ -14,7 +14,8 @@ use lib.Seq.{sets, getD-set-same, getD-set-other, take-all, take-append-le}
 use Rattle.frame.proofs.Choice.{pick-elim}
 use Rattle.frame.specs.declared.Frame.{Frame}
 use Rattle.line.proofs.Laws.{listed, head-there}
-use Rattle.line.specs.Ring.{frameAt, stored, framesFrom, framesIn, headOf, restOf, Kept, joinOf}
+use Rattle.line.specs.Ring.{frameAt, stored, framesFrom, framesIn, emptyOf, headOf, restOf, Kept, joinOf}
+use Rattle.line.specs.RingIsList.{RingIsList}
 use Rattle.line.specs.declared.Ring.{Ring}
 
 abbrev frameOf : ℕ → List ℕ → Frame
@@ -187,3 +188,13 @@ frames-none r bytes none = rw none refl
 pub frames-limit : (r : Ring) (bytes : List ℕ) → length (framesIn r bytes) ≤ 64
 unfolding framesIn
 frames-limit r bytes = let l : length (framesFrom bytes (r .first) (min (r .count) 64)) ≡ min (r .count) 64 = length-frames bytes _ (r .first) in omega arith
+
+pub ring-is-list : RingIsList
+ring-is-list =
+    record {
+      empty = λ bytes. frames-none emptyOf bytes refl;
+      joined = frames-joined;
+      some = frames-some;
+      none = frames-none;
+      limit = frames-limit;
+    }

@@ -34,7 +34,7 @@ opening r frames length =
     let last = windowOf (r .settings) 1 frames in
     emitting (inPhase r (Open (opened frames length last))) (lmAckOf 1 last)
 
--- "Frame 0, Idle": a bad announcement draws NACK 5 and then one that is over the capacity NACK 1, neither with any change
+-- "Frame 0, Idle": a bad announcement draws NACK 5, a good one that is over the capacity NACK 1; neither changes the state
 unfoldable pub announceIdle : Receiver → ℕ → ℕ → Told
 announceIdle r frames length =
     pick (announcesWell frames length)

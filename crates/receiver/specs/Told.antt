@@ -1,4 +1,4 @@
--- What the receiver's calls answer, in document 01's words and numbers.
+-- What the receiver's calls answer, with the numbers that document 01 gives to refusals and causes.
 use Prim.Native.Nat.{ℕ}
 use mathlib.Core.Bool.{Bool, true, false}
 use mathlib.Core.List.{List, [], _∷_}
@@ -19,8 +19,8 @@ abbrev pub toldMade : made-enum.Made → result.Result Receiver
 toldMade (made-variants.End r) = result.accepted r
 toldMade (made-variants.Refused number) = result.refused number
 
--- what a call reports: nothing; that it was refused, by a number; a long delivery of so many bytes; a failure with its cause;
--- a short delivery, whose eight bytes stand beside it
+-- what a call reports: nothing; that it was refused, by a number; a long delivery of so many bytes; a failure with its
+-- cause; a short delivery, whose eight bytes stand beside it
 pub data Outcome : Type 0 where
   quiet : Outcome
   refused : ℕ → Outcome
@@ -76,8 +76,8 @@ emitting r f = record { next = r; emits = true; frame = f; outcome = quiet; byte
 abbrev pub delivering : Receiver → Frame → ℕ → Told
 delivering r f length = record { next = r; emits = true; frame = f; outcome = delivered length; bytes = noBytes }
 
--- Frames, the causes: a failure and the NACK that it emits have one cause. The receiver, "A failure forgets": it ends in Idle
--- with no delivery to remember.
+-- Frames, the causes: a failure and the NACK that it emits have one cause. The receiver, "A failure forgets": it ends in
+-- Idle with no delivery to remember.
 abbrev pub failingWith : Receiver → ℕ → Told
 failingWith r cause =
     record { next = inPhase r Idle; emits = true; frame = lmNackOf cause; outcome = failed cause; bytes = noBytes }
