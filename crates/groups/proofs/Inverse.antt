@@ -19,6 +19,7 @@ use Rattle.frame.specs.Result.{Result, accepted, refused}
 use Rattle.groups.specs.Answer.{toldFinding, toldReading, toldWriting}
 use Rattle.groups.specs.Format.{sizeOf, sizesOf, kindsOf, values, rowAllows, valueOf, valuesOf, bytesOf, fieldsOf, groupOf, groupFrom, bytesFor}
 use Rattle.groups.specs.Reading.{judged, readRow, readBy, readIn}
+use Rattle.groups.specs.RoundTrips.{RoundTrips}
 use Rattle.groups.specs.Table.{rows, findIn}
 use Rattle.groups.specs.Writing.{Outcome, outcome, writeRow, writeBy, writeIn}
 use Rattle.groups.specs.declared.Finding.{Finding}
@@ -252,14 +253,6 @@ module _ (table : List Row) (fit : Fits table) where
         fine = fine;
         bytes = read-bytes s x (r .eight) bytes (r .found) (r .filler);
       }) (r .fine)
-
--- WRITING AND THEN READING RESTORES EACH FIELD, AND READING AND THEN WRITING THE EIGHT BYTES: what is written is read as the
--- group that it was, and a group that is read is written as the bytes that it came from.
-pub record RoundTrips (table : List Row) : Type 0 where
-  pub read-written : (g : Group) (s t : List ℕ) → writeIn table g s ≡ outcome (accepted tt) t
-      → readIn table t ≡ accepted g
-  pub written-read : (s : List ℕ) (g : Group) → ((n : ℕ) → getD s n 0 < 256) → readIn table s ≡ accepted g
-      → (t : List ℕ) → length t ≡ 8 → writeIn table g t ≡ outcome (accepted tt) s
 
 pub round-trips : (table : List Row) → Fits table → RoundTrips table
 round-trips table fit =

@@ -1,23 +1,21 @@
 -- A value out of range is refused, and nothing else is: the refusals of a group whose length, code and filler are as they
--- must be, in words of numbers. And a refused write leaves the bytes.
+-- must be, in words of numbers.
 -- Assumes nothing.
 use Prim.Native.Nat.{ℕ, _≤_}
 use mathlib.Core.Path.{_≡_, refl, sym, ap, _∙_}
 use mathlib.Core.Bool.{Bool, true, false, _&&_, _||_, and-eq-true-iff, or-true, Bool·beq}
 use mathlib.Core.List.{List, [], _∷_}
 use mathlib.Core.Logic.{_⊎_, inl, inr, ⊎-elim}
-use native.Mathlib.Omega.{arith}
 use borrow.Author.Tests.{eq-eqb, le-leb, leb-true, eqb-true}
 use lib.Dec.{eqb, leb}
 use lib.ListN.{length, getD, drop}
-use Rattle.frame.proofs.Choice.{pick-elim}
 use Rattle.frame.specs.Choice.{pick}
 use Rattle.frame.specs.Reading.{allFiller}
 use Rattle.frame.specs.Result.{Result, accepted, refused}
 use Rattle.groups.specs.Format.{kindsOf, values, allowed, allAllowed, rowAllows, groupFrom, bytesFor}
 use Rattle.groups.specs.Reading.{judged, readRow, readBy, readIn}
 use Rattle.groups.specs.Table.{kinds, kindIn, kindAt, rows, findIn, findOf}
-use Rattle.groups.specs.Writing.{Outcome, outcome, writeRow, writeBy, writeIn}
+use Rattle.groups.specs.Writing.{outcome, writeRow, writeBy, writeIn}
 use Rattle.groups.specs.declared.Group.{Group}
 use Rattle.groups.specs.declared.Kind.{Kind}
 use Rattle.groups.specs.declared.Row.{Row}
@@ -104,27 +102,6 @@ module _ (table : List Row) where
     pub write-out-of-range : (Takes x (values g) → ⊥) → writeIn table g s ≡ outcome (refused 10) s
     unfolding writeIn writeBy writeRow pick
     write-out-of-range h = rw (eq-eqb _ _ eight, found, not-taken x (values g) h _ refl)
-
--- Every refused write leaves the bytes: each of its tests ends in a refusal with the bytes as they were.
-module _ (s : List ℕ) (n : ℕ) (u : List ℕ) where
-  abbrev Leaves : Outcome → Type 0
-  Leaves o = o ≡ outcome (refused n) u → u ≡ s
-
-  left : (m : ℕ) → Leaves (outcome (refused m) s)
-  left m h = sym (ap (λ (o : Outcome). o .bytes) h)
-
-  done : (t : List ℕ) → Leaves (outcome (accepted tt) t)
-  done t h = absurd (let a = ap (λ (o : Outcome). o .answer) h in let z : _≡_ {A = ℕ} 0 1 = cc in omega arith)
-
-  leaves-by : (g : Group) (a : Result Row) → Leaves (writeBy g s a)
-  unfolding writeBy writeRow
-  leaves-by g (accepted x) = pick-elim Leaves (rowAllows x (values g)) (λ fine. done _) (λ value. left 10)
-  leaves-by g (refused m) = left m
-
-  pub write-refused-leaves : (table : List Row) (g : Group) → Leaves (writeIn table g s)
-  unfolding writeIn
-  write-refused-leaves table g =
-      pick-elim Leaves (eqb (length s) 8) (λ eight. leaves-by g (findIn (g .code) table)) (λ other. left 9)
 
 -- "Only the fields of 77 may be missing": a row has a field that takes a mark for missing, 0xFFFE or 0xFFFF in a word or 0xFE in
 -- a byte, just if its code is 0x77. (0xFF in a byte is also the reason "other" of 0x75.) One test of the whole table.

@@ -1,5 +1,5 @@
--- How a group stands in its bytes: the code, then its fields one after the other, then filler. Document 01: "Words of two
--- bytes go low byte first"; Groups: "A group is read from and written to eight lent bytes, 0xFF after its own length".
+-- How a group stands in its bytes: the code, then its fields one after the other, then filler. Document 01, its opening
+-- ("Words of two bytes": the low byte comes first), and Around the transport, Groups (eight bytes, with filler behind).
 use Prim.Native.Nat.{ℕ, _+_, _-_}
 use mathlib.Core.Bool.{Bool, true, _&&_, _||_}
 use mathlib.Core.List.{List, [], _∷_, _++_}

@@ -4,3 +4,5 @@ pub mod Words
 pub mod Format
 pub mod Reading
 pub mod Writing
+pub mod RoundTrips
+pub mod Refusals

@@ -103,8 +103,8 @@ row code length sender confirmed first second third fourth =
       fourth = fourth;
     }
 
--- "71:2, 72:4, 73:6, 74:5, 75:4, 76:5, 77:7, 78:2, 79:2 (hexadecimal codes) .. 72, 73, 74, 77, 79 come from the vehicle;
--- 78, 79 are reliable".
+-- The groups: document 01, Around the transport, Groups, for code, length, sender and reliability; 001, tables H.3 to H.11,
+-- for the fields and their order.
 unfoldable pub rows : List Row
 rows =
     -- H.3 the charger is ready
@@ -138,7 +138,7 @@ kindIn number (line ∷ rest) = pick (eqb (line .0) number) (line .1) (kindIn nu
 unfoldable pub kindAt : ℕ → Kind
 kindAt number = kindIn number kinds
 
--- the first row of a table with a code. Refusals, parameter group: "9 code"
+-- the first row of a table with a code. Refusals, parameter group: 9 where there is none.
 unfoldable pub findIn : ℕ → List Row → Result Row
 findIn code [] = refused 9
 findIn code (x ∷ rest) = pick (eqb (x .code) code) (accepted x) (findIn code rest)

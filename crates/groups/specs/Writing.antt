@@ -17,19 +17,19 @@ pub record Outcome : Type 0 where
 abbrev pub outcome : Result Unit → List ℕ → Outcome
 outcome answer bytes = record { answer = answer; bytes = bytes }
 
--- "10 value"; else the group's bytes
+-- last, 10: a value that its kind does not allow; else the group's bytes
 unfoldable pub writeRow : Group → List ℕ → Row → Outcome
 writeRow g s x =
     pick (rowAllows x (values g))
     (outcome (accepted tt) (bytesFor (g .code) (kindsOf x) (values g)))
     (outcome (refused 10) s)
 
--- before it "9 code": the code's row
+-- before it 9: no row has the code
 unfoldable pub writeBy : Group → List ℕ → Result Row → Outcome
 writeBy g s (accepted x) = writeRow g s x
 writeBy g s (refused n) = outcome (refused n) s
 
--- and first "another lent length is 9"; by the rows of any table, and of document 01's
+-- and first 9: other than eight bytes are lent. By the rows of any table, and of document 01's.
 unfoldable pub writeIn : List Row → Group → List ℕ → Outcome
 writeIn table g s = pick (eqb (length s) 8) (writeBy g s (findIn (g .code) table)) (outcome (refused 9) s)
 

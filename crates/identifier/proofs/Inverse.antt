@@ -11,6 +11,7 @@ use Rattle.frame.specs.Result.{Result, accepted, refused}
 use Rattle.identifier.specs.Identifier.{numberOf, partsOf, fitsOf, Within}
 use Rattle.identifier.specs.Answer.{toldJoined, toldParted, joinOf, partOf}
 use Rattle.identifier.specs.Named.{chargerVersionParts, vehicleVersionParts, chargerVersion, vehicleVersion}
+use Rattle.identifier.specs.RoundTrips.{RoundTrips}
 use Rattle.identifier.specs.declared.Parts.{Parts}
 use Rattle.identifier.specs.declared.Joined.{Joined}
 use Rattle.identifier.specs.declared.Parted.{Parted}
@@ -86,3 +87,12 @@ charger-version-joined = refl
 pub vehicle-version-joined : joinOf vehicleVersionParts ≡ accepted vehicleVersion
 unfolding joinOf fitsOf numberOf pick
 vehicle-version-joined = refl
+
+pub round-trips : RoundTrips
+round-trips =
+    record {
+      parted-joined = parted-joined;
+      joined-parted = joined-parted;
+      charger-version = charger-version-joined;
+      vehicle-version = vehicle-version-joined;
+    }

@@ -1,4 +1,4 @@
--- Document 01, Refusals, identifier: "8 over 29 bits, a part over its width, or EDP or DP not 0".
+-- Joining parts and parting an identifier. Document 01, Refusals, identifier: 8 is the only refusal.
 use Prim.Native.Nat.{ℕ}
 use mathlib.Core.Bool.{Bool, _&&_}
 use lib.Dec.{eqb, ltb}
@@ -20,11 +20,11 @@ abbrev pub toldParted : Parted → Result Parts
 toldParted (partings.Into x) = accepted x
 toldParted (partings.Refused n) = refused n
 
--- from parts: refused 8 is "a part over its width, or EDP or DP not 0"
+-- from parts: refused where one does not fit its bits, or where EDP or DP is set
 unfoldable pub joinOf : Parts → Result ℕ
 joinOf x = pick (fitsOf x) (accepted (numberOf x)) (refused 8)
 
--- to parts: refused 8 is "over 29 bits .. or EDP or DP not 0"
+-- to parts: refused where the number needs more than 29 bits, or where the bit of EDP or DP is set
 unfoldable pub partsFit : ℕ → Bool
 partsFit n = ltb n 536870912 && eqb (partsOf n .edp) 0 && eqb (partsOf n .dp) 0
 

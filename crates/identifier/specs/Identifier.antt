@@ -1,5 +1,4 @@
--- Document 01, Around the transport: "Identifier, high bit first: P 3 bits, EDP, DP, PF 8, PS 8, SA
--- 8."
+-- The identifier as a number, and its parts. Document 01, Around the transport, "Identifier".
 use Prim.Native.Nat.{ℕ, _+_, _*_, _/_, _%_, _<_}
 use mathlib.Core.Path.{_≡_}
 use mathlib.Core.Bool.{Bool, _&&_}

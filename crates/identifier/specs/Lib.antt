@@ -1,3 +1,4 @@
 pub mod Identifier
 pub mod Answer
 pub mod Named
+pub mod RoundTrips

@@ -22,7 +22,7 @@ abbrev pub vehicleVersionParts : Parts
 vehicleVersionParts =
     record { p = 3; edp = 0; dp = 0; pf = 0x36; ps = chargerAddress; sa = vehicleAddress }
 
--- their identifiers; document 01 prints the first, "P 3, PF 0x38, PS 0xF4, SA 0x56: 0x0C38F456"
+-- their identifiers; document 01 prints the first at the end of its edge cases
 abbrev pub chargerVersion : ℕ
 chargerVersion = 0x0C38F456
 

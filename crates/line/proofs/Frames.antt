@@ -14,7 +14,8 @@ use lib.Seq.{sets, getD-set-same, getD-set-other, take-all, take-append-le}
 use Rattle.frame.proofs.Choice.{pick-elim}
 use Rattle.frame.specs.declared.Frame.{Frame}
 use Rattle.line.proofs.Laws.{listed, head-there}
-use Rattle.line.specs.Ring.{frameAt, stored, framesFrom, framesIn, headOf, restOf, Kept, joinOf}
+use Rattle.line.specs.Ring.{frameAt, stored, framesFrom, framesIn, emptyOf, headOf, restOf, Kept, joinOf}
+use Rattle.line.specs.RingIsList.{RingIsList}
 use Rattle.line.specs.declared.Ring.{Ring}
 
 abbrev frameOf : ℕ → List ℕ → Frame
@@ -124,7 +125,7 @@ length-frames bytes (suc n) p = ap suc (length-frames bytes n (suc p))
 
 -- ---- the ring
 
--- "Emitted frames join the end"; "Its line loses a frame that finds 64 before it"
+-- The line: a frame goes to the end of the list; The player, "Its line loses": of 65 the last is lost
 pub frames-joined : (r : Ring) (f : Frame) (bytes : List ℕ)
     → length bytes ≡ 576
     → length (f .bytes) ≡ 8
@@ -169,7 +170,7 @@ rest-frames r bytes some =
     ∙ ap (λ (l : List Frame). frameAt bytes (r .first % 64) ∷ l)
     (frames-around bytes (min (min (r .count) 64 - 1) 64) (suc (r .first)) ((r .first % 64 + 1) % 64) (omega arith)))
 
--- "Hear takes the first away": the first frame and the rest, or nothing where the ring is empty
+-- the first frame, which a hearing takes away, and the rest; or nothing where the ring is empty
 pub frames-some : (r : Ring) (bytes : List ℕ)
     → length bytes ≡ 576
     → (r .count ≡ 0 → ⊥)
@@ -187,3 +188,13 @@ frames-none r bytes none = rw none refl
 pub frames-limit : (r : Ring) (bytes : List ℕ) → length (framesIn r bytes) ≤ 64
 unfolding framesIn
 frames-limit r bytes = let l : length (framesFrom bytes (r .first) (min (r .count) 64)) ≡ min (r .count) 64 = length-frames bytes _ (r .first) in omega arith
+
+pub ring-is-list : RingIsList
+ring-is-list =
+    record {
+      empty = λ bytes. frames-none emptyOf bytes refl;
+      joined = frames-joined;
+      some = frames-some;
+      none = frames-none;
+      limit = frames-limit;
+    }

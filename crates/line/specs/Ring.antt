@@ -1,5 +1,5 @@
--- One direction of the player's line. Document 01, The line: "Two lists of frames"; The player: "Its line loses a frame
--- that finds 64 before it." The list is kept in 576 lent bytes, nine for each of 64 places in a circle.
+-- One direction of the player's line. Document 01, The line, "Two lists of frames"; The player, "Its line loses": a list has
+-- room for 64. It is kept in 576 lent bytes, nine for each of 64 places in a circle.
 use Prim.Native.Nat.{ℕ, zero, suc, _+_, _-_, _*_, _%_, min}
 use mathlib.Core.List.{List, [], _∷_}
 use lib.Dec.{eqb, leb}
@@ -41,7 +41,7 @@ framesFrom bytes place (suc more) = frameAt bytes (place % 64) ∷ framesFrom by
 unfoldable pub framesIn : Ring → List ℕ → List Frame
 framesIn r bytes = framesFrom bytes (r .first) (min (r .count) 64)
 
--- "empty at first"
+-- The line: at the start there is no frame on it
 abbrev pub emptyOf : Ring
 emptyOf = record { first = 0; count = 0 }
 
@@ -49,7 +49,7 @@ emptyOf = record { first = 0; count = 0 }
 unfoldable pub headOf : Ring → List ℕ → Frame
 headOf r bytes = pick (eqb (length bytes) 576) (frameAt bytes (r .first % 64)) blankOf
 
--- without its first frame: "Hear takes the first away"; "On an empty list nothing happens"
+-- without its first frame, which hearing and losing take away; an empty list stays as it is
 unfoldable pub restOf : Ring → Ring
 restOf r =
     pick (eqb (r .count) 0) r (record { first = (r .first % 64 + 1) % 64; count = min (r .count) 64 - 1 })
@@ -62,7 +62,7 @@ pub record Kept : Type 0 where
 abbrev pub kept : Ring → List ℕ → Kept
 kept r bytes = record { ring = r; bytes = bytes }
 
--- "Emitted frames join the end", and a frame that finds 64 before it is lost; lent bytes of another length take none
+-- with a frame at its end; where it is full the frame is lost, and lent bytes of another length take none
 unfoldable pub joinOf : Ring → Frame → List ℕ → Kept
 joinOf r f bytes =
     pick (eqb (length bytes) 576)

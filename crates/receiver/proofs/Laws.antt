@@ -27,6 +27,7 @@ use Rattle.frame.specs.declared.Reading.{Reading}
 use Rattle.frame.specs.declared.Reading.the-variants.{Read, Refused}
 use Rattle.receiver.specs.Hear.{announcesWell, opening, announceIdle, announcedAgain, openingAgain, announceOpen, hearAnnouncement, ending, askingNext, expectingNext, stored, carried, storing, informationOpen, endingAgain, informationDone, hearInformation, hearNack, hearNumbered, hearKind, hearRead, hearOf}
 use Rattle.receiver.specs.Make.{settingsFit, idleWith, makeOf}
+use Rattle.receiver.specs.State.{inPhase}
 use Rattle.receiver.specs.Tick.{waiting, askingAgain, tickOpen, tickPhase, tickOf}
 use Rattle.receiver.specs.Told.{Told, Heard, heard, refusing, silently, emitting, failingWith, failing, shortWith, shortOnly}
 use Rattle.receiver.specs.declared.Connection.{Connection}
@@ -34,6 +35,7 @@ use Rattle.receiver.specs.declared.Delivery.{Delivery}
 use Rattle.receiver.specs.declared.Phase.{Phase}
 use Rattle.receiver.specs.declared.Phase.the-variants.{Idle, Done, Open}
 use Rattle.receiver.specs.declared.Receiver.{Receiver}
+use Rattle.receiver.specs.declared.Settings.{Settings}
 
 -- ---- making
 
@@ -91,6 +93,13 @@ module _ (r : Receiver) {a : Told} where
 
 pub ruleset ticks = (tick-idle, tick-done, tick-opened)
 
+-- A receiver is its settings and its phase. So the state that is handed to a step may be the receiver or be built anew from
+-- it, and is judged by its parts: edits/ has some that build it anew with another part.
+pub same-receiver : {t r : Receiver} → r .settings ≡ t .settings → r .phase ≡ t .phase → t ≡ r
+same-receiver {t} {r} s p =
+    let in-old-phase : Settings → Receiver = λ a. record { settings = a; phase = r .phase } in
+    ap (inPhase t) (sym p) ∙ ap in-old-phase (sym s)
+
 -- ---- an announcement
 
 module _ (r : Receiver) (frames length : ℕ) {a : Told} where
@@ -122,19 +131,20 @@ module _ (r : Receiver) (frames length : ℕ) {a : Told} where
     open-ignores e t = pick-false _ (sym g ∙ t) e
 
   module _ {p : Phase} where
-    pub announced-idle : a ≡ announceIdle r frames length → p ≡ Idle → a ≡ hearAnnouncement r p frames length
-    unfolding hearAnnouncement
-    announced-idle e k = rw k e
-
-    pub announced-done : {x : Delivery} → a ≡ announceIdle r frames length → p ≡ Done x
+    pub announced-idle : {t : Receiver} → a ≡ announceIdle t frames length → t ≡ r → p ≡ Idle
         → a ≡ hearAnnouncement r p frames length
     unfolding hearAnnouncement
-    announced-done e k = rw k e
+    announced-idle e same k = rw k (e ∙ ap (λ (t : Receiver). announceIdle t frames length) same)
 
-    pub announced-open : {x : Connection} → a ≡ announceOpen r x frames length → p ≡ Open x
+    pub announced-done : {t : Receiver} {x : Delivery} → a ≡ announceIdle t frames length → t ≡ r → p ≡ Done x
         → a ≡ hearAnnouncement r p frames length
     unfolding hearAnnouncement
-    announced-open e k = rw k e
+    announced-done e same k = rw k (e ∙ ap (λ (t : Receiver). announceIdle t frames length) same)
+
+    pub announced-open : {t : Receiver} {x : Connection} → a ≡ announceOpen t x frames length → t ≡ r → p ≡ Open x
+        → a ≡ hearAnnouncement r p frames length
+    unfolding hearAnnouncement
+    announced-open {x} e same k = rw k (e ∙ ap (λ (t : Receiver). announceOpen t x frames length) same)
 
 pub ruleset announces = (
   idle-opens,
@@ -145,6 +155,7 @@ pub ruleset announces = (
   announced-idle,
   announced-done,
   announced-open,
+  same-receiver,
 )
 
 -- ---- storing
@@ -239,10 +250,11 @@ module _ (r : Receiver) (number : ℕ) (bytes buffer : List ℕ) {p : Phase} whe
   unfolding hearInformation
   information-done e k = rw k (cc)
 
-  pub information-open : {h : Heard} {x : Connection} → h ≡ informationOpen r x number bytes buffer → p ≡ Open x
+  pub information-open : {h : Heard} {t : Receiver} {x : Connection} → h ≡ informationOpen t x number bytes buffer
+      → t ≡ r → p ≡ Open x
       → h ≡ hearInformation r p number bytes buffer
   unfolding hearInformation
-  information-open e k = rw k e
+  information-open {x} e same k = rw k (e ∙ ap (λ (t : Receiver). informationOpen t x number bytes buffer) same)
 
 pub ruleset informs = (
   information-above,
@@ -253,6 +265,7 @@ pub ruleset informs = (
   information-idle,
   information-done,
   information-open,
+  same-receiver,
 )
 
 -- ---- a hearing

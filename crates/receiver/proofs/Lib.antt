@@ -2,3 +2,4 @@ pub mod View
 pub mod Laws
 pub mod Told
 pub mod Reachable
+pub mod Refusals

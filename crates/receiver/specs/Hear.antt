@@ -1,4 +1,4 @@
--- Document 01, The receiver: what it does at each frame heard.
+-- What the receiver does at each frame heard. Places are items of document 01, The receiver, unless another part is named.
 use Prim.Native.Nat.{ℕ, _+_, _-_, _*_, min}
 use mathlib.Core.Bool.{Bool, _&&_}
 use mathlib.Core.List.{List}
@@ -23,37 +23,39 @@ use Rattle.receiver.specs.declared.Receiver.{Receiver}
 
 -- ---- frame 0
 
--- "L is 9 to 1785 and N fits it"
+-- "Frame 0, Idle", its first condition: the length is one of a long message, and the number of frames is that of this length
 abbrev pub announcesWell : ℕ → ℕ → Bool
 announcesWell frames length = within 9 length 1785 && eqb frames (frameCountOf length)
 
--- "Else Open, e = 1, w the smaller of C and N, wait and misses 0, emits LM_ACK 1, w; the last delivery is forgotten."
+-- "Frame 0, Idle", where nothing speaks against it: a new connection, whose first window has as many frames as C and N both
+-- allow, and the LM_ACK that asks for it. It takes the place of the delivery that was remembered.
 abbrev pub opening : Receiver → ℕ → ℕ → Told
 opening r frames length =
     let last = windowOf (r .settings) 1 frames in
     emitting (inPhase r (Open (opened frames length last))) (lmAckOf 1 last)
 
--- "Frame 0, Idle: unless L is 9 to 1785 and N fits it, NACK 5; then if L > K, NACK 1; both change nothing."
+-- "Frame 0, Idle": a bad announcement draws NACK 5, a good one that is over the capacity NACK 1; neither changes the state
 unfoldable pub announceIdle : Receiver → ℕ → ℕ → Told
 announceIdle r frames length =
     pick (announcesWell frames length)
     (pick (leb length (r .settings .capacity)) (opening r frames length) (emitting r (lmNackOf 1)))
     (emitting r (lmNackOf 5))
 
--- "with the same N and L and e = 1"
+-- "Frame 0, Open", its condition: the announcement of this connection, and no frame of it has been taken
 abbrev pub announcedAgain : Connection → ℕ → ℕ → Bool
 announcedAgain x frames length =
     eqb frames (x .frames) && eqb length (x .length) && eqb (x .expected) 1
 
--- "LM_ACK 1, w again, nothing else"
+-- the answer to that: the first window is asked for once more, and the connection stays as it is
 abbrev pub openingAgain : Receiver → Connection → Told
 openingAgain r x = emitting r (lmAckOf 1 (x .last))
 
--- "Frame 0, Open: with the same N and L and e = 1, LM_ACK 1, w again, nothing else; otherwise ignored."
+-- "Frame 0, Open": that announcement is answered, every other is ignored, a malformed one too
 unfoldable pub announceOpen : Receiver → Connection → ℕ → ℕ → Told
 announceOpen r x frames length =
     pick (announcedAgain x frames length) (openingAgain r x) (silently r)
 
+-- frame 0 by the state; both kinds of Idle do the same
 unfoldable pub hearAnnouncement : Receiver → Phase → ℕ → ℕ → Told
 hearAnnouncement r Idle frames length = announceIdle r frames length
 hearAnnouncement r (Done x) frames length = announceIdle r frames length
@@ -61,21 +63,21 @@ hearAnnouncement r (Open x) frames length = announceOpen r x frames length
 
 -- ---- frame i from 1
 
--- "At N: EndofACK, delivered L, Idle."
+-- "At N": the message is whole and delivered, EndofACK says so, and N and L are remembered
 abbrev pub ending : Receiver → Connection → Told
 ending r x =
     let delivery : Delivery = record { frames = x .frames; length = x .length } in
     delivering (inPhase r (Done delivery)) (endOfAckOf (x .frames) (x .length)) (x .length)
 
--- "wait and misses 0", "At w: e grows by 1, w is the smaller of e + C − 1 and N, LM_ACK e, w − e + 1."
+-- "At w": the next window is asked for from the next frame on; an accepted frame clears misses, and asking clears wait
 abbrev pub askingNext : Receiver → Connection → Told
 askingNext r x = asking r x (x .expected + 1) 0
 
--- "wait and misses 0", "Else e grows by 1."
+-- "Else": the next frame of the window is expected; an accepted frame clears wait and misses
 abbrev pub expectingNext : Receiver → Connection → Told
 expectingNext r x = silently (inPhase r (Open (moved x (x .expected + 1) (x .last) 0 0)))
 
--- what follows once frame i = e is in the buffer: at N, at w, else
+-- what follows once the frame expected is in the buffer: the message's last, the window's last, or another
 unfoldable pub stored : Receiver → Connection → Told
 stored r x =
     pick (eqb (x .expected) (x .frames)) (ending r x)
@@ -85,26 +87,28 @@ stored r x =
 abbrev pub carried : ℕ → ℕ → ℕ
 carried number length = min 7 (length - 7 * (number - 1))
 
--- "its message bytes go to that part of the buffer, from place 7(i−1) on, the rest stays"
+-- where they go: frame i starts at place 7(i − 1) of the buffer; what stands before and after them is left alone
 unfoldable pub storing : List ℕ → ℕ → ℕ → List ℕ → List ℕ
 storing buffer number length bytes =
     paste buffer (7 * (number - 1)) bytes (carried number length)
 
--- "Frame i, Open: i > N emits NACK 4, closes, failed. i other than e is ignored. i = e:" stored
+-- "Frame i, Open": a number that the message does not have fails the connection with NACK 4; the frame expected is stored;
+-- any other is ignored
 unfoldable pub informationOpen : Receiver → Connection → ℕ → List ℕ → List ℕ → Heard
 informationOpen r x number bytes buffer =
     pick (ltb (x .frames) number) (heard (failingWith r 4) buffer)
     (pick (eqb number (x .expected)) (heard (stored r x) (storing buffer number (x .length) bytes))
     (heard (silently r) buffer))
 
--- "EndofACK" once more
+-- what was delivered is acknowledged once more
 abbrev pub endingAgain : Receiver → Delivery → Told
 endingAgain r x = emitting r (endOfAckOf (x .frames) (x .length))
 
--- "Frame i from 1, Idle: EndofACK if i is the last delivered N, else ignored."
+-- "Frame i from 1, Idle", with a delivery remembered: its last frame draws EndofACK, any other is ignored
 unfoldable pub informationDone : Receiver → Delivery → ℕ → Told
 informationDone r x number = pick (eqb number (x .frames)) (endingAgain r x) (silently r)
 
+-- a frame from number 1 on by the state; where no delivery is remembered it is ignored
 unfoldable pub hearInformation : Receiver → Phase → ℕ → List ℕ → List ℕ → Heard
 hearInformation r Idle number bytes buffer = heard (silently r) buffer
 hearInformation r (Done x) number bytes buffer = heard (informationDone r x number) buffer
@@ -112,21 +116,21 @@ hearInformation r (Open x) number bytes buffer = informationOpen r x number byte
 
 -- ---- every frame
 
--- "LM_NACK, Open: closed, failed 1."; "Tick or LM_NACK, Idle: nothing."
+-- "LM_NACK, Open": the connection fails with cause 1; "Tick or LM_NACK, Idle": it is ignored
 unfoldable pub hearNack : Receiver → Phase → Told
 hearNack r Idle = silently r
 hearNack r (Done x) = silently r
 hearNack r (Open x) = failing r 1
 
--- kind 1: number 0 announces N and L; a number from 1 carries bytes d1 to d7
+-- Frames, kind 1: number 0 announces N and L, a number from 1 on carries message bytes in d1 to d7
 unfoldable pub hearNumbered : Receiver → Frame → Parsed → List ℕ → Heard
 hearNumbered r f parsed buffer =
     pick (eqb (parsed .number) 0)
     (heard (hearAnnouncement r (r .phase) (byteOf f 1) (wordAt f 2 3)) buffer)
     (hearInformation r (r .phase) (parsed .number) (drop 1 (f .bytes)) buffer)
 
--- by the kind that was read: "SM_RM: SM_ACK and a short delivery of its eight bytes; SM_URM: a delivery only. State and
--- buffer stay."; refusals: "7 kind for the other end (.. receiver 1, 3, 5, 7)"
+-- by the kind that was read. "SM_RM": its bytes are a short delivery, and it is acknowledged by its first; SM_URM is
+-- delivered and not acknowledged; neither touches state or buffer. Refusals, hearing: 7 for the sender's kinds.
 unfoldable pub hearKind : Receiver → Frame → Parsed → List ℕ → Heard
 hearKind r f parsed buffer =
     pick (eqb (parsed .kind) 1) (hearNumbered r f parsed buffer)
@@ -135,12 +139,12 @@ hearKind r f parsed buffer =
     (pick (eqb (parsed .kind) 7) (heard (shortOnly r (f .bytes)) buffer)
     (heard (refusing r 7) buffer))))
 
--- refusals: 6 goes before 7
+-- Refusals, hearing: what cannot be read is refused 6, before its kind is looked at
 unfoldable pub hearRead : Receiver → Frame → List ℕ → Result Parsed → Heard
 hearRead r f buffer (accepted parsed) = hearKind r f parsed buffer
 hearRead r f buffer (refused number) = heard (refusing r number) buffer
 
--- "Every hearing is lent a buffer of 1785 bytes."; refusals: "5 buffer not 1785 (receiver)" goes before 6
+-- Refusals, hearing: 5, before all else, where the buffer lent is not one of 1785 bytes
 unfoldable pub hearOf : Receiver → Frame → List ℕ → Heard
 hearOf r f buffer =
     pick (eqb (length buffer) 1785) (hearRead r f buffer (readOf f)) (heard (refusing r 5) buffer)

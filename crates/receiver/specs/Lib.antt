@@ -5,3 +5,4 @@ pub mod Make
 pub mod Tick
 pub mod Hear
 pub mod Reachable
+pub mod Refusals

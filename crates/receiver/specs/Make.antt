@@ -7,7 +7,7 @@ use Rattle.frame.specs.Result.{Result, accepted, refused}
 use Rattle.receiver.specs.declared.Phase.the-variants.{Idle}
 use Rattle.receiver.specs.declared.Receiver.{Receiver}
 
--- the receiver: "Settings: T as above (its own), window C 1 to 255, capacity K 9 to 1785."
+-- The receiver, "Settings": limits of its own timeout T, of the frames in a window, C, and of the bytes it can hold, K
 abbrev pub settingsFit : ℕ → ℕ → ℕ → Bool
 settingsFit timeout window capacity =
     within 1 timeout 10000 && (within 1 window 255 && within 9 capacity 1785)
@@ -20,7 +20,7 @@ idleWith timeout window capacity =
       phase = Idle;
     }
 
--- refusals: "making an end: 1 setting"
+-- Refusals, making an end: 1 where a setting is outside its limits
 unfoldable pub makeOf : ℕ → ℕ → ℕ → Result Receiver
 makeOf timeout window capacity =
     pick (settingsFit timeout window capacity) (accepted (idleWith timeout window capacity)) (refused 1)

@@ -24,7 +24,7 @@ pub data Reachable : Receiver → Type 0 where
   ticked : {r : Receiver} → Reachable r → Reachable (tickOf r .next)
   hearing : {r : Receiver} → Reachable r → (f : Frame) (buffer : List ℕ) → Reachable (hearOf r f buffer .told .next)
 
--- "T 1 to 10000", "window C 1 to 255, capacity K 9 to 1785"
+-- The receiver, "Settings": the limits
 pub record SettingsWithin (s : Settings) : Type 0 where
   pub timeoutLow : 1 ≤ s .timeout
   pub timeoutHigh : s .timeout ≤ 10000

@@ -4,7 +4,7 @@ use Rattle.receiver.specs.declared.Connection.{Connection}
 use Rattle.receiver.specs.declared.Phase.{Phase}
 use Rattle.receiver.specs.declared.Receiver.{Receiver}
 
--- a connection just opened: "e = 1, .. wait and misses 0"
+-- a connection just opened: frame 1 is expected, and nothing has been waited for or missed
 abbrev pub opened : ℕ → ℕ → ℕ → Connection
 opened frames length last =
     record { frames = frames; length = length; expected = 1; last = last; wait = 0; misses = 0 }

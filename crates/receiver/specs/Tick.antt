@@ -1,4 +1,4 @@
--- Document 01, The receiver: Tick.
+-- Document 01, The receiver, "Tick, Open" and "Tick or LM_NACK, Idle".
 use lib.Dec.{leb}
 use Rattle.frame.specs.Choice.{pick}
 use Rattle.frame.specs.Count.{incrementOf}
@@ -10,25 +10,25 @@ use Rattle.receiver.specs.declared.Phase.{Phase}
 use Rattle.receiver.specs.declared.Phase.the-variants.{Idle, Done, Open}
 use Rattle.receiver.specs.declared.Receiver.{Receiver}
 
--- "wait grows by 1", and nothing else
+-- before T: a tick more has been waited, and nothing else changes
 abbrev pub waiting : Receiver → Connection → Told
 waiting r x =
     let waited = moved x (x .expected) (x .last) (incrementOf (x .wait)) (x .misses) in
     silently (inPhase r (Open waited))
 
--- "wait is 0 and misses grows by 1; .. w as above and LM_ACK e, w − e + 1"
+-- at T, before the third miss: a miss more, and the window from the expected frame on is asked for, which clears wait
 abbrev pub askingAgain : Receiver → Connection → Told
 askingAgain r x = asking r x (x .expected) (incrementOf (x .misses))
 
--- "Tick, Open: wait grows by 1. At T, .. misses grows by 1; the third emits NACK 2 and fails; before it" the window is
--- asked for again. A state that no calls make may be past T or the third miss; it does the same.
+-- the third miss fails the connection with NACK 2. A state that no calls make may be past T or the third miss; it does as
+-- one that is at it.
 unfoldable pub tickOpen : Receiver → Connection → Told
 tickOpen r x =
     pick (leb (r .settings .timeout) (incrementOf (x .wait)))
     (pick (leb 3 (incrementOf (x .misses))) (failingWith r 2) (askingAgain r x))
     (waiting r x)
 
--- "Tick or LM_NACK, Idle: nothing."
+-- by the state; where none is open a tick changes nothing
 unfoldable pub tickPhase : Receiver → Phase → Told
 tickPhase r Idle = silently r
 tickPhase r (Done x) = silently r

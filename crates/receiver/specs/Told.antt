@@ -1,4 +1,4 @@
--- What the receiver's calls answer, in document 01's words and numbers.
+-- What the receiver's calls answer, with the numbers that document 01 gives to refusals and causes.
 use Prim.Native.Nat.{ℕ}
 use mathlib.Core.Bool.{Bool, true, false}
 use mathlib.Core.List.{List, [], _∷_}
@@ -19,8 +19,8 @@ abbrev pub toldMade : made-enum.Made → result.Result Receiver
 toldMade (made-variants.End r) = result.accepted r
 toldMade (made-variants.Refused number) = result.refused number
 
--- what a call reports: nothing; "A refusal returns its number, no frame and no report"; "delivered L"; "failed" with its
--- cause; "a short delivery", whose eight bytes stand beside it
+-- what a call reports: nothing; that it was refused, by a number; a long delivery of so many bytes; a failure with its
+-- cause; a short delivery, whose eight bytes stand beside it
 pub data Outcome : Type 0 where
   quiet : Outcome
   refused : ℕ → Outcome
@@ -60,7 +60,7 @@ heard t buffer = record { told = t; buffer = buffer }
 abbrev pub noBytes : List ℕ
 noBytes = 0 ∷ 0 ∷ 0 ∷ 0 ∷ 0 ∷ 0 ∷ 0 ∷ 0 ∷ []
 
--- "A refusal returns its number, no frame and no report"; the state holds what it held
+-- Refusals, by place: the number alone; the state holds what it held
 abbrev pub refusing : Receiver → ℕ → Told
 refusing r number = record { next = r; emits = false; frame = blankOf; outcome = refused number; bytes = noBytes }
 
@@ -72,11 +72,12 @@ silently r = record { next = r; emits = false; frame = blankOf; outcome = quiet;
 abbrev pub emitting : Receiver → Frame → Told
 emitting r f = record { next = r; emits = true; frame = f; outcome = quiet; bytes = noBytes }
 
--- the next state, a frame and "delivered L"
+-- the next state, a frame and a delivery of so many bytes
 abbrev pub delivering : Receiver → Frame → ℕ → Told
 delivering r f length = record { next = r; emits = true; frame = f; outcome = delivered length; bytes = noBytes }
 
--- "A failure that emits a NACK reports that NACK's cause"; "A failure forgets the last delivery": Idle with none
+-- Frames, the causes: a failure and the NACK that it emits have one cause. The receiver, "A failure forgets": it ends in
+-- Idle with no delivery to remember.
 abbrev pub failingWith : Receiver → ℕ → Told
 failingWith r cause =
     record { next = inPhase r Idle; emits = true; frame = lmNackOf cause; outcome = failed cause; bytes = noBytes }
@@ -86,7 +87,7 @@ abbrev pub failing : Receiver → ℕ → Told
 failing r cause =
     record { next = inPhase r Idle; emits = false; frame = blankOf; outcome = failed cause; bytes = noBytes }
 
--- "a short delivery of its eight bytes", with a frame and without; "State and buffer stay."
+-- The receiver, "SM_RM": a short delivery, with a frame and without; the state is as it was
 abbrev pub shortWith : Receiver → Frame → List ℕ → Told
 shortWith r f bytes = record { next = r; emits = true; frame = f; outcome = short; bytes = bytes }
 

@@ -9,15 +9,15 @@ use Rattle.receiver.specs.declared.Phase.the-variants.{Open}
 use Rattle.receiver.specs.declared.Receiver.{Receiver}
 use Rattle.receiver.specs.declared.Settings.{Settings}
 
--- "w is the smaller of e + C − 1 and N"
+-- The receiver, "At w": the last frame of the window from e on, which has C frames or those up to N
 unfoldable pub windowOf : Settings → ℕ → ℕ → ℕ
 windowOf s expected frames = min (expected + s .window - 1) frames
 
--- "LM_ACK e, w − e + 1"
+-- the LM_ACK that asks for the frames from e to w: the first and how many
 abbrev pub windowAck : ℕ → ℕ → Frame
 windowAck expected last = lmAckOf expected (last - (expected - 1))
 
--- "w is the smaller of e + C − 1 and N, LM_ACK e, w − e + 1", wait 0 and so many misses: the window from e on is asked for
+-- the window from e on is asked for: its end is stored, the wait starts again, and so many misses stand
 abbrev pub asking : Receiver → Connection → ℕ → ℕ → Told
 asking r x expected misses =
     let last = windowOf (r .settings) expected (x .frames) in

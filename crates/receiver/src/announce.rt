@@ -19,7 +19,7 @@ use frame::build::lm_nack;
 use frame::count::frame_count;
 use frame::count::within;
 
-// L is 9 to 1785 and N fits it.
+// The length is one of a long message, and the number of frames is that of this length.
 fn announces_well(frames: u8, length: u16) -> bool
     ensures { λ r. ⌜ r ≡ announcesWell frames length ⌝ }
 {

@@ -1,0 +1,82 @@
+-- A refused call of the receiver changes nothing. By the view of its calls: one case of a hearing is a refusal, and it
+-- answers the receiver and the buffer as they were; the outcome of every other case is none.
+-- Assumes nothing.
+use Prim.Native.Nat.{ℕ}
+use mathlib.Core.Path.{_≡_, refl, sym, ap, subst}
+use mathlib.Core.List.{List}
+use Rattle.frame.proofs.Choice.{pick-elim}
+use Rattle.frame.specs.Result as result
+use Rattle.frame.specs.declared.Frame.{Frame}
+use Rattle.receiver.proofs.View.{receiverIn, Ticks, rests, waits, retries, expires, tick-does, Announced, nacks, opens, again, Informed, ended, above, delivers, asks, goes-on, Hears, refuses, ignores, announced, informed, closes, short, short-only, hear-does}
+use Rattle.receiver.specs.Make.{makeOf}
+use Rattle.receiver.specs.Refusals.{Unchanged, Refusals}
+use Rattle.receiver.specs.Told as told
+use Rattle.receiver.specs.declared.Phase.{Phase}
+use Rattle.receiver.specs.declared.Receiver.{Receiver}
+use Rattle.receiver.specs.declared.Settings.{Settings}
+
+-- the outcome is no refusal
+abbrev Taken : told.Outcome → Type 0
+Taken told.quiet = Unit
+Taken (told.refused number) = ⊥
+Taken (told.delivered length) = Unit
+Taken (told.failed cause) = Unit
+Taken told.short = Unit
+
+not-refused : {o : told.Outcome} {number : ℕ} → Taken o → o ≡ told.refused number → ⊥
+not-refused taken e = subst Taken e taken
+
+-- ---- making
+
+abbrev Made : result.Result Receiver → Type 0
+Made (result.accepted r) = Unit
+Made (result.refused number) = ⊥
+
+make-numbered : (timeout window capacity number : ℕ) → makeOf timeout window capacity ≡ result.refused number → number ≡ 1
+unfolding makeOf
+make-numbered timeout window capacity number =
+    let P : result.Result Receiver → Type 0 = λ m. m ≡ result.refused number → number ≡ 1 in
+    pick-elim P _ (λ fit. λ e. absurd (subst Made e tt)) (λ over. λ e. sym (ap result.refusalOf e))
+
+-- ---- a tick
+
+tick-taken : {s : Settings} {p : Phase} {t : told.Told} → Ticks s p t → Taken (t .outcome)
+tick-taken (rests _) = tt
+tick-taken (waits _) = tt
+tick-taken (retries _ _) = tt
+tick-taken expires = tt
+
+-- ---- a hearing
+
+module _ {s : Settings} {buffer : List ℕ} where
+  announced-taken : {frames l : ℕ} {p : Phase} {h : told.Heard} → Announced s frames l buffer p h → Taken (h .told .outcome)
+  announced-taken (nacks _ _) = tt
+  announced-taken (opens _ _ _ _ _) = tt
+  announced-taken again = tt
+
+  informed-taken : {number : ℕ} {bytes : List ℕ} {p : Phase} {h : told.Heard} → Informed s number bytes buffer p h
+      → Taken (h .told .outcome)
+  informed-taken (ended _) = tt
+  informed-taken (above _) = tt
+  informed-taken (delivers _ _) = tt
+  informed-taken (asks _ _ _) = tt
+  informed-taken (goes-on _ _ _) = tt
+
+  unchanged : {f : Frame} {p : Phase} {h : told.Heard} {number : ℕ} → Hears s f buffer p h
+      → h .told .outcome ≡ told.refused number
+      → Unchanged (receiverIn s p) buffer h
+  unchanged (refuses _) e = record { receiver = refl; lent = refl; emits = refl; frame = refl; bytes = refl }
+  unchanged ignores e = absurd (not-refused tt e)
+  unchanged (announced _ _ a) e = absurd (not-refused (announced-taken a) e)
+  unchanged (informed _ _ _ i) e = absurd (not-refused (informed-taken i) e)
+  unchanged (closes _) e = absurd (not-refused tt e)
+  unchanged (short _) e = absurd (not-refused tt e)
+  unchanged (short-only _) e = absurd (not-refused tt e)
+
+pub refusals : Refusals
+refusals =
+    record {
+      make = make-numbered;
+      tick = λ r number e. not-refused (tick-taken (tick-does r)) e;
+      hear = λ r f buffer number e. unchanged (hear-does r f buffer) e;
+    }

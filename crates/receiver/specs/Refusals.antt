@@ -1,0 +1,33 @@
+-- Document 01, Refusals, by place, and The line ("A refused call stands"): a refusal is a number, and nothing else comes of
+-- it. Said here of every call of the receiver and apart from the definitions that answer refusals; `proofs/Refusals.antt`
+-- proves it.
+use Prim.Native.Nat.{ℕ}
+use mathlib.Core.Path.{_≡_}
+use mathlib.Core.Bool.{false}
+use mathlib.Core.List.{List}
+use Rattle.frame.specs.Frames.{blankOf}
+use Rattle.frame.specs.Result as result
+use Rattle.frame.specs.declared.Frame.{Frame}
+use Rattle.receiver.specs.Hear.{hearOf}
+use Rattle.receiver.specs.Make.{makeOf}
+use Rattle.receiver.specs.Tick.{tickOf}
+use Rattle.receiver.specs.Told.{refused, Heard, noBytes}
+use Rattle.receiver.specs.declared.Receiver.{Receiver}
+
+-- what a hearing answers leaves the receiver and the lent buffer as they were, emits no frame (the blank one stands there)
+-- and delivers no bytes (zeros stand there)
+pub record Unchanged (r : Receiver) (buffer : List ℕ) (h : Heard) : Type 0 where
+  pub receiver : h .told .next ≡ r
+  pub lent : h .buffer ≡ buffer
+  pub emits : h .told .emits ≡ false
+  pub frame : h .told .frame ≡ blankOf
+  pub bytes : h .told .bytes ≡ noBytes
+
+pub record Refusals : Type 0 where
+  -- making: refused, it answers no receiver, and the number is 1
+  pub make : (timeout window capacity number : ℕ) → makeOf timeout window capacity ≡ result.refused number → number ≡ 1
+  -- no tick of a receiver is refused
+  pub tick : (r : Receiver) (number : ℕ) → tickOf r .outcome ≡ refused number → ⊥
+  -- a hearing, by whatever number it is refused, of any frame, lent anything, in any state
+  pub hear : (r : Receiver) (f : Frame) (buffer : List ℕ) (number : ℕ) → hearOf r f buffer .told .outcome ≡ refused number
+      → Unchanged r buffer (hearOf r f buffer)
