@@ -108,11 +108,12 @@ pub data Halfway (m : List ℕ) : receiver-phase.Phase → List ℕ → Type 0 w
       → Halfway m (at.Open x) buffer
   stray : {x : Connection} {buffer : List ℕ} → Other m (x .frames) (x .length) → x .length ≤ 1785 → Halfway m (at.Open x) buffer
 
--- early: the receiver is still at an earlier transfer, and hears announcements only, which it ignores. fresh: it has not
--- opened since the begin. asked: it has, and the sender has not taken it up. going: the sender has; every announcement stands
--- before every information frame, so that none follows the last frame. there: m has been delivered, and no announcement is
--- left to open again. lost: frames of m have ended an earlier transfer of another N or L, and no announcement is left, so
--- that m is never acknowledged.
+-- early: the receiver is still at an earlier transfer, past its first frame, and hears announcements only, which it ignores.
+-- fresh: it is shut and has not opened since the begin. asked: it has opened for m, or stands at the first frame of an earlier
+-- transfer, and the sender has not taken up its LM_ACK. going: the sender has; every announcement stands before every
+-- information frame, so that none follows the last frame. there: m has been delivered, and no announcement is left to open
+-- again. lost: frames of m have ended an earlier transfer of another N or L, and no announcement is left, so that m is never
+-- acknowledged.
 pub data Stage (m : List ℕ) : Bool → receiver-phase.Phase → (forward back : List Frame) → List ℕ → List (List ℕ) → Type 0 where
   early : {p : receiver-phase.Phase} {forward back : List Frame} {buffer : List ℕ}
       → Early p

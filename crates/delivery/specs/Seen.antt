@@ -10,7 +10,7 @@ use Rattle.frame.specs.Frames.{byteOf}
 use Rattle.frame.specs.declared.Frame.{Frame}
 use Rattle.receiver.specs.Told as receiver
 use Rattle.sender.specs.Told as sender
-use Rattle.transport.specs.Step.{wasRefused}
+use Rattle.transport.specs.Step.{senderRefused, wasRefused}
 use Rattle.transport.specs.World.{Call, Given, nobody, toSender, toReceiver, Event}
 use Rattle.transport.specs.World.{begin, senderTick, receiverTick}
 use Rattle.transport.specs.World.{hearForward, repeatForward, loseForward, hearBack, repeatBack, loseBack}
@@ -38,10 +38,7 @@ sortOf loseBack = other
 
 -- a begin or a tick of the sender counts unless it was refused
 abbrev pub taken : sender.Outcome → Bool
-taken sender.quiet = true
-taken (sender.refused number) = false
-taken (sender.sent ticks frames) = true
-taken (sender.failed cause ticks frames) = true
+taken o = not (senderRefused o)
 
 -- one where the test passes, else none
 abbrev pub one : Bool → ℕ

@@ -27,8 +27,8 @@ use Rattle.sender.specs.declared.Sender.{Sender}
 use Rattle.transport.proofs.Forms.{Forms, begin-tells, tick-tells, hear-tells}
 use Rattle.transport.specs.Answer.{worldOf, lentOf}
 use Rattle.transport.specs.Capped.{capped, cappedStep, atLine}
-use Rattle.transport.specs.Demand1.{senderRefused, isRefusal, leftBy, lentBy, refusedStep, Demand1}
-use Rattle.transport.specs.Step.{Stepped, bySender, byReceiver, wasRefused, Rest, gone, still, leaving, dropped, givenForward, givenBack, unheard, stepOf, withLines}
+use Rattle.transport.specs.Demand1.{isRefusal, leftBy, lentBy, refusedStep, Demand1}
+use Rattle.transport.specs.Step.{Stepped, senderRefused, bySender, byReceiver, wasRefused, Rest, gone, still, leaving, dropped, givenForward, givenBack, unheard, stepOf, withLines}
 use Rattle.transport.specs.World.{World, Call, begin, senderTick, receiverTick, hearForward, repeatForward, loseForward, hearBack, repeatBack, loseBack, Given, nobody, toSender, toReceiver, Event}
 
 -- ---- what an end tells

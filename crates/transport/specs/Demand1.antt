@@ -6,21 +6,13 @@ use mathlib.Core.List.{List, []}
 use mathlib.Core.Path.{_≡_}
 use Rattle.frame.specs.Frames.{blankOf}
 use Rattle.receiver.specs.Told as receiver
-use Rattle.sender.specs.Told as sender
 use Rattle.transport.specs.Answer.{worldOf, quietly, lentOf}
 use Rattle.transport.specs.Capped.{cappedStep}
-use Rattle.transport.specs.Step.{Stepped, withLines, wasRefused, dropped}
+use Rattle.transport.specs.Step.{Stepped, withLines, senderRefused, wasRefused, dropped}
 use Rattle.transport.specs.World.{World, Call, Event}
 use Rattle.transport.specs.World.{begin, senderTick, receiverTick}
 use Rattle.transport.specs.World.{hearForward, repeatForward, loseForward, hearBack, repeatBack, loseBack}
 use Rattle.transport.specs.declared.Ends.{Ends}
-
--- whether the sender's call was refused
-abbrev pub senderRefused : sender.Outcome → Bool
-senderRefused sender.quiet = false
-senderRefused (sender.refused number) = true
-senderRefused (sender.sent ticks frames) = false
-senderRefused (sender.failed cause ticks frames) = false
 
 -- whether the called end refused
 abbrev pub isRefusal : Event → Bool
