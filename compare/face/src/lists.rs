@@ -117,7 +117,7 @@ pub fn three(version: u32) -> [u8; 3] {
 }
 
 /// A message with a version of the list or another, seldom one that cannot be read.
-pub fn message(random: &mut Random, versions: &FlatVersions) -> FlatBytes {
+pub fn message(random: &mut Random, versions: &FlatVersions) -> FlatVersionBytes {
     let version = match random.weighted(&[60, 30, 10]) {
         0 => versions.numbers[random.between(0, standing(versions).len().max(1) - 1)],
         1 => random.pick(&VERSIONS),
@@ -133,7 +133,7 @@ pub fn message(random: &mut Random, versions: &FlatVersions) -> FlatBytes {
         false => random.pick(&[3, 4, 128, 255]),
     };
     let [control, transport, reserved] = random_bytes(random);
-    FlatBytes {
+    FlatVersionBytes {
         bytes: [
             can, result, main, minor, temporary, control, transport, reserved,
         ],

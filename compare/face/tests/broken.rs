@@ -7,7 +7,7 @@ use face::broken::{mistakes, Broken, Mistake};
 use face::call::{Call, Pair, NAMES};
 use face::differences::{first_difference, Case, Difference};
 use face::sessions;
-use face::values::{FlatFrame, FlatSender, SenderAnswer};
+use face::values::{FlatFrame, FlatSender, FlatSenderAnswer};
 use face::Reference;
 
 /// Calls within which every mistake is found.
@@ -56,7 +56,7 @@ fn every_outcome_comes() {
     assert_eq!(outcomes("talker_greet"), [yes, no, no, yes, no]);
     for name in [
         "identifier_join",
-        "identifier_part",
+        "identifier_split",
         "version_list",
         "version_message_read",
     ] {
@@ -87,7 +87,7 @@ fn every_mistake_is_caught() {
 /// Transfers that were sent in sessions: all of them, the long ones, and those of 1785 bytes.
 static SENT: [AtomicU64; 3] = [const { AtomicU64::new(0) }; 3];
 
-fn count(sender: FlatSender, _: FlatFrame, answer: &mut SenderAnswer) {
+fn count(sender: FlatSender, _: FlatFrame, answer: &mut FlatSenderAnswer) {
     let lengths = [1, 9, 1785];
     for (least, sent) in lengths.into_iter().zip(&SENT) {
         if answer.outcome == 2 && sender.length >= least {
@@ -159,8 +159,8 @@ fn a_difference_is_told() {
         difference.seed
     )));
     assert!(text.contains("\ncall:      SenderBegin("));
-    assert!(text.contains("\nface:      Sender(SenderAnswer {"));
-    assert!(text.contains("\nreference: Sender(SenderAnswer {"));
+    assert!(text.contains("\nface:      Sender(FlatSenderAnswer {"));
+    assert!(text.contains("\nreference: Sender(FlatSenderAnswer {"));
     assert!(matches!(difference.mismatch.call, Call::SenderBegin(..)));
 
     let text = named("filler copied past L").to_string();

@@ -104,69 +104,69 @@ pub const MISTAKES: &[(&str, Mistake)] = &[
     ("78 is not reliable", Mistake::GroupFind(unreliable)),
 ];
 
-fn pf_ps_swapped(parts: FlatParts, joined: &mut FlatJoined) {
+fn pf_ps_swapped(parts: FlatIdentifierParts, joined: &mut FlatIdentifierJoining) {
     let (pf, ps) = (parts.ps, parts.pf);
-    *joined = Reference.identifier_join(FlatParts { pf, ps, ..parts });
+    *joined = Reference.identifier_join(FlatIdentifierParts { pf, ps, ..parts });
 }
 
-fn p_of_4_bits(parts: FlatParts, joined: &mut FlatJoined) {
+fn p_of_4_bits(parts: FlatIdentifierParts, joined: &mut FlatIdentifierJoining) {
     if parts.p == 8 {
-        *joined = Reference.identifier_join(FlatParts { p: 0, ..parts });
+        *joined = Reference.identifier_join(FlatIdentifierParts { p: 0, ..parts });
     }
 }
 
-fn parted_swapped(_: u32, parted: &mut FlatParted) {
+fn parted_swapped(_: u32, parted: &mut FlatIdentifierSplitting) {
     std::mem::swap(&mut parted.parts.pf, &mut parted.parts.ps);
 }
 
-fn dp_unjudged(identifier: u32, parted: &mut FlatParted) {
+fn dp_unjudged(identifier: u32, parted: &mut FlatIdentifierSplitting) {
     if identifier >> 24 & 1 == 1 {
-        *parted = Reference.identifier_part(identifier & !(1 << 24));
+        *parted = Reference.identifier_split(identifier & !(1 << 24));
     }
 }
 
-fn thirty_bits(identifier: u32, parted: &mut FlatParted) {
+fn thirty_bits(identifier: u32, parted: &mut FlatIdentifierSplitting) {
     if identifier >> 29 == 1 {
-        *parted = Reference.identifier_part(identifier & 0x1FFF_FFFF);
+        *parted = Reference.identifier_split(identifier & 0x1FFF_FFFF);
     }
 }
 
-fn nine(bytes: &[u8], listing: &mut FlatListing) {
+fn nine(bytes: &[u8], listing: &mut FlatVersionListing) {
     if bytes.len() == 27 {
         *listing = Reference.version_list(&bytes[..24]);
     }
 }
 
-fn equal(bytes: &[u8], listing: &mut FlatListing) {
+fn equal(bytes: &[u8], listing: &mut FlatVersionListing) {
     if bytes.len() == 6 && bytes[..3] == bytes[3..] {
         *listing = Reference.version_list(&bytes[..3]);
     }
 }
 
-fn counted_modulo(bytes: &[u8], listing: &mut FlatListing) {
+fn counted_modulo(bytes: &[u8], listing: &mut FlatVersionListing) {
     if bytes.len() > 768 {
         *listing = Reference.version_list(&bytes[..bytes.len() - 768]);
     }
 }
 
-fn failure_names(message: FlatMessage, bytes: &mut FlatBytes) {
+fn failure_names(message: FlatVersionMessage, bytes: &mut FlatVersionBytes) {
     if message.verdict == 2 {
         let [_, main, minor, temporary] = message.version.to_be_bytes();
         bytes.bytes[2..5].copy_from_slice(&[main, minor, temporary]);
     }
 }
 
-fn control_moved(_: FlatMessage, bytes: &mut FlatBytes) {
+fn control_moved(_: FlatVersionMessage, bytes: &mut FlatVersionBytes) {
     bytes.bytes.swap(5, 6);
 }
 
-fn result_3(bytes: FlatBytes, reading: &mut FlatMessageReading) {
+fn result_3(bytes: FlatVersionBytes, reading: &mut FlatVersionReading) {
     if bytes.bytes[1] == 3 {
         (reading.outcome, reading.refusal) = (0, 0);
     }
 }
 
-fn can_1(bytes: FlatBytes, reading: &mut FlatMessageReading) {
+fn can_1(bytes: FlatVersionBytes, reading: &mut FlatVersionReading) {
     let mut other = bytes;
     if bytes.bytes[0] == 1 {
         other.bytes[0] = 0;
@@ -182,81 +182,81 @@ fn at_low_byte(talker: &mut FlatTalker) {
     talker.place = (talker.versions.count % 256).saturating_sub(1);
 }
 
-fn connect_success(_: FlatTalker, a: &mut FlatAnswer) {
+fn connect_success(_: FlatTalker, a: &mut FlatTalkerAnswer) {
     if a.emits {
         (a.next.verdict, a.bytes[1]) = (1, 1);
     }
 }
 
-fn period_49(t: FlatTalker, a: &mut FlatAnswer) {
+fn period_49(t: FlatTalker, a: &mut FlatTalkerAnswer) {
     if t.state == 1 && t.period == 48 && a.outcome == 0 {
         *a = Reference.talker_tick(FlatTalker { period: 49, ..t });
     }
 }
 
-fn place_modulo(t: FlatTalker, a: &mut FlatAnswer) {
+fn place_modulo(t: FlatTalker, a: &mut FlatTalkerAnswer) {
     let place = t.place % 256;
     *a = Reference.talker_tick(FlatTalker { place, ..t });
     a.next.place = t.place;
 }
 
-fn period_first(t: FlatTalker, a: &mut FlatAnswer) {
+fn period_first(t: FlatTalker, a: &mut FlatTalkerAnswer) {
     if t.state == 1 && t.period == 49 && a.outcome == 3 {
         *a = Reference.talker_tick(FlatTalker { age: 0, ..t });
     }
 }
 
-fn limit_late(t: FlatTalker, a: &mut FlatAnswer) {
+fn limit_late(t: FlatTalker, a: &mut FlatTalkerAnswer) {
     if t.state == 1 && t.age == 14999 {
         *a = Reference.talker_tick(FlatTalker { age: 14998, ..t });
         a.next.age = 15000;
     }
 }
 
-fn s3_silent(t: FlatTalker, a: &mut FlatAnswer) {
+fn s3_silent(t: FlatTalker, a: &mut FlatTalkerAnswer) {
     if t.state == 3 {
         (a.emits, a.bytes) = (false, [0; 8]);
     }
 }
 
-fn two_in_s2(_: FlatTalker, _: FlatBytes, a: &mut FlatAnswer) {
+fn two_in_s2(_: FlatTalker, _: FlatVersionBytes, a: &mut FlatTalkerAnswer) {
     if a.version == 0x020000 {
         (a.next.state, a.next.timing) = (2, false);
     }
 }
 
-fn hearing_restarts(t: FlatTalker, _: FlatBytes, a: &mut FlatAnswer) {
+fn hearing_restarts(t: FlatTalker, _: FlatVersionBytes, a: &mut FlatTalkerAnswer) {
     if t.state == 1 && a.outcome == 0 {
         a.next.period = 0;
     }
 }
 
-fn not_resumed(t: FlatTalker, bytes: FlatBytes, a: &mut FlatAnswer) {
+fn not_resumed(t: FlatTalker, bytes: FlatVersionBytes, a: &mut FlatTalkerAnswer) {
     if t.state == 1 && t.verdict == 1 && bytes.bytes[1] == 1 && a.outcome == 0 {
         a.next.verdict = 1;
     }
 }
 
-fn none_lower(t: FlatTalker, bytes: FlatBytes, a: &mut FlatAnswer) {
+fn none_lower(t: FlatTalker, bytes: FlatVersionBytes, a: &mut FlatTalkerAnswer) {
     if bytes.bytes[1] == 0 && a.outcome == 3 {
         (a.next, a.emits, a.bytes, a.outcome) = (t, false, [0; 8], 0);
     }
 }
 
-fn stop_fails(_: FlatTalker, a: &mut FlatAnswer) {
+fn stop_fails(_: FlatTalker, a: &mut FlatTalkerAnswer) {
     if a.outcome == 4 {
         a.outcome = 3;
     }
 }
 
-fn charger_greeted(t: FlatTalker, a: &mut FlatAnswer) {
+fn charger_greeted(t: FlatTalker, a: &mut FlatTalkerAnswer) {
     if t.side == 0 {
         *a = Reference.talker_greet(FlatTalker { side: 1, ..t });
         a.next.side = 0;
     }
 }
 
-fn timers_kept(t: FlatTalker, a: &mut FlatAnswer) {
+fn timers_kept(t: FlatTalker, a: &mut FlatTalkerAnswer) {
     a.next = FlatTalker {
         timing: t.timing,
         period: a.next.period,
@@ -346,7 +346,7 @@ fn refused_writes(group: FlatGroup, bytes: &mut [u8], done: &mut FlatGroupWritin
     }
 }
 
-fn unreliable(code: u8, finding: &mut FlatFinding) {
+fn unreliable(code: u8, finding: &mut FlatGroupFinding) {
     if code == 0x78 {
         finding.row.reliable = false;
     }

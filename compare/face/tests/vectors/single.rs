@@ -21,7 +21,7 @@ pub fn answer(face: &impl Around, call: &str, words: &[&str]) -> String {
         "write" => write(face, words),
         "named" => {
             let [secc, evcc] = [face.charger_address(), face.vehicle_address()];
-            let [charger, vehicle] = [face.charger_version(), face.vehicle_version()];
+            let [charger, vehicle] = [face.charger_version_identifier(), face.vehicle_version_identifier()];
             format!(" {secc:X} {evcc:X} {charger:08X} {vehicle:08X}")
         }
         "join" => {
@@ -31,7 +31,7 @@ pub fn answer(face: &impl Around, call: &str, words: &[&str]) -> String {
         }
         "part" => {
             let [identifier] = hexadecimal(words);
-            let parted = face.identifier_part(identifier);
+            let parted = face.identifier_split(identifier);
             told(parted.outcome, parted.refusal, parted.parts, parts)
         }
         "list" => {
@@ -40,7 +40,7 @@ pub fn answer(face: &impl Around, call: &str, words: &[&str]) -> String {
         }
         "message" => {
             let bytes = eight(words);
-            let read = face.version_message_read(FlatBytes { bytes });
+            let read = face.version_message_read(FlatVersionBytes { bytes });
             told(read.outcome, read.refusal, read.message, message)
         }
         "say" => hex(&face.version_message_write(message_of(words)).bytes),
@@ -48,7 +48,7 @@ pub fn answer(face: &impl Around, call: &str, words: &[&str]) -> String {
     }
 }
 
-fn row(row: FlatRow) -> String {
+fn row(row: FlatGroupRow) -> String {
     let sender = ["charger", "vehicle"][usize::from(row.sender)];
     let reliable = if row.reliable { " reliable" } else { "" };
     let kinds = [row.first, row.second, row.third, row.fourth].map(|kind| format!(" {kind}"));
@@ -78,14 +78,14 @@ fn write(face: &impl Around, words: &[&str]) -> String {
     told(done.outcome, done.refusal, (), |()| " done".into()) + &hex(&lent)
 }
 
-fn parts(parts: FlatParts) -> String {
+fn parts(parts: FlatIdentifierParts) -> String {
     let parts = [parts.p, parts.edp, parts.dp, parts.pf, parts.ps, parts.sa];
     parts.map(|part| format!(" {part:X}")).concat()
 }
 
-fn parts_of(words: &[&str]) -> FlatParts {
+fn parts_of(words: &[&str]) -> FlatIdentifierParts {
     let [p, edp, dp, pf, ps, sa] = hexadecimal(words);
-    FlatParts {
+    FlatIdentifierParts {
         p,
         edp,
         dp,
@@ -95,7 +95,7 @@ fn parts_of(words: &[&str]) -> FlatParts {
     }
 }
 
-fn message(message: FlatMessage) -> String {
+fn message(message: FlatVersionMessage) -> String {
     let result = RESULTS[usize::from(message.verdict)];
     format!(
         " {result} {} {:02X}",
@@ -104,9 +104,9 @@ fn message(message: FlatMessage) -> String {
     )
 }
 
-fn message_of(words: &[&str]) -> FlatMessage {
+fn message_of(words: &[&str]) -> FlatVersionMessage {
     let verdict = RESULTS.iter().position(|&result| result == words[0]);
-    FlatMessage {
+    FlatVersionMessage {
         verdict: verdict.expect("a result") as u8,
         version: version_of(words[1]),
         control: byte(words[2]),

@@ -47,7 +47,7 @@ fn told_talker(talker: FlatTalker) -> String {
 }
 
 /// The talker after a call, its message, and its report.
-fn told_answer(answer: FlatAnswer) -> String {
+fn told_answer(answer: FlatTalkerAnswer) -> String {
     let message = match (answer.emits, answer.bytes) {
         (true, bytes) => format!(" says{}", hex(&bytes)),
         (false, [0, 0, 0, 0, 0, 0, 0, 0]) => String::new(),
@@ -133,14 +133,14 @@ impl<'a, F: Around> Talk<'a, F> {
             "stop" => self.face.talker_stop(talker),
             "greet" => self.face.talker_greet(talker),
             "functions" => self.face.talker_functions_heard(talker),
-            "hear" => self.face.talker_hear(talker, FlatBytes { bytes }),
+            "hear" => self.face.talker_hear(talker, FlatVersionBytes { bytes }),
             _ => panic!("no such call: {name}"),
         };
         self.take(place, answer);
         told_answer(answer)
     }
 
-    fn take(&mut self, place: usize, answer: FlatAnswer) {
+    fn take(&mut self, place: usize, answer: FlatTalkerAnswer) {
         let side = &mut self.sides[place];
         side.talker = answer.next;
         if answer.emits {
