@@ -34,6 +34,16 @@ impl Outcome {
             Outcome::Failure => 2,
         }
     }
+
+    /// The result of this number; above 2 there is none, refusal 10 in a message read or written.
+    pub fn of(number: u8) -> Result<Outcome, Refused> {
+        match number {
+            0 => Ok(Outcome::Continue),
+            1 => Ok(Outcome::Success),
+            2 => Ok(Outcome::Failure),
+            _ => Err(refusal::VALUE),
+        }
+    }
 }
 
 /// The judged fields of a message of table 6 or 7.
@@ -49,14 +59,8 @@ pub fn read(bytes: [u8; 8]) -> Result<Message, Refused> {
     if bytes[0] != 0 {
         return Err(refusal::VALUE);
     }
-    let outcome = match bytes[1] {
-        0 => Outcome::Continue,
-        1 => Outcome::Success,
-        2 => Outcome::Failure,
-        _ => return Err(refusal::VALUE),
-    };
     Ok(Message {
-        outcome,
+        outcome: Outcome::of(bytes[1])?,
         version: [bytes[2], bytes[3], bytes[4]],
     })
 }
@@ -86,6 +90,25 @@ pub fn check_list(versions: &[Version]) -> Result<(), Refused> {
         return Err(refusal::VERSIONS);
     }
     Ok(())
+}
+
+/// The versions of a list kept as a count and eight places, each a number: main, minor and temporary
+/// are its lowest three bytes, main the highest of them. A count over 8 or a number that takes more
+/// than three bytes is refused 11 as well. The places past the count are not looked at.
+pub fn listed(count: u32, places: [u32; 8]) -> Result<Vec<Version>, Refused> {
+    let standing = usize::try_from(count)
+        .ok()
+        .and_then(|count| places.get(..count));
+    let versions = standing
+        .ok_or(refusal::VERSIONS)?
+        .iter()
+        .map(|number| match number.to_be_bytes() {
+            [0, main, minor, temporary] => Ok([main, minor, temporary]),
+            _ => Err(refusal::VERSIONS),
+        })
+        .collect::<Result<Vec<Version>, Refused>>()?;
+    check_list(&versions)?;
+    Ok(versions)
 }
 
 /// Whose table: 8 for the charger (SECC), 9 for the vehicle (EVCC).
@@ -134,7 +157,7 @@ pub struct Talker {
 }
 
 impl Talker {
-    /// Refusal 11 for a bad list.
+    /// Refusal 11 unless the versions are 1 to 8 strictly rising ones.
     pub fn make(side: Side, versions: &[Version], pilot: u8) -> Result<Talker, Refused> {
         check_list(versions)?;
         Ok(Talker {
@@ -148,6 +171,16 @@ impl Talker {
             limit: 0,
             timers: false,
         })
+    }
+
+    /// `make` of a list kept as a count and eight places; refusal 11 as `listed` has it.
+    pub fn make_listed(
+        side: Side,
+        count: u32,
+        places: [u32; 8],
+        pilot: u8,
+    ) -> Result<Talker, Refused> {
+        Talker::make(side, &listed(count, places)?, pilot)
     }
 
     /// Column 物理连接完成. S0: 发送 ... 继续协商 ... List(Ns), 打开 T1, Tout0 定时器, 进入 S1.

@@ -1,7 +1,7 @@
 //! Version talk: 001 tables 6 to 9 with the readings of "Around the transport".
 
 use compare::reference::version::{
-    build, check_list, read, Message, Outcome, Side, State, Talker, Version,
+    build, check_list, listed, read, Message, Outcome, Side, State, Talker, Version,
 };
 use compare::reference::Refused;
 
@@ -56,6 +56,70 @@ fn lists() {
         assert_eq!(check_list(bad), Err(Refused(11)));
         assert_eq!(Talker::make(Side::Charger, bad, 0), Err(Refused(11)));
         assert_eq!(Talker::make(Side::Vehicle, bad, 0), Err(Refused(11)));
+    }
+}
+
+/// A list as a count and eight places: refusal 11 by listing and by making alike.
+#[test]
+fn lists_in_eight_places() {
+    let places = [
+        0, 1, 256, 0x01_01_00, 0x02_00_00, 0x02_00_01, 0xFF_FF_FE, 0xFF_FF_FF,
+    ];
+    let all: [Version; 8] = [
+        [0, 0, 0],
+        [0, 0, 1],
+        [0, 1, 0],
+        [1, 1, 0],
+        [2, 0, 0],
+        [2, 0, 1],
+        [255, 255, 254],
+        [255, 255, 255],
+    ];
+    for count in 1..=8 {
+        let standing = &all[..count as usize];
+        assert_eq!(listed(count, places), Ok(standing.to_vec()));
+        for side in BOTH {
+            let made = Talker::make_listed(side, count, places, PILOT);
+            assert_eq!(made, Ok(talker(side, standing)));
+        }
+    }
+    // Past the count nothing is judged: falling, equal, no version.
+    let odd = [0x02_00_00, 0x02_00_00, 7, 0x01_00_00_00, u32::MAX, 0, 0, 0];
+    assert_eq!(listed(1, odd), Ok(vec![[2, 0, 0]]));
+    for (count, places) in [
+        (0, places),
+        (9, places),
+        (256 + 1, places),
+        (65536 + 1, places),
+        (u32::MAX, places),
+        (2, odd),
+        (3, [1, 3, 2, 4, 5, 6, 7, 8]),
+        (8, [1, 2, 3, 4, 5, 6, 7, 7]),
+        (1, [0x01_00_00_00; 8]),
+        (2, [1, 0x01_00_00_02, 0, 0, 0, 0, 0, 0]),
+        (1, [u32::MAX; 8]),
+    ] {
+        assert_eq!(listed(count, places), Err(Refused(11)));
+        for side in BOTH {
+            let made = Talker::make_listed(side, count, places, PILOT);
+            assert_eq!(made, Err(Refused(11)));
+        }
+    }
+}
+
+/// The three results and their numbers; a fourth is refused 10.
+#[test]
+fn results() {
+    for (number, outcome) in [
+        (0, Outcome::Continue),
+        (1, Outcome::Success),
+        (2, Outcome::Failure),
+    ] {
+        assert_eq!(Outcome::of(number), Ok(outcome));
+        assert_eq!(outcome.number(), number);
+    }
+    for number in 3..=255 {
+        assert_eq!(Outcome::of(number), Err(Refused(10)));
     }
 }
 
