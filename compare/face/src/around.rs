@@ -87,13 +87,16 @@ impl Around for Reference {
         }
     }
 
-    fn version_message_write(&self, message: FlatVersionMessage) -> FlatVersionBytes {
-        let said = Message {
-            outcome: verdict_of(message.verdict),
-            version: version_of(message.version),
-        };
-        let bytes = version::build(said, message.control);
-        FlatVersionBytes { bytes }
+    fn version_message_write(&self, message: FlatVersionMessage) -> FlatVersionWriting {
+        let written = Outcome::of(message.verdict).map(|outcome| {
+            let version = version_of(message.version);
+            let said = Message { outcome, version };
+            FlatVersionBytes {
+                bytes: version::build(said, message.control),
+            }
+        });
+        let (refusal, bytes) = told(written);
+        FlatVersionWriting { refusal, bytes }
     }
 
     fn version_message_read(&self, bytes: FlatVersionBytes) -> FlatVersionReading {

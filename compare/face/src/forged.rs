@@ -130,7 +130,7 @@ fn sender(random: &mut Random) -> FlatSender {
         wait: below(random, timeout),
         misses: random.between(0, 2) as u16,
         start: number(random),
-        next: number(random),
+        due: number(random),
         last: number(random),
         count: below(random, gap),
     }

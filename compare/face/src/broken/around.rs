@@ -9,11 +9,11 @@ pub const MISTAKES: &[(&str, Mistake)] = &[
     ("PF and PS swapped in joining", Mistake::Join(pf_ps_swapped)),
     ("P of four bits", Mistake::Join(p_of_4_bits)),
     (
-        "PF and PS swapped in parting",
-        Mistake::Part(parted_swapped),
+        "PF and PS swapped in splitting",
+        Mistake::Split(split_swapped),
     ),
-    ("DP is not judged", Mistake::Part(dp_unjudged)),
-    ("30 bits are taken", Mistake::Part(thirty_bits)),
+    ("DP is not judged", Mistake::Split(dp_unjudged)),
+    ("30 bits are taken", Mistake::Split(thirty_bits)),
     (
         "the addresses swapped",
         Mistake::Named(|[a, b, c, d]| [b, a, c, d]),
@@ -35,6 +35,11 @@ pub const MISTAKES: &[(&str, Mistake)] = &[
     (
         "the control byte in the transport's place",
         Mistake::MessageWrite(control_moved),
+    ),
+    ("result 3 is written", Mistake::MessageWrite(result_3_written)),
+    (
+        "result 2 is not written",
+        Mistake::MessageWrite(result_2_refused),
     ),
     ("result 3 is read", Mistake::MessageRead(result_3)),
     ("CAN type 1 is read", Mistake::MessageRead(can_1)),
@@ -115,19 +120,19 @@ fn p_of_4_bits(parts: FlatIdentifierParts, joined: &mut FlatIdentifierJoining) {
     }
 }
 
-fn parted_swapped(_: u32, parted: &mut FlatIdentifierSplitting) {
-    std::mem::swap(&mut parted.parts.pf, &mut parted.parts.ps);
+fn split_swapped(_: u32, split: &mut FlatIdentifierSplitting) {
+    std::mem::swap(&mut split.parts.pf, &mut split.parts.ps);
 }
 
-fn dp_unjudged(identifier: u32, parted: &mut FlatIdentifierSplitting) {
+fn dp_unjudged(identifier: u32, split: &mut FlatIdentifierSplitting) {
     if identifier >> 24 & 1 == 1 {
-        *parted = Reference.identifier_split(identifier & !(1 << 24));
+        *split = Reference.identifier_split(identifier & !(1 << 24));
     }
 }
 
-fn thirty_bits(identifier: u32, parted: &mut FlatIdentifierSplitting) {
+fn thirty_bits(identifier: u32, split: &mut FlatIdentifierSplitting) {
     if identifier >> 29 == 1 {
-        *parted = Reference.identifier_split(identifier & 0x1FFF_FFFF);
+        *split = Reference.identifier_split(identifier & 0x1FFF_FFFF);
     }
 }
 
@@ -149,20 +154,39 @@ fn counted_modulo(bytes: &[u8], listing: &mut FlatVersionListing) {
     }
 }
 
-fn failure_names(message: FlatVersionMessage, bytes: &mut FlatVersionBytes) {
+fn failure_names(message: FlatVersionMessage, writing: &mut FlatVersionWriting) {
     if message.verdict == 2 {
         let [_, main, minor, temporary] = message.version.to_be_bytes();
-        bytes.bytes[2..5].copy_from_slice(&[main, minor, temporary]);
+        writing.bytes.bytes[2..5].copy_from_slice(&[main, minor, temporary]);
     }
 }
 
-fn control_moved(_: FlatVersionMessage, bytes: &mut FlatVersionBytes) {
-    bytes.bytes.swap(5, 6);
+fn control_moved(_: FlatVersionMessage, writing: &mut FlatVersionWriting) {
+    writing.bytes.bytes.swap(5, 6);
+}
+
+/// As continue.
+fn result_3_written(message: FlatVersionMessage, writing: &mut FlatVersionWriting) {
+    if message.verdict == 3 {
+        *writing = Reference.version_message_write(FlatVersionMessage {
+            verdict: 0,
+            ..message
+        });
+    }
+}
+
+fn result_2_refused(message: FlatVersionMessage, writing: &mut FlatVersionWriting) {
+    if message.verdict == 2 {
+        *writing = Reference.version_message_write(FlatVersionMessage {
+            verdict: 3,
+            ..message
+        });
+    }
 }
 
 fn result_3(bytes: FlatVersionBytes, reading: &mut FlatVersionReading) {
     if bytes.bytes[1] == 3 {
-        (reading.outcome, reading.refusal) = (0, 0);
+        reading.refusal = 0;
     }
 }
 
@@ -184,7 +208,7 @@ fn at_low_byte(talker: &mut FlatTalker) {
 
 fn connect_success(_: FlatTalker, a: &mut FlatTalkerAnswer) {
     if a.emits {
-        (a.next.verdict, a.bytes[1]) = (1, 1);
+        (a.next.verdict, a.bytes.bytes[1]) = (1, 1);
     }
 }
 
@@ -215,7 +239,7 @@ fn limit_late(t: FlatTalker, a: &mut FlatTalkerAnswer) {
 
 fn s3_silent(t: FlatTalker, a: &mut FlatTalkerAnswer) {
     if t.state == 3 {
-        (a.emits, a.bytes) = (false, [0; 8]);
+        (a.emits, a.bytes) = (false, FlatVersionBytes::default());
     }
 }
 
@@ -239,7 +263,8 @@ fn not_resumed(t: FlatTalker, bytes: FlatVersionBytes, a: &mut FlatTalkerAnswer)
 
 fn none_lower(t: FlatTalker, bytes: FlatVersionBytes, a: &mut FlatTalkerAnswer) {
     if bytes.bytes[1] == 0 && a.outcome == 3 {
-        (a.next, a.emits, a.bytes, a.outcome) = (t, false, [0; 8], 0);
+        let none = FlatVersionBytes::default();
+        (a.next, a.emits, a.bytes, a.outcome) = (t, false, none, 0);
     }
 }
 
@@ -288,7 +313,7 @@ fn charge_1001(bytes: &[u8], reading: &mut FlatGroupReading) {
 fn mark_refused(bytes: &[u8], reading: &mut FlatGroupReading) {
     let marked = reading.group.code == 0x77 && reading.group.first == 0xFFFE;
     if bytes.len() == 8 && marked {
-        (reading.outcome, reading.refusal) = (1, 10);
+        reading.refusal = 10;
         reading.group = FlatGroup::default();
     }
 }

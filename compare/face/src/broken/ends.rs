@@ -202,26 +202,26 @@ fn high_byte_first(_: FlatReceiver, _: FlatFrame, _: &mut [u8], a: &mut FlatRece
 }
 
 fn sender_7_before_6(_: FlatSender, f: FlatFrame, a: &mut FlatSenderAnswer) {
-    if a.number == 6 && matches!(f.kind, 1 | 5 | 7) {
-        a.number = 7;
+    if a.refusal == 6 && matches!(f.kind, 1 | 5 | 7) {
+        a.refusal = 7;
     }
 }
 
 fn receiver_7_before_6(_: FlatReceiver, f: FlatFrame, _: &mut [u8], a: &mut FlatReceiverAnswer) {
-    if (a.outcome, a.number) == (1, 6) && matches!(f.kind, 2 | 4 | 6) {
-        a.number = 7;
+    if a.refusal == 6 && matches!(f.kind, 2 | 4 | 6) {
+        a.refusal = 7;
     }
 }
 
 fn receiver_6_before_5(_: FlatReceiver, f: FlatFrame, _: &mut [u8], a: &mut FlatReceiverAnswer) {
-    if (a.outcome, a.number) == (1, 5) && !(1..=7).contains(&f.kind) {
-        a.number = 6;
+    if a.refusal == 5 && !(1..=7).contains(&f.kind) {
+        a.refusal = 6;
     }
 }
 
 fn buffer_1786(_: FlatReceiver, f: FlatFrame, buffer: &mut [u8], a: &mut FlatReceiverAnswer) {
     if buffer.len() == 1786 && f.kind == 1 {
-        (a.outcome, a.number) = (0, 0);
+        (a.outcome, a.refusal) = (0, 0);
     }
 }
 
@@ -229,11 +229,11 @@ fn gap_11([gap, timeout, limit]: [u16; 3], made: &mut FlatSenderMade) {
     let right = (1..=10000).contains(&timeout) && (1..=60000).contains(&limit);
     if gap == 11 && right {
         made.refusal = 0;
-        made.end = FlatSender {
+        made.sender = FlatSender {
             gap,
             timeout,
             limit,
-            ..made.end
+            ..made.sender
         };
     }
 }
@@ -243,11 +243,11 @@ fn gap_257([gap, timeout, limit]: [u16; 3], made: &mut FlatSenderMade) {
     let right = (1..=10000).contains(&timeout) && (1..=60000).contains(&limit);
     if gap == 257 && right {
         made.refusal = 0;
-        made.end = FlatSender {
+        made.sender = FlatSender {
             gap: 1,
             timeout,
             limit,
-            ..made.end
+            ..made.sender
         };
     }
 }
@@ -255,7 +255,7 @@ fn gap_257([gap, timeout, limit]: [u16; 3], made: &mut FlatSenderMade) {
 fn window_255([_, window, _]: [u16; 3], made: &mut FlatReceiverMade) {
     if window == 255 {
         made.refusal = 1;
-        made.end = FlatReceiver::default();
+        made.receiver = FlatReceiver::default();
     }
 }
 
@@ -263,18 +263,18 @@ fn capacity_8([timeout, window, capacity]: [u16; 3], made: &mut FlatReceiverMade
     let right = (1..=10000).contains(&timeout) && (1..=255).contains(&window);
     if capacity == 8 && right {
         made.refusal = 0;
-        made.end = FlatReceiver {
+        made.receiver = FlatReceiver {
             timeout,
             window,
             capacity,
-            ..made.end
+            ..made.receiver
         };
     }
 }
 
 fn begin_2_before_3(_: FlatSender, message: &[u8], a: &mut FlatSenderAnswer) {
-    if a.number == 3 && message.is_empty() {
-        a.number = 2;
+    if a.refusal == 3 && message.is_empty() {
+        a.refusal = 2;
     }
 }
 
@@ -299,14 +299,14 @@ fn post_counted(s: FlatSender, _: &[u8], a: &mut FlatSenderAnswer) {
 
 fn post_9(_: FlatSender, message: &[u8], a: &mut FlatSenderAnswer) {
     if message.len() == 9 {
-        (a.emits, a.outcome, a.number) = (true, 0, 0);
+        (a.emits, a.outcome, a.refusal) = (true, 0, 0);
         a.frame = filled(7, &message[..8]);
     }
 }
 
 fn lent_unjudged(_: FlatSender, _: &[u8], a: &mut FlatSenderAnswer) {
-    if a.number == 4 && a.outcome == 1 {
-        (a.outcome, a.number) = (0, 0);
+    if a.refusal == 4 {
+        (a.outcome, a.refusal) = (0, 0);
     }
 }
 
@@ -323,8 +323,8 @@ fn closing_uncounted(_: FlatSender, _: &[u8], a: &mut FlatSenderAnswer) {
 }
 
 fn late_by_one(s: FlatSender, _: &[u8], a: &mut FlatSenderAnswer) {
-    if a.outcome == 3 && a.number == 3 {
-        (a.outcome, a.number, a.ticks, a.frames) = (0, 0, 0, 0);
+    if a.outcome == 3 && a.cause == 3 {
+        (a.outcome, a.cause, a.ticks, a.frames) = (0, 0, 0, 0);
         silence(&mut a.emits, &mut a.frame);
         a.next = FlatSender {
             age: s.age + 1,
@@ -372,7 +372,7 @@ fn window_long(s: FlatSender, f: FlatFrame, a: &mut FlatSenderAnswer) {
 fn n_before_0(s: FlatSender, f: FlatFrame, a: &mut FlatSenderAnswer) {
     let long = matches!(s.phase, OPENING..=WAITING);
     if long && f.kind == 2 && f.bytes[0] > s.frames && f.bytes[1] == 0 && a.outcome == 0 {
-        (a.outcome, a.number) = (3, 4);
+        (a.outcome, a.cause) = (3, 4);
         (a.emits, a.frame) = (true, filled(3, &[4]));
     }
 }
@@ -381,7 +381,7 @@ fn lower_start(s: FlatSender, f: FlatFrame, a: &mut FlatSenderAnswer) {
     let windowed = s.phase == SENDING || s.phase == WAITING;
     let whole = f.kind == 2 && f.bytes[0] > 0 && f.bytes[1] > 0 && a.outcome == 0;
     if windowed && whole && f.bytes[0] < s.start {
-        (a.next.phase, a.next.start, a.next.next) = (SENDING, f.bytes[0], f.bytes[0]);
+        (a.next.phase, a.next.start, a.next.due) = (SENDING, f.bytes[0], f.bytes[0]);
         (a.next.wait, a.next.misses, a.next.count) = (0, 0, 0);
     }
 }
@@ -395,13 +395,13 @@ fn end_in_opening(s: FlatSender, f: FlatFrame, a: &mut FlatSenderAnswer) {
 
 fn nack_in_short(s: FlatSender, f: FlatFrame, a: &mut FlatSenderAnswer) {
     if s.phase == SHORT && f.kind == 3 && a.outcome == 0 {
-        (a.outcome, a.number) = (3, 1);
+        (a.outcome, a.cause) = (3, 1);
     }
 }
 
 fn own_cause(_: FlatSender, f: FlatFrame, a: &mut FlatSenderAnswer) {
     if f.kind == 3 && a.outcome == 3 {
-        a.number = f.bytes[0];
+        a.cause = f.bytes[0];
     }
 }
 
