@@ -8,19 +8,21 @@ use mathlib.Core.Bool.{Bool, true, false, _&&_}
 use mathlib.Core.List.{List, [], _∷_, _++_}
 use native.Mathlib.Omega.{arith}
 use native.Mathlib.Numerals.{add-one}
-use borrow.Author.Tests.{le-leb, lt-leb, lt-ltb, le-ltb, eq-eqb, ne-eqb}
-use lib.Dec.{eqb, leb}
+use borrow.Author.Tests.{ltb-true, le-leb, lt-leb, lt-ltb, le-ltb, eq-eqb, ne-eqb}
+use lib.Dec.{eqb, leb, ltb}
 use lib.ListN.{length, getD, take, drop, replicate, length-take, length-drop, drop-of-length-le, List·getD-eq-default}
 use lib.Seq.{drop-cons, take-suc, getD-take, length-take-le, ext-getD}
 use Rattle.frame.proofs.Choice.{pick-true, pick-false}
+use Rattle.version.proofs.Places.{head-below, tail-rises}
 use Rattle.frame.specs.Choice.{pick}
 use Rattle.frame.specs.Count.{wordOf}
 use Rattle.frame.specs.Result.{Result, accepted, refused}
-use Rattle.version.specs.List.{versionOf, versionsIn, lent, rising, places, placed, ifRising, listOf, listedOf, Place, nowhere, here, toldFound, placeOf, placeBelow, find, findBelow}
+use Rattle.version.specs.List.{versionOf, versionsIn, lent, rising, places, placed, standing, threeBytes, isList, listOf, listedOf, at, highest, Place, nowhere, here, toldFound, placeOf, placeBelow, find, findBelow}
 use Rattle.version.specs.Message.{verdictOf, toldReading, readOf}
 use Rattle.version.specs.Table.{Trigger, periodDue, successOther, successBelow2, success2, continueSame, continueLower, continueHigher, continueNone, limitDue, Entry, toldEntry, chargerCell, vehicleCell, cellOf}
-use Rattle.version.specs.Talk.{keepsTiming, settling, doing, triggered, successTrigger, elseTrigger, continueAt, continueTrigger, heardTrigger, hearJudged, hearOf, closed, nextPeriod, nextAge, aged, tickTalking, tickSettled, tickState, tickOf, functionsState, functionsHeardOf}
+use Rattle.version.specs.Talk.{fresh, makeOf, madeOf, keepsTiming, settling, doing, triggered, successTrigger, elseTrigger, continueAt, continueTrigger, heardTrigger, hearJudged, hearOf, closed, nextPeriod, nextAge, aged, tickTalking, tickSettled, tickState, tickOf, functionsState, functionsHeardOf}
 use Rattle.version.specs.Told.{Told, Outcome, agreed, silently, refusing, ownVersion, saying}
+use Rattle.version.specs.declared.ListOutcome.the-variants.{Refused}
 use Rattle.version.specs.declared.Listed.{Listed}
 use Rattle.version.specs.declared.Message.{Message}
 use Rattle.version.specs.declared.MessageReading.{MessageReading}
@@ -32,6 +34,7 @@ use Rattle.version.specs.declared.State.the-variants.{S3}
 use Rattle.version.specs.declared.Talker.{Talker}
 use Rattle.version.specs.declared.Verdict.{Verdict}
 use Rattle.version.specs.declared.Verdict.the-variants.{Continue, Success, Failure}
+use Rattle.version.specs.declared.Versions.{Versions}
 use Rattle.version.specs.declared.list.Found.{Found}
 use Rattle.version.specs.declared.list.Found.the-variants.{Nowhere, Here}
 use Rattle.version.specs.declared.table.Entry as entry-enum
@@ -108,29 +111,6 @@ short-rises (v ∷ w ∷ s) h = absurd (omega arith)
 
 rising-ends : (s : List ℕ) (i : ℕ) → length s ≤ i + 1 → rising (drop i s) ≡ true
 rising-ends s i h = short-rises (drop i s) (omega (arith, length-drop i s))
-
--- the lent versions rise, if they do from place i on
-abbrev pub Rising : List ℕ → ℕ → Type 0
-Rising s i = rising (versionsIn s) ≡ rising (drop i (versionsIn s))
-
--- The code's comparison of a version, next, with the one before it, this.
-module _ (s : List ℕ) (i : ℕ) {next this : ℕ} where
-  pub rise-stops : next ≡ lent s (i + 1) → this ≡ lent s i → Rising s i → i + 1 < length s / 3
-      → next ≤ this
-      → false ≡ rising (versionsIn s)
-  rise-stops n t inv h more =
-      sym (inv ∙ rising-stops (versionsIn s) i (omega (arith, versions-length s)) (omega arith))
-
-  pub rise-on : next ≡ lent s (i + 1) → this ≡ lent s i → Rising s i → i + 1 < length s / 3
-      → this < next
-      → Rising s (i + 1)
-  rise-on n t inv h less = inv ∙ rising-on (versionsIn s) i (omega (arith, versions-length s)) (omega arith)
-
-pub rise-ends : (s : List ℕ) (i : ℕ) → Rising s i → length s / 3 ≤ i + 1
-    → true ≡ rising (versionsIn s)
-rise-ends s i inv h = sym (inv ∙ rising-ends (versionsIn s) i (omega (arith, versions-length s)))
-
-pub ruleset rises = (rise-stops, rise-on, rise-ends)
 
 -- n versions of s from place k on, 0 past its end
 abbrev eachFrom : ℕ → ℕ → List ℕ → List ℕ
@@ -231,8 +211,12 @@ back numbers version i h =
     let same : i - 1 + 1 ≡ i = omega arith in
     ap (λ (k : ℕ). placeBelow (take k numbers) version 0) same
 
-module _ (numbers : List ℕ) (n version : ℕ) {count : ℕ}
-    (eight : length numbers ≡ 8) (stands : count ≡ min n 8) where
+-- rising: the list does, if it does from place i on
+abbrev pub Rising : List ℕ → ℕ → ℕ → Type 0
+Rising numbers count i = rising (take count numbers) ≡ rising (drop i (take count numbers))
+
+module _ (numbers : List ℕ) (n : ℕ) {count : ℕ} (eight : length numbers ≡ 8)
+    (stands : count ≡ min n 8) where
   -- the versions that stand are among the eight places, so what is found there is found among them
   stand : take count numbers ≡ take n numbers
   stand =
@@ -242,18 +226,49 @@ module _ (numbers : List ℕ) (n version : ℕ) {count : ℕ}
       let less : i < count = omega (arith, length-take count numbers) in
       getD-take count numbers i 0 less ∙ sym (getD-take n numbers i 0 (omega arith)))
 
-  found-too : (search : List ℕ → ℕ → ℕ → Place)
-      → search (take count numbers) version 0 ≡ search (take n numbers) version 0
-  found-too search = ap (λ (l : List ℕ). search l version 0) stand
-
   inside : {i : ℕ} → i < count
       → (i < length (take count numbers)) × (getD (take count numbers) i 0 ≡ getD numbers i 0)
   inside {i} h = (omega (arith, length-take count numbers), getD-take count numbers i 0 h)
 
+  -- The code's comparison of a version with the one before it.
+  pub rise-stops : (i : ℕ) → i + 1 < count → Rising numbers count i
+      → getD numbers (i + 1) 0 ≤ getD numbers i 0
+      → false ≡ rising (take n numbers)
+  rise-stops i h inv more =
+      let next = inside {i = i + 1} h in
+      let this = inside {i = i} (omega arith) in
+      sym (inv ∙ rising-stops (take count numbers) i (next .0) (omega (arith, next .1, this .1)))
+      ∙ ap rising stand
+
+  pub rise-on : (i : ℕ) → i + 1 < count → Rising numbers count i
+      → getD numbers i 0 < getD numbers (i + 1) 0
+      → Rising numbers count (i + 1)
+  rise-on i h inv less =
+      let next = inside {i = i + 1} h in
+      let this = inside {i = i} (omega arith) in
+      inv ∙ rising-on (take count numbers) i (next .0) (omega (arith, next .1, this .1))
+
+  pub rise-ends : (i : ℕ) → count ≤ i + 1 → Rising numbers count i → true ≡ rising (take n numbers)
+  rise-ends i h inv =
+      sym (inv ∙ rising-ends (take count numbers) i (omega (arith, length-take count numbers)))
+      ∙ ap rising stand
+
+pub ruleset rises = (rise-stops, rise-on, rise-ends)
+
+module _ (numbers : List ℕ) (n version : ℕ) {count : ℕ}
+    (eight : length numbers ≡ 8) (stands : count ≡ min n 8) where
+  found-too : (search : List ℕ → ℕ → ℕ → Place)
+      → search (take count numbers) version 0 ≡ search (take n numbers) version 0
+  found-too search = ap (λ (l : List ℕ). search l version 0) (stand numbers n eight stands)
+
+  among : {i : ℕ} → i < count
+      → (i < length (take count numbers)) × (getD (take count numbers) i 0 ≡ getD numbers i 0)
+  among h = inside numbers n eight stands h
+
   pub seek-here : {i : ℕ} → i < count → Seeking numbers version count i → getD numbers i 0 ≡ version
       → here i ≡ placeOf (take n numbers) version 0
   seek-here {i} h inv e =
-      place-here (take count numbers) version i (inside h .0) (inside h .1 ∙ e)
+      place-here (take count numbers) version i (among h .0) (among h .1 ∙ e)
       ∙ sym inv ∙ found-too placeOf
 
   pub seek-on : {i : ℕ} → i < count → Seeking numbers version count i
@@ -261,7 +276,7 @@ module _ (numbers : List ℕ) (n version : ℕ) {count : ℕ}
       → Seeking numbers version count (i + 1)
   seek-on {i} h inv e =
       inv
-      ∙ place-on (take count numbers) version i (inside h .0) (λ same. e (sym (inside h .1) ∙ same))
+      ∙ place-on (take count numbers) version i (among h .0) (λ same. e (sym (among h .1) ∙ same))
 
   pub seek-ends : {i : ℕ} → count ≤ i → Seeking numbers version count i
       → nowhere ≡ placeOf (take n numbers) version 0
@@ -294,64 +309,124 @@ pub ruleset seeks = (seek-here, seek-on, seek-ends)
 
 pub ruleset sinks = (sink-here, sink-on, sink-ends)
 
--- ---- listing
+-- ---- a list, and what is made of it
+
+and-true : (b : Bool) → (b && true) ≡ b
+and-true true = refl
+and-true false = refl
+
+and-false : (b : Bool) → (b && false) ≡ false
+and-false true = refl
+and-false false = refl
+
+-- what is below a number that passes a test passes it too
+below-too : (v last limit : ℕ) → v < last → (ltb v limit && ltb last limit) ≡ ltb last limit
+below-too v last limit h = go (ltb last limit) refl
+  where
+    go : (b : Bool) → ltb last limit ≡ b → (ltb v limit && b) ≡ b
+    go true e = rw (lt-ltb v limit (omega (arith, ltb-true last limit e)))
+    go false e = and-false (ltb v limit)
+
+-- in a rising list each is of three bytes, if the last is
+last-most : (v : ℕ) (s : List ℕ) → rising (v ∷ s) ≡ true
+    → threeBytes (v ∷ s) ≡ ltb (getD (v ∷ s) (length s) 0) 0x1000000
+unfolding threeBytes
+last-most v [] up = and-true (ltb v 0x1000000)
+last-most v (w ∷ s) up =
+    rw (last-most w s (tail-rises v (w ∷ s) up))
+    (below-too v (getD (w ∷ s) (length s) 0) 0x1000000 (head-below v (w ∷ s) up (length s) (omega arith)))
+
+last-three : (s : List ℕ) → 1 ≤ length s → rising s ≡ true
+    → threeBytes s ≡ ltb (getD s (length s - 1) 0) 0x1000000
+last-three [] some up = absurd (omega arith)
+last-three (v ∷ s) some up =
+    let last : length s ≡ suc (length s) - 1 = omega arith in
+    last-most v s up ∙ ap (λ (n : ℕ). ltb (getD (v ∷ s) n 0) 0x1000000) last
+
+module _ (v : Versions) where
+  pub list-few : v .count < 1 → false ≡ isList v
+  unfolding isList
+  list-few few = rw (lt-leb _ _ few)
+
+  pub list-many : 8 < v .count → false ≡ isList v
+  unfolding isList
+  list-many many = rw (le-leb 1 (v .count) (omega arith), lt-leb (v .count) 8 many)
+
+  module _ {up : Bool} (low : 1 ≤ v .count) (high : v .count ≤ 8) (u : up ≡ rising (standing v)) where
+    pub list-mixed : up ≡ false → false ≡ isList v
+    unfolding isList
+    list-mixed f = rw (le-leb 1 (v .count) low, le-leb (v .count) 8 high, ← u, f)
+
+    pub list-judged : {place last : ℕ} → length (v .numbers) ≡ 8 → up ≡ true → place ≡ highest v
+        → last ≡ at v place
+        → ltb last 0x1000000 ≡ isList v
+    unfolding isList
+    list-judged {last = last} eight t p l =
+        let whole : length (standing v) ≡ v .count = omega (arith, length-take (v .count) (v .numbers)) in
+        let same : getD (standing v) (length (standing v) - 1) 0 ≡ last =
+        ap (λ (n : ℕ). getD (standing v) (n - 1) 0) whole
+        ∙ getD-take (v .count) (v .numbers) (v .count - 1) 0 (omega arith)
+        ∙ ap (λ (n : ℕ). at v n) (sym p) ∙ sym l in
+        rw (le-leb 1 (v .count) low, le-leb (v .count) 8 high, ← u, t, last-three (standing v) (omega arith) (sym u ∙ t), same)
+
+pub ruleset judges = (list-few, list-many, list-mixed, list-judged)
 
 module _ (s : List ℕ) where
-  -- as many versions as a list has, and no bytes left over
-  counted : 1 ≤ length s / 3 → length s / 3 ≤ 8 → length s ≡ 3 * (length s / 3)
-      → ifRising (versionsIn s) ≡ listOf s
-  unfolding listOf pick
-  counted low high whole =
-      rw (
-        versions-length s,
-        le-leb 1 (length s / 3) low,
-        le-leb (length s / 3) 8 high,
-        eq-eqb _ _ whole,
-      )
+  -- no bytes left over
+  whole-list : length s ≡ 3 * (length s / 3)
+      → pick (isList (placed (versionsIn s))) (accepted (placed (versionsIn s))) (refused 11) ≡ listOf s
+  unfolding listOf
+  whole-list whole = rw (versions-length s, eq-eqb _ _ whole)
+
+  -- as many versions as lent bytes have, at their places
+  kept : {numbers : List ℕ} → numbers ≡ places (versionsIn s)
+      → record { count = length s / 3; numbers = numbers } ≡ placed (versionsIn s)
+  kept e = rw (versions-length s, e)
 
   module _ {r : Listed} (e : r ≡ listedOf (refused 11)) where
-    pub list-few : length s / 3 < 1 → r ≡ listedOf (listOf s)
-    unfolding listOf pick
-    list-few few = rw (versions-length s, lt-leb _ _ few) e
+    pub lent-many : 8 < length s / 3 → r ≡ listedOf (listOf s)
+    unfolding listOf
+    lent-many many =
+        let list : List ℕ = versionsIn s in
+        let whole : Bool = eqb (length s) (3 * length list) in
+        let none = sym (list-many (placed list) (omega (arith, versions-length s))) in
+        e ∙ ap listedOf (pick-false _ (ap (λ (b : Bool). whole && b) none ∙ and-false whole) refl)
 
-    pub list-many : 8 < length s / 3 → r ≡ listedOf (listOf s)
+    pub lent-torn : (length s ≡ 3 * (length s / 3) → ⊥) → r ≡ listedOf (listOf s)
     unfolding listOf pick
-    list-many many =
-        rw (versions-length s, le-leb 1 (length s / 3) (omega arith), lt-leb (length s / 3) 8 many) e
+    lent-torn torn = rw (versions-length s, ne-eqb _ _ torn) e
 
-    pub list-torn : 1 ≤ length s / 3 → length s / 3 ≤ 8 → (length s ≡ 3 * (length s / 3) → ⊥)
+    pub lent-refused : {numbers : List ℕ} {is : Bool} → length s ≡ 3 * (length s / 3)
+        → numbers ≡ places (versionsIn s)
+        → is ≡ isList (record { count = length s / 3; numbers = numbers })
+        → is ≡ false
         → r ≡ listedOf (listOf s)
-    unfolding listOf pick
-    list-torn low high torn =
-        rw (
-          versions-length s,
-          le-leb 1 (length s / 3) low,
-          le-leb (length s / 3) 8 high,
-          ne-eqb _ _ torn,
-        )
-        e
+    lent-refused whole n i f =
+        e ∙ ap listedOf (pick-false _ (sym (ap isList (kept n)) ∙ sym i ∙ f) refl ∙ whole-list whole)
 
-    pub list-mixed : {up : Bool} → 1 ≤ length s / 3 → length s / 3 ≤ 8
-        → length s ≡ 3 * (length s / 3)
-        → up ≡ rising (versionsIn s)
-        → up ≡ false
-        → r ≡ listedOf (listOf s)
-    list-mixed low high whole u f =
-        e ∙ ap listedOf (pick-false _ (sym u ∙ f) refl ∙ counted low high whole)
-
-  pub list-whole : {numbers : List ℕ} {up : Bool} → numbers ≡ places (versionsIn s)
-      → 1 ≤ length s / 3
-      → length s / 3 ≤ 8
-      → length s ≡ 3 * (length s / 3)
-      → up ≡ rising (versionsIn s)
-      → up ≡ true
+  pub lent-whole : {numbers : List ℕ} {is : Bool} → length s ≡ 3 * (length s / 3)
+      → numbers ≡ places (versionsIn s)
+      → is ≡ isList (record { count = length s / 3; numbers = numbers })
+      → is ≡ true
       → listedOf (accepted (record { count = length s / 3; numbers = numbers })) ≡ listedOf (listOf s)
-  list-whole {numbers = numbers} e low high whole u t =
-      let kept : record { count = length s / 3; numbers = numbers } ≡ placed (versionsIn s) =
-      rw (versions-length s, e) in
-      ap listedOf (pick-true _ (sym u ∙ t) (ap accepted kept) ∙ counted low high whole)
+  lent-whole whole n i t =
+      ap listedOf (pick-true _ (sym (ap isList (kept n)) ∙ sym i ∙ t) (ap accepted (kept n)) ∙ whole-list whole)
 
-pub ruleset lists = (list-few, list-many, list-torn, list-mixed, list-whole)
+pub ruleset lists = (lent-many, lent-torn, lent-refused, lent-whole)
+
+module _ (side : Side) (v : Versions) (control : ℕ) {is : Bool} {t : Talker} (i : is ≡ isList v) where
+  pub make-whole : is ≡ true → t ≡ fresh side v control
+      → madeOf (accepted t) ≡ madeOf (makeOf side v control)
+  unfolding makeOf
+  make-whole e d = ap madeOf (pick-true _ (sym i ∙ e) (ap accepted d))
+
+  pub make-refused : {none : Versions} → is ≡ false → t ≡ fresh Charger none 0 → none ≡ placed []
+      → record { talker = t; outcome = Refused 11 } ≡ madeOf (makeOf side v control)
+  unfolding makeOf
+  make-refused e d n =
+      rw (d, n) (ap madeOf (pick-false _ (sym i ∙ e) refl))
+
+pub ruleset makes = (make-whole, make-refused)
 
 -- ---- the message
 

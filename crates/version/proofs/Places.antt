@@ -11,18 +11,19 @@ use native.Mathlib.Nat.{eq-or-lt-of-le}
 use native.Mathlib.Omega.{arith}
 use borrow.Author.Tests.{leb-true, ltb-true, ltb-false, eqb-true, eqb-false}
 use lib.Dec.{eqb, leb, ltb}
-use lib.ListN.{length, getD, replicate}
+use lib.ListN.{length, getD, replicate, length-take, length-append, length-replicate}
 use lib.Seq.{take-take, take-append-seam}
-use Rattle.frame.proofs.Choice.{pick-accepted}
+use Rattle.frame.proofs.Choice.{pick-accepted, both-left, both-right}
 use Rattle.frame.specs.Choice.{pick}
+use Rattle.frame.specs.Count.{within}
 use Rattle.frame.specs.Result.{accepted}
-use Rattle.version.specs.List.{versionsIn, rising, placed, countFits, ifRising, listOf, standing, Place, nowhere, here, orElse, placeOf, placeBelow}
+use Rattle.version.specs.List.{versionsIn, rising, threeBytes, placed, standing, isList, isLent, listOf, Place, nowhere, here, orElse, placeOf, placeBelow}
 use Rattle.version.specs.declared.Versions.{Versions}
 
 -- ---- an accepted list
 
 -- the first version is below every later one
-head-below : (v : ℕ) (s : List ℕ) → rising (v ∷ s) ≡ true → (j : ℕ) → j < length s → v < getD s j 0
+pub head-below : (v : ℕ) (s : List ℕ) → rising (v ∷ s) ≡ true → (j : ℕ) → j < length s → v < getD s j 0
 unfolding rising
 head-below v [] h j l = absurd (omega arith)
 head-below v (w ∷ s) h zero l = ltb-true v w (and-eq-true-iff (ltb v w) (rising (w ∷ s)) .0 h .0)
@@ -30,7 +31,7 @@ head-below v (w ∷ s) h (suc j) l =
     let both = and-eq-true-iff (ltb v w) (rising (w ∷ s)) .0 h in
     omega (arith, ltb-true v w (both .0), head-below w s (both .1) j (omega arith))
 
-tail-rises : (v : ℕ) (s : List ℕ) → rising (v ∷ s) ≡ true → rising s ≡ true
+pub tail-rises : (v : ℕ) (s : List ℕ) → rising (v ∷ s) ≡ true → rising s ≡ true
 unfolding rising
 tail-rises v [] h = refl
 tail-rises v (w ∷ s) h = and-eq-true-iff (ltb v w) (rising (w ∷ s)) .0 h .1
@@ -42,41 +43,57 @@ rising-below (v ∷ s) h i zero l k = absurd (omega arith)
 rising-below (v ∷ s) h zero (suc j) l k = head-below v s h j (omega arith)
 rising-below (v ∷ s) h (suc i) (suc j) l k = rising-below s (tail-rises v s h) i j (omega arith) (omega arith)
 
--- "1 to 8 strictly rising versions"
+-- what holds of a list, with the bounds and the order as facts
 pub record Standing (v : Versions) : Type 0 where
   pub some : 1 ≤ v .count
   pub few : v .count ≤ 8
   pub whole : length (standing v) ≡ v .count
   pub rises : rising (standing v) ≡ true
+  pub three : (i : ℕ) → i < v .count → getD (standing v) i 0 < 0x1000000
   pub below : (i j : ℕ) → i < j → j < length (standing v)
       → getD (standing v) i 0 < getD (standing v) j 0
 
+three-bytes : (s : List ℕ) → threeBytes s ≡ true → (i : ℕ) → i < length s → getD s i 0 < 0x1000000
+unfolding threeBytes
+three-bytes [] h i l = absurd (omega arith)
+three-bytes (v ∷ s) h zero l = ltb-true v 0x1000000 (both-left (ltb v 0x1000000) (threeBytes s) h)
+three-bytes (v ∷ s) h (suc i) l = three-bytes s (both-right (ltb v 0x1000000) (threeBytes s) h) i (omega arith)
+
+pub list-stands : (v : Versions) → length (v .numbers) ≡ 8 → isList v ≡ true → Standing v
+unfolding isList
+list-stands v eight h =
+    let s : List ℕ = standing v in
+    let count = both-left (within 1 (v .count) 8) (rising s && threeBytes s) h in
+    let rest = both-right (within 1 (v .count) 8) (rising s && threeBytes s) h in
+    let low : 1 ≤ v .count = leb-true _ _ (both-left (leb 1 (v .count)) (leb (v .count) 8) count) in
+    let high : v .count ≤ 8 = leb-true _ _ (both-right (leb 1 (v .count)) (leb (v .count) 8) count) in
+    let whole : length s ≡ v .count = omega (arith, length-take (v .count) (v .numbers)) in
+    let up : rising s ≡ true = both-left (rising s) (threeBytes s) rest in
+    record {
+      some = low;
+      few = high;
+      whole = whole;
+      rises = up;
+      three = λ i l. three-bytes s (both-right (rising s) (threeBytes s) rest) i (omega arith);
+      below = rising-below s up;
+    }
+
+placed-eight : (s : List ℕ) → length (placed s .numbers) ≡ 8
+placed-eight s = omega (arith, length-take 8 (s ++ replicate 8 0), length-append s (replicate 8 0), length-replicate {A = ℕ} 8 0)
+
 standing-placed : (s : List ℕ) → length s ≤ 8 → standing (placed s) ≡ s
 standing-placed s h = take-take (length s) 8 (s ++ replicate 8 0) h ∙ take-append-seam s (replicate 8 0)
-
-placed-stands : (s : List ℕ) → 1 ≤ length s → length s ≤ 8 → rising s ≡ true → Standing (placed s)
-placed-stands s low high up =
-    let same : standing (placed s) ≡ s = standing-placed s high in
-    let up' : rising (standing (placed s)) ≡ true = ap rising same ∙ up in
-    record { some = low; few = high; whole = ap length same; rises = up'; below = rising-below (standing (placed s)) up' }
-
-fits : (a b c : Bool) → (a && b && c) ≡ true → (a ≡ true) × (b ≡ true)
-fits true true c h = (refl, refl)
-fits true false c h = (refl, h)
-fits false b c h = (h, cc)
 
 pub listed-stands : (bytes : List ℕ) (v : Versions) → listOf bytes ≡ accepted v
     → Standing v × (standing v ≡ versionsIn bytes)
 unfolding listOf
 listed-stands bytes v h =
     let s : List ℕ = versionsIn bytes in
-    let counted = pick-accepted (countFits bytes (length s)) (ifRising s) 11 h in
-    let rises = pick-accepted (rising s) (accepted (placed s)) 11 (counted .1) in
-    let range = fits (leb 1 (length s)) (leb (length s) 8) (eqb (length bytes) (3 * length s)) (counted .0) in
-    let high : length s ≤ 8 = leb-true _ _ (range .1) in
-    let same : placed s ≡ v = cc (rises .1) in
-    subst (λ (x : Versions). Standing x × (standing x ≡ s)) same
-    (placed-stands s (leb-true _ _ (range .0)) high (rises .0), standing-placed s high)
+    let taken = pick-accepted (isLent bytes s) (accepted (placed s)) 11 h in
+    let list : isList (placed s) ≡ true = both-right (eqb (length bytes) (3 * length s)) (isList (placed s)) (taken .0) in
+    let stands = list-stands (placed s) (placed-eight s) list in
+    let same : placed s ≡ v = cc (taken .1) in
+    subst (λ (x : Versions). Standing x × (standing x ≡ s)) same (stands, standing-placed s (stands .few))
 
 -- ---- the place of a version
 

@@ -52,16 +52,26 @@ places versions = take 8 (versions ++ replicate 8 0)
 abbrev pub placed : List ℕ → Versions
 placed versions = record { count = length versions; numbers = places versions }
 
--- refusals, version list: "11 not 1 to 8 strictly rising versions"; bytes that are no whole number
--- of versions are no list
-abbrev pub countFits : List ℕ → ℕ → Bool
-countFits bytes count = within 1 count 8 && eqb (length bytes) (3 * count)
+-- the versions that stand in a kept list
+abbrev pub standing : Versions → List ℕ
+standing v = take (v .count) (v .numbers)
 
-abbrev pub ifRising : List ℕ → Result Versions
-ifRising versions = pick (rising versions) (accepted (placed versions)) (refused 11)
+-- each is a number of three bytes
+unfoldable pub threeBytes : List ℕ → Bool
+threeBytes [] = true
+threeBytes (v ∷ more) = ltb v 0x1000000 && threeBytes more
+
+-- Refusals, by place, version list: one to eight versions stand, and they rise. A version has three
+-- bytes. The places after the last are not judged.
+unfoldable pub isList : Versions → Bool
+isList v = within 1 (v .count) 8 && (rising (standing v) && threeBytes (standing v))
+
+-- a list is lent as bytes, three for each version and none left over; any other is refused 11
+abbrev pub isLent : List ℕ → List ℕ → Bool
+isLent bytes versions = eqb (length bytes) (3 * length versions) && isList (placed versions)
 
 abbrev pub listFrom : List ℕ → List ℕ → Result Versions
-listFrom bytes versions = pick (countFits bytes (length versions)) (ifRising versions) (refused 11)
+listFrom bytes versions = pick (isLent bytes versions) (accepted (placed versions)) (refused 11)
 
 unfoldable pub listOf : List ℕ → Result Versions
 listOf bytes = listFrom bytes (versionsIn bytes)
@@ -89,10 +99,6 @@ pub data Place : Type 0 where
 abbrev pub toldFound : Found → Place
 toldFound Nowhere = nowhere
 toldFound (Here n) = here n
-
--- the versions that stand in the list
-abbrev pub standing : Versions → List ℕ
-standing v = take (v .count) (v .numbers)
 
 -- the first place, counted from n, that holds this version
 unfoldable pub placeOf : List ℕ → ℕ → ℕ → Place

@@ -1,15 +1,17 @@
 -- The calls of a talker: which trigger a call is, and what the table's entry does.
 use Prim.Native.Nat.{ℕ}
 use mathlib.Core.Bool.{Bool, true, false}
-use mathlib.Core.List.{List}
+use mathlib.Core.List.{List, []}
 use lib.Dec.{eqb, leb, ltb}
 use Rattle.frame.specs.Choice.{pick}
 use Rattle.frame.specs.Count.{incrementOf}
 use Rattle.frame.specs.Result.{Result, accepted, refused}
-use Rattle.version.specs.List.{versionOf, highest, Place, nowhere, here, find, findBelow}
+use Rattle.version.specs.List.{versionOf, placed, isList, highest, Place, nowhere, here, find, findBelow}
 use Rattle.version.specs.Message.{readOf}
 use Rattle.version.specs.Table.{Trigger, connected, periodDue, successOther, successBelow2, success2, failureHeard, continueSame, continueLower, continueHigher, continueNone, greeted, stopped, limitDue, Entry, nothing, opens, repeats, resumes, settlesBelow2, settles, fails, accepts, stays, lowers, leaves, cellOf}
 use Rattle.version.specs.Told.{Told, quiet, agreed, failed, left, silently, refusing, saying, moved, unsaid, ownVersion}
+use Rattle.version.specs.declared.ListOutcome.the-variants.{Accepted, Refused}
+use Rattle.version.specs.declared.Made.{Made}
 use Rattle.version.specs.declared.Message.{Message}
 use Rattle.version.specs.declared.Side.{Side}
 use Rattle.version.specs.declared.Side.the-variants.{Charger, Vehicle}
@@ -22,8 +24,8 @@ use Rattle.version.specs.declared.Versions.{Versions}
 
 -- a talker of a side with a list and a control-pilot byte: S0, Ns at the highest version, the
 -- result continue
-unfoldable pub makeOf : Side → Versions → ℕ → Talker
-makeOf side versions control =
+abbrev pub fresh : Side → Versions → ℕ → Talker
+fresh side versions control =
     record {
       side = side;
       versions = versions;
@@ -35,6 +37,16 @@ makeOf side versions control =
       age = 0;
       timing = false;
     }
+
+-- Refusals, by place, version list: a talker is made of a list and of nothing else, as it is given
+unfoldable pub makeOf : Side → Versions → ℕ → Result Talker
+makeOf side versions control = pick (isList versions) (accepted (fresh side versions control)) (refused 11)
+
+-- what making answers, whole: an enum holds no array, so the talker stands beside the outcome; where
+-- it is refused the talker is a charger with no versions and control-pilot byte 0
+abbrev pub madeOf : Result Talker → Made
+madeOf (accepted t) = record { talker = t; outcome = Accepted }
+madeOf (refused number) = record { talker = fresh Charger (placed []) 0; outcome = Refused number }
 
 -- a place that was found, else the place where Ns is
 abbrev pub placeOr : Place → ℕ → ℕ

@@ -16,7 +16,7 @@ pub struct Versions {
     pub numbers: [u32; 8],
 }
 
-// Whether lent versions are a list; if not, the number of the refusal.
+// Whether versions are a list that an end can have; if not, the number of the refusal.
 pub enum ListOutcome {
     Accepted,
     Refused(u8),
@@ -79,6 +79,12 @@ pub struct Talker {
     pub period: u16,
     pub age: u16,
     pub timing: bool,
+}
+
+// What making a talker answers. Where it is refused, the talker is a charger with no versions.
+pub struct Made {
+    pub talker: Talker,
+    pub outcome: ListOutcome,
 }
 
 // What a call reports: nothing, a refusal by its number, the version agreed on, that the talk

@@ -1,13 +1,17 @@
-// The list of versions: what stands in lent bytes, and places in it.
+// The list of versions: what stands in lent bytes, whether it is a list, and places in it.
 ghost use mathlib.Core.Path.{_≡_};
+ghost use mathlib.Core.List.{[]};
 ghost use Prim.Native.Nat.{min};
 ghost use Rattle.frame.specs.Result.{refused};
 ghost use Rattle.version.specs.List.{
   versionOf,
   versionsIn,
   lent,
+  standing,
   rising,
+  isList,
   places,
+  placed,
   listOf,
   listedOf,
   at,
@@ -45,21 +49,6 @@ fn lent(bytes: &[u8], place: usize) -> u32
     }
 }
 
-// Each version is above the one before it.
-fn rising(bytes: &[u8]) -> bool
-    ensures { λ r. ⌜ r ≡ rising (versionsIn (now (bytes .entry))) ⌝ }
-{
-    let count = bytes.len() / 3;
-    let mut i = 0;
-    while i + 1 < count {
-        if lent(bytes, i + 1) <= lent(bytes, i) {
-            return false;
-        }
-        i += 1;
-    }
-    true
-}
-
 // The versions of lent bytes at their eight places.
 fn places(bytes: &[u8]) -> [u32; 8]
     ensures { λ r. ⌜ r ≡ places (versionsIn (now (bytes .entry))) ⌝ }
@@ -73,48 +62,6 @@ fn places(bytes: &[u8]) -> [u32; 8]
     let n6 = lent(bytes, 6);
     let n7 = lent(bytes, 7);
     [n0, n1, n2, n3, n4, n5, n6, n7]
-}
-
-// Refusal 11.
-fn refused() -> Listed
-    ensures { λ r. ⌜ r ≡ listedOf (refused 11) ⌝ }
-{
-    let numbers = [0; 8];
-    let versions = Versions { count: 0, numbers };
-    Listed {
-        versions,
-        outcome: ListOutcome::Refused(11),
-    }
-}
-
-// A list of 1 to 8 strictly rising versions, three bytes for each, or refusal 11.
-pub fn list(bytes: &[u8]) -> Listed
-    ensures { λ r. ⌜ r ≡ listedOf (listOf (now (bytes .entry))) ⌝ }
-{
-    let length = bytes.len();
-    let count = length / 3;
-    if count < 1 {
-        return refused();
-    }
-    if 8 < count {
-        return refused();
-    }
-    if length != 3 * count {
-        return refused();
-    }
-    if rising(bytes) {
-        let numbers = places(bytes);
-        let versions = Versions {
-            count: count as u32,
-            numbers,
-        };
-        Listed {
-            versions,
-            outcome: ListOutcome::Accepted,
-        }
-    } else {
-        refused()
-    }
 }
 
 // The version at a place; 0 past the eighth.
@@ -143,6 +90,88 @@ fn standing_count(versions: Versions) -> usize
 {
     let count = versions.count;
     if count < 8 { count as usize } else { 8 }
+}
+
+// Each version is above the one before it.
+fn rising(versions: Versions) -> bool
+    ensures { λ r. ⌜ r ≡ rising (standing versions) ⌝ }
+{
+    let numbers = versions.numbers;
+    let count = standing_count(versions);
+    let mut i: usize = 0;
+    while i + 1 < count {
+        if numbers[i + 1] <= numbers[i] {
+            return false;
+        }
+        i += 1;
+    }
+    true
+}
+
+// 1 to 8 strictly rising versions, each a number of three bytes. The last is the highest.
+pub(crate) fn is_list(versions: Versions) -> bool
+    ensures { λ r. ⌜ r ≡ isList versions ⌝ }
+{
+    let count = versions.count;
+    if count < 1 {
+        return false;
+    }
+    if 8 < count {
+        return false;
+    }
+    if rising(versions) {
+        let last = highest(versions);
+        at(versions, last) < 0x1000000
+    } else {
+        false
+    }
+}
+
+// No versions: count 0 and eight zeros.
+pub(crate) fn no_versions() -> Versions
+    ensures { λ r. ⌜ r ≡ placed [] ⌝ }
+{
+    let numbers = [0; 8];
+    Versions { count: 0, numbers }
+}
+
+// Refusal 11.
+fn refused() -> Listed
+    ensures { λ r. ⌜ r ≡ listedOf (refused 11) ⌝ }
+{
+    let versions = no_versions();
+    Listed {
+        versions,
+        outcome: ListOutcome::Refused(11),
+    }
+}
+
+// A list of 1 to 8 strictly rising versions, three bytes for each, or refusal 11. More than eight
+// have no place.
+pub fn list(bytes: &[u8]) -> Listed
+    ensures { λ r. ⌜ r ≡ listedOf (listOf (now (bytes .entry))) ⌝ }
+{
+    let length = bytes.len();
+    if 8 < length / 3 {
+        return refused();
+    }
+    let count = length / 3;
+    if length != 3 * count {
+        return refused();
+    }
+    let numbers = places(bytes);
+    let versions = Versions {
+        count: count as u32,
+        numbers,
+    };
+    if is_list(versions) {
+        Listed {
+            versions,
+            outcome: ListOutcome::Accepted,
+        }
+    } else {
+        refused()
+    }
 }
 
 // The place of this version.

@@ -3,7 +3,9 @@ ghost use mathlib.Core.Path.{_≡_};
 ghost use Rattle.version.specs.Table.{toldTrigger};
 ghost use Rattle.version.specs.Told.{told};
 ghost use Rattle.version.specs.Talk.{
+  fresh,
   makeOf,
+  madeOf,
   connectOf,
   stopOf,
   greetOf,
@@ -19,6 +21,8 @@ ghost use Rattle.version.specs.Talk.{
   tickOf,
 };
 use crate::Answer;
+use crate::ListOutcome;
+use crate::Made;
 use crate::MessageReading;
 use crate::Side;
 use crate::State;
@@ -34,6 +38,8 @@ use crate::list::Found;
 use crate::list::find;
 use crate::list::find_below;
 use crate::list::highest;
+use crate::list::is_list;
+use crate::list::no_versions;
 use crate::table::Trigger;
 use crate::wire::read;
 use frame::count::increment;
@@ -140,22 +146,42 @@ fn heard_trigger(t: Talker, version: u32, verdict: Verdict) -> Trigger
     }
 }
 
+// A talker in S0, Ns at the highest version, the result continue.
+fn fresh(side: Side, versions: Versions, control: u8) -> Talker
+    ensures { λ r. ⌜ r ≡ fresh side versions control ⌝ }
+{
+    let place = highest(versions);
+    Talker {
+        side,
+        versions,
+        control,
+        state: State::S0,
+        place,
+        verdict: Verdict::Continue,
+        period: 0,
+        age: 0,
+        timing: false,
+    }
+}
+
 impl Talker {
-    // A talker in S0, Ns at the highest version, the result continue.
-    pub fn make(side: Side, versions: Versions, control: u8) -> Talker
-        ensures { λ r. ⌜ r ≡ makeOf side versions control ⌝ }
+    // A talker that has not yet connected, or refusal 11: no list of versions.
+    pub fn make(side: Side, versions: Versions, control: u8) -> Made
+        ensures { λ r. ⌜ r ≡ madeOf (makeOf side versions control) ⌝ }
     {
-        let place = highest(versions);
-        Talker {
-            side,
-            versions,
-            control,
-            state: State::S0,
-            place,
-            verdict: Verdict::Continue,
-            period: 0,
-            age: 0,
-            timing: false,
+        if is_list(versions) {
+            let talker = fresh(side, versions, control);
+            Made {
+                talker,
+                outcome: ListOutcome::Accepted,
+            }
+        } else {
+            let none = no_versions();
+            let talker = fresh(Side::Charger, none, 0);
+            Made {
+                talker,
+                outcome: ListOutcome::Refused(11),
+            }
         }
     }
 

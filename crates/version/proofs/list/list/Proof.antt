@@ -1,4 +1,4 @@
--- `version::list::list` meets its contract. The tests, and what `rising` and `places` promise, are
+-- `version::list::list` meets its contract. The tests, and what `places` and `is_list` promise, are
 -- those of the definition.
 -- Assumes nothing.
 use borrow.Author.Needs.{needs}
@@ -12,14 +12,23 @@ refused-requires c κs = search needs
 returns : tie.Need-returns
 returns c = search lists
 
+mul-if2 : tie.Need-mul-if2
+mul-if2 c = search needs
+
 refused-requires-2 : tie.Need-refused-requires-2
 refused-requires-2 c κs = search needs
 
 returns-2 : tie.Need-returns-2
 returns-2 c = search lists
 
-mul-if3 : tie.Need-mul-if3
-mul-if3 c = search needs
+places-requires : tie.Need-places-requires
+places-requires c κs = search needs
+
+cast-t8 : tie.Need-cast-t8
+cast-t8 c = search needs
+
+is-list-requires : tie.Need-is-list-requires
+is-list-requires c κs = search needs
 
 refused-requires-3 : tie.Need-refused-requires-3
 refused-requires-3 c κs = search needs
@@ -27,23 +36,8 @@ refused-requires-3 c κs = search needs
 returns-3 : tie.Need-returns-3
 returns-3 c = search lists
 
-rising-requires : tie.Need-rising-requires
-rising-requires c κs = search needs
-
-places-requires : tie.Need-places-requires
-places-requires c κs = search needs
-
-cast-t10 : tie.Need-cast-t10
-cast-t10 c = search needs
-
-refused-requires-4 : tie.Need-refused-requires-4
-refused-requires-4 c κs = search needs
-
 returns-4 : tie.Need-returns-4
 returns-4 c = search lists
-
-returns-5 : tie.Need-returns-5
-returns-5 c = search lists
 
 pub list-spec : {M : Type 1} → statement M
 list-spec =
@@ -51,14 +45,12 @@ list-spec =
     (tie.spec
     refused-requires
     returns
+    mul-if2
     refused-requires-2
     returns-2
-    mul-if3
+    places-requires
+    cast-t8
+    is-list-requires
     refused-requires-3
     returns-3
-    rising-requires
-    places-requires
-    cast-t10
-    refused-requires-4
-    returns-4
-    returns-5)
+    returns-4)

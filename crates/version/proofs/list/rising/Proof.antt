@@ -10,10 +10,13 @@ use Rattle.version.proofs.list.rising.Statement.{statement}
 use Rattle.version.proofs.list.rising.Tie as tie
 
 abbrev Inv-loop : tie.InvT-loop
-Inv-loop bytes count i₀ i = (i ≤ count) × Rising bytes i
+Inv-loop numbers count i₀ i = (i ≤ count) × Rising numbers count i
 
 abbrev μ-loop : tie.MeasureT-loop
-μ-loop bytes count i₀ i = count - i
+μ-loop numbers count i₀ i = count - i
+
+standing-count-requires : tie.Need-standing-count-requires Inv-loop μ-loop
+standing-count-requires c κs = search needs
 
 loop-holds : tie.Need-loop-holds Inv-loop μ-loop
 loop-holds c = (search needs, refl)
@@ -21,17 +24,23 @@ loop-holds c = (search needs, refl)
 add-loop : tie.Need-add-loop Inv-loop μ-loop
 add-loop c = search needs
 
-add-lent : tie.Need-add-lent Inv-loop μ-loop
-add-lent c = search needs
+add-if1 : tie.Need-add-if1 Inv-loop μ-loop
+add-if1 c = search needs
 
-lent-requires : tie.Need-lent-requires Inv-loop μ-loop
-lent-requires c κs = search needs
+mul-if1 : tie.Need-mul-if1 Inv-loop μ-loop
+mul-if1 c = search needs
 
-lent-requires-2 : tie.Need-lent-requires-2 Inv-loop μ-loop
-lent-requires-2 c κs = search needs
+array-read-if1 : tie.Need-array-read-if1 Inv-loop μ-loop
+array-read-if1 c = search needs
+
+mul-if1-2 : tie.Need-mul-if1-2 Inv-loop μ-loop
+mul-if1-2 c = search needs
+
+array-read-if1-2 : tie.Need-array-read-if1-2 Inv-loop μ-loop
+array-read-if1-2 c = search needs
 
 returns : tie.Need-returns Inv-loop μ-loop
-returns c = search rises
+returns c = search (needs, rises)
 
 add-i : tie.Need-add-i Inv-loop μ-loop
 add-i c = search needs
@@ -40,10 +49,10 @@ loop-less : tie.Need-loop-less Inv-loop μ-loop
 loop-less c = search needs
 
 loop-again : tie.Need-loop-again Inv-loop μ-loop
-loop-again c = (search needs, search rises)
+loop-again c = (search needs, search (needs, rises))
 
 returns-2 : tie.Need-returns-2 Inv-loop μ-loop
-returns-2 c = search rises
+returns-2 c = search (needs, rises)
 
 pub rising-spec : {M : Type 1} → statement M
 rising-spec =
@@ -51,11 +60,14 @@ rising-spec =
     (tie.spec
     Inv-loop
     μ-loop
+    standing-count-requires
     loop-holds
     add-loop
-    add-lent
-    lent-requires
-    lent-requires-2
+    add-if1
+    mul-if1
+    array-read-if1
+    mul-if1-2
+    array-read-if1-2
     returns
     add-i
     loop-less
