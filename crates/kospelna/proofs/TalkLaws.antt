@@ -13,10 +13,11 @@ use Rattle.kospelna.specs.Refusals.{Numbered}
 use Rattle.kospelna.proofs.Refusals.{result-back, result-made, number-again, value-again}
 use Rattle.version.specs.List.{listOf, listedOf}
 use Rattle.version.specs.Message.{verdictByte, toldReading, writeOf, readOf}
-use Rattle.version.specs.Talk.{makeOf, connectOf, tickOf, hearOf, stopOf, greetOf, functionsHeardOf}
+use Rattle.version.specs.Talk.{makeOf, madeOf, connectOf, tickOf, hearOf, stopOf, greetOf, functionsHeardOf}
 use Rattle.version.specs.Told.{Told, Outcome, quiet, refused, agreed, failed, left, toldOutcome, told}
 use Rattle.version.specs.declared.Answer.{Answer}
 use Rattle.version.specs.declared.Listed.{Listed}
+use Rattle.version.specs.declared.Made as made
 use Rattle.version.specs.declared.Message.{Message}
 use Rattle.version.specs.declared.MessageReading.{MessageReading}
 use Rattle.version.specs.declared.MessageReading.the-variants as readings
@@ -28,7 +29,7 @@ use Rattle.version.specs.declared.Talker.{Talker}
 use Rattle.version.specs.declared.Verdict.{Verdict}
 use Rattle.version.specs.declared.Verdict.the-variants.{Continue, Success, Failure}
 use Rattle.version.specs.declared.Versions.{Versions}
-use Rattle.kospelna.specs.Talk.{sideNumber, sideIn, stateNumber, stateIn, verdictIn, versionsIn, versionsOut, noVersions, listRefusal, listedOut, listingOut, listingIn, ListingMade, messageIn, messageOut, MessageMade, bytesIn, bytesOut, noBytes, messageBytes, writingOut, writingIn, WritingMade, noMessage, readingOut, readingIn, ReadingMade, talkerIn, talkerOut, TalkerMade, outcomeNumber, outcomeRefusal, outcomeVersion, outcomeIn, answerOut, answerIn, AnswerMade}
+use Rattle.kospelna.specs.Talk.{sideNumber, sideIn, stateNumber, stateIn, verdictIn, versionsIn, versionsOut, noVersions, listRefusal, listedOut, listingOut, listingIn, ListingMade, messageIn, messageOut, MessageMade, bytesIn, bytesOut, noBytes, messageBytes, writingOut, writingIn, WritingMade, noMessage, readingOut, readingIn, ReadingMade, talkerIn, talkerOut, TalkerMade, noTalker, makingOut, makingIn, MakingMade, madeOut, outcomeNumber, outcomeRefusal, outcomeVersion, outcomeIn, answerOut, answerIn, AnswerMade}
 use Rattle.kospelna.specs.declared.talk.FlatVersions.{FlatVersions}
 use Rattle.kospelna.specs.declared.talk.FlatVersionListing.{FlatVersionListing}
 use Rattle.kospelna.specs.declared.talk.FlatVersionMessage.{FlatVersionMessage}
@@ -36,6 +37,7 @@ use Rattle.kospelna.specs.declared.talk.FlatVersionBytes.{FlatVersionByt
 use Rattle.kospelna.specs.declared.talk.FlatVersionReading.{FlatVersionReading}
 use Rattle.kospelna.specs.declared.talk.FlatVersionWriting.{FlatVersionWriting}
 use Rattle.kospelna.specs.declared.talk.FlatTalker.{FlatTalker}
+use Rattle.kospelna.specs.declared.talk.FlatTalkerMade.{FlatTalkerMade}
 use Rattle.kospelna.specs.declared.talk.FlatTalkerAnswer.{FlatTalkerAnswer}
 
 -- ---- paths: numbers
@@ -203,9 +205,20 @@ pub answer-out : (a : Answer) {next : FlatTalker} {b : FlatVersionBytes} {o r v 
 unfolding answerOut
 answer-out a n b o r v = rw (n, b, o, r, v)
 
-pub make-through : (control : ℕ) {f : FlatTalker} {t : Talker} {side a : Side} {versions b : Versions} → f ≡ talkerOut t
-    → t ≡ makeOf side versions control → side ≡ a → versions ≡ b → f ≡ talkerOut (makeOf a b control)
-make-through control w e a b = w ∙ ap talkerOut (rw (← a, ← b) e)
+pub made-out : (m : made.Made) {r : ℕ} {t : FlatTalker} → t ≡ talkerOut (m .talker) → r ≡ listRefusal (m .outcome)
+    → record { refusal = r; talker = t } ≡ madeOut m
+unfolding madeOut
+made-out m t r = rw (t, r)
+
+pub make-through : (control : ℕ) {f : FlatTalkerMade} {m : made.Made} {side a : Side} {versions b : Versions} → f ≡ madeOut m
+    → m ≡ madeOf (makeOf side versions control) → side ≡ a → versions ≡ b → f ≡ makingOut (makeOf a b control)
+unfolding madeOut talkerOut
+make-through control {side = side} {versions = versions} w e x y =
+    rw (← x, ← y) (w ∙ ap madeOut e ∙ go (makeOf side versions control))
+  where
+    go : (r : Result Talker) → madeOut (madeOf r) ≡ makingOut r
+    go (accepted t) = refl
+    go (result.refused n) = refl
 
 module _ {a : Told} {f : FlatTalkerAnswer} {t u : Talker} (w : f ≡ answerOut a) where
   through : (call : Talker → Told) → a ≡ call t → t ≡ u → f ≡ answerOut (call u)
@@ -232,6 +245,7 @@ module _ {a : Told} {f : FlatTalkerAnswer} {t u : Talker} (w : f ≡ answerOut a
 pub ruleset talker-paths = (
   talker-in,
   talker-out,
+  made-out,
   answer-out,
   make-through,
   connect-through,
@@ -364,7 +378,7 @@ writing-written f made =
 -- no refusal is numbered 0
 pub list-numbered : (s : List ℕ) → Numbered (listOf s)
 unfolding listOf
-list-numbered s = pick-elim Numbered _ (λ e. pick-elim Numbered _ (λ e. tt) (λ e. omega arith)) (λ e. omega arith)
+list-numbered s = pick-elim Numbered _ (λ e. tt) (λ e. omega arith)
 
 pub read-numbered : (s : List ℕ) → Numbered (readOf s)
 unfolding readOf
@@ -387,6 +401,20 @@ talker-made t = (side-made (t .side), state-made (t .state), verdict-made (t .ve
 pub talker-written : (f : FlatTalker) → TalkerMade f → talkerOut (talkerIn f) ≡ f
 unfolding talkerIn talkerOut
 talker-written f h = rw (side-written (f .side) (h .0), state-written (f .state) (h .1), verdict-written (f .verdict) (h .2))
+
+pub making-read : (r : Result Talker) → Numbered r → makingIn (makingOut r) ≡ r
+making-read = result-back talkerOut talkerIn noTalker talker-read
+
+pub making-made : (r : Result Talker) → Numbered r → MakingMade (makingOut r)
+making-made = result-made talkerOut noTalker TalkerMade talker-made
+
+pub making-written : (f : FlatTalkerMade) → MakingMade f → makingOut (makingIn f) ≡ f
+making-written f made =
+    rw (number-again talkerIn (f .refusal) (f .talker), value-again talkerOut talkerIn noTalker TalkerMade talker-written (f .refusal) (f .talker) made)
+
+pub make-numbered : (side : Side) (versions : Versions) (control : ℕ) → Numbered (makeOf side versions control)
+unfolding makeOf
+make-numbered side versions control = pick-elim Numbered _ (λ e. tt) (λ e. omega arith)
 
 outcome-read : (o : Outcome) → outcomeIn (outcomeNumber o) (outcomeRefusal o) (outcomeVersion o) ≡ o
 unfolding outcomeIn pick

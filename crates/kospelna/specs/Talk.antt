@@ -1,6 +1,7 @@
 -- The flat structs of the version list, the version message and the talker: what each stands for, in both directions.
 -- Document 01, Around the transport, Version talk; Refusals, version list, message.
 use Prim.Native.Nat.{ℕ, _≤_}
+use mathlib.Core.Bool.{false}
 use mathlib.Core.List.{List}
 use mathlib.Core.Path.{_≡_}
 use lib.Dec.{eqb, leb}
@@ -14,6 +15,7 @@ use Rattle.version.specs.Told.{Told, Outcome, quiet, refused, agreed, failed, l
 use Rattle.version.specs.declared.ListOutcome.{ListOutcome}
 use Rattle.version.specs.declared.ListOutcome.the-variants.{Accepted, Refused}
 use Rattle.version.specs.declared.Listed.{Listed}
+use Rattle.version.specs.declared.Made as made
 use Rattle.version.specs.declared.Message.{Message}
 use Rattle.version.specs.declared.Side.{Side}
 use Rattle.version.specs.declared.Side.the-variants.{Charger, Vehicle}
@@ -30,6 +32,7 @@ use Rattle.kospelna.specs.declared.talk.FlatVersionBytes.{FlatVersionByt
 use Rattle.kospelna.specs.declared.talk.FlatVersionReading.{FlatVersionReading}
 use Rattle.kospelna.specs.declared.talk.FlatVersionWriting.{FlatVersionWriting}
 use Rattle.kospelna.specs.declared.talk.FlatTalker.{FlatTalker}
+use Rattle.kospelna.specs.declared.talk.FlatTalkerMade.{FlatTalkerMade}
 use Rattle.kospelna.specs.declared.talk.FlatTalkerAnswer.{FlatTalkerAnswer}
 
 -- ---- the numbers of sides, states and results
@@ -169,6 +172,34 @@ talkerOut t =
 -- the flat talkers that writing makes
 abbrev pub TalkerMade : FlatTalker → Type 0
 TalkerMade f = (f .side ≤ 1) × (f .state ≤ 5) × (f .verdict ≤ 2)
+
+-- what making answers: the refusal's number, 0 where there is none, and the talker, zeros where refused
+abbrev pub noTalker : FlatTalker
+noTalker =
+    record {
+      side = 0;
+      versions = noVersions;
+      control = 0;
+      state = 0;
+      place = 0;
+      verdict = 0;
+      period = 0;
+      age = 0;
+      timing = false;
+    }
+
+abbrev pub makingOut : Result Talker → FlatTalkerMade
+makingOut r = record { refusal = refusalOf r; talker = valueOf talkerOut noTalker r }
+
+abbrev pub makingIn : FlatTalkerMade → Result Talker
+makingIn f = resultFrom talkerIn (f .refusal) (f .talker)
+
+abbrev pub MakingMade : FlatTalkerMade → Type 0
+MakingMade f = Made TalkerMade noTalker (f .refusal) (f .talker)
+
+-- from the answer in which the talker stands beside its outcome
+unfoldable pub madeOut : made.Made → FlatTalkerMade
+madeOut m = record { refusal = listRefusal (m .outcome); talker = talkerOut (m .talker) }
 
 -- what a call reports: 0 nothing, 1 refused with its number, 2 agreed with the version, 3 failed, 4 left; number and version
 -- are 0 elsewhere

@@ -21,6 +21,8 @@ ghost use Rattle.kospelna.specs.Talk.{
   readingOut,
   talkerIn,
   talkerOut,
+  madeOut,
+  makingOut,
   outcomeNumber,
   outcomeRefusal,
   outcomeVersion,
@@ -41,6 +43,7 @@ ghost use Rattle.version.specs.Told.{toldOutcome, told};
 use version::Answer;
 use version::ListOutcome;
 use version::Listed;
+use version::Made;
 use version::Message;
 use version::MessageReading;
 use version::Outcome;
@@ -103,6 +106,13 @@ pub struct FlatTalker {
     pub period: u16,
     pub age: u16,
     pub timing: bool,
+}
+
+// What making answers: the refusal's number, 0 where there is none, and the talker, zeros where refused.
+#[repr(C)]
+pub struct FlatTalkerMade {
+    pub refusal: u8,
+    pub talker: FlatTalker,
 }
 
 // Outcome 0: quiet; 1: refused, with the refusal's number; 2: agreed, with the version; 3: failed; 4: left. What an outcome
@@ -329,6 +339,16 @@ fn write_talker(t: Talker) -> FlatTalker
     }
 }
 
+fn write_made(made: Made) -> FlatTalkerMade
+    ensures { λ r. ⌜ r ≡ madeOut made ⌝ }
+{
+    let kept = made.talker;
+    let came = made.outcome;
+    let talker = write_talker(kept);
+    let refusal = list_refusal(came);
+    FlatTalkerMade { refusal, talker }
+}
+
 fn outcome_number(outcome: Outcome) -> u8
     ensures { λ r. ⌜ r ≡ outcomeNumber (toldOutcome outcome) ⌝ }
 {
@@ -419,14 +439,18 @@ pub extern "C" fn kospelna_version_message_read(bytes: FlatVersionBytes) -> Flat
     write_reading(version::wire::read(b))
 }
 
-// A talker in S0, Ns at the highest version, the result continue.
+// A talker in S0, Ns at the highest version, the result continue; or refusal 11.
 #[no_mangle]
-pub extern "C" fn kospelna_talker_make(side: u8, versions: FlatVersions, control: u8) -> FlatTalker
-    ensures { λ r. ⌜ r ≡ talkerOut (makeOf (sideIn side) (versionsIn versions) control) ⌝ }
+pub extern "C" fn kospelna_talker_make(
+    side: u8,
+    versions: FlatVersions,
+    control: u8,
+) -> FlatTalkerMade
+    ensures { λ r. ⌜ r ≡ makingOut (makeOf (sideIn side) (versionsIn versions) control) ⌝ }
 {
     let of = read_side(side);
     let kept = read_versions(versions);
-    write_talker(Talker::make(of, kept, control))
+    write_made(Talker::make(of, kept, control))
 }
 
 // The physical connection is complete.
