@@ -56,10 +56,7 @@ impl Around for Reference {
 
     fn identifier_split(&self, identifier: u32) -> FlatIdentifierSplitting {
         let (refusal, parts) = told(identifier::read(identifier).map(flat_parts));
-        FlatIdentifierSplitting {
-            refusal,
-            parts,
-        }
+        FlatIdentifierSplitting { refusal, parts }
     }
 
     fn charger_address(&self) -> u32 {
@@ -81,10 +78,7 @@ impl Around for Reference {
     fn version_list(&self, bytes: &[u8]) -> FlatVersionListing {
         let listed = versions(bytes).map(|list| flat_versions(&list));
         let (refusal, versions) = told(listed);
-        FlatVersionListing {
-            refusal,
-            versions,
-        }
+        FlatVersionListing { refusal, versions }
     }
 
     fn version_message_write(&self, message: FlatVersionMessage) -> FlatVersionWriting {
@@ -106,24 +100,18 @@ impl Around for Reference {
             control: bytes.bytes[5],
         });
         let (refusal, message) = told(read);
-        FlatVersionReading {
-            refusal,
-            message,
-        }
+        FlatVersionReading { refusal, message }
     }
 
-    /// A reference's talker is made of a list that listing answers. Of any other list it is made as of a single version, but
-    /// for that list and a place one before its count.
-    fn talker_make(&self, side: u8, versions: FlatVersions, control: u8) -> FlatTalker {
-        let make = |list: &[Version]| Talker::make(side_of(side), list, control);
-        let made = match make(&list_of(versions)) {
-            Ok(made) if versions.count <= 8 => flat_talker(&made),
-            _ => FlatTalker {
-                place: versions.count.saturating_sub(1),
-                ..flat_talker(&make(&[[0; 3]]).expect("one version is a list"))
-            },
-        };
-        FlatTalker { versions, ..made }
+    /// A talker keeps its list as it is given, with what stands past the count.
+    fn talker_make(&self, side: u8, versions: FlatVersions, control: u8) -> FlatTalkerMade {
+        let FlatVersions { count, numbers } = versions;
+        let made = Talker::make_listed(side_of(side), count, numbers, control);
+        let (refusal, talker) = told(made.map(|end| FlatTalker {
+            versions,
+            ..flat_talker(&end)
+        }));
+        FlatTalkerMade { refusal, talker }
     }
 
     fn talker_connect(&self, talker: FlatTalker) -> FlatTalkerAnswer {
@@ -168,10 +156,7 @@ impl Around for Reference {
             }
         });
         let (refusal, group) = told(read);
-        FlatGroupReading {
-            refusal,
-            group,
-        }
+        FlatGroupReading { refusal, group }
     }
 
     fn group_write(&self, group: FlatGroup, bytes: &mut [u8]) -> FlatGroupWriting {
@@ -182,10 +167,7 @@ impl Around for Reference {
 
     fn group_find(&self, code: u8) -> FlatGroupFinding {
         let (refusal, row) = told(row_of(code).map(flat_row).ok_or(refusal::GROUP));
-        FlatGroupFinding {
-            refusal,
-            row,
-        }
+        FlatGroupFinding { refusal, row }
     }
 }
 
@@ -369,9 +351,9 @@ fn called(
     let (outcome, version) = match end.state {
         _ if refused.is_some() => (1, 0),
         after if after == before => (0, 0),
-        State::S2 | State::S3 => (2, number(end.at_ns())),
+        State::S2 | State::S3 => (6, number(end.at_ns())),
         State::S4 => (3, 0),
-        State::S5 => (4, 0),
+        State::S5 => (7, 0),
         State::S0 | State::S1 => (0, 0),
     };
     let next = flat_talker(&end);

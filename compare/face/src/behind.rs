@@ -112,7 +112,7 @@ mod called {
             Reference.version_message_read(bytes)
         }
 
-        fn kospelna_talker_make(side: u8, versions: FlatVersions, control: u8) -> FlatTalker {
+        fn kospelna_talker_make(side: u8, versions: FlatVersions, control: u8) -> FlatTalkerMade {
             Reference.talker_make(side, versions, control)
         }
 

@@ -88,7 +88,7 @@ pub enum Answer {
     Listing(FlatVersionListing),
     Bytes(FlatVersionWriting),
     Message(FlatVersionReading),
-    Talker(FlatTalker),
+    TalkerMade(FlatTalkerMade),
     Talk(FlatTalkerAnswer),
     Group(FlatGroupReading),
     /// With the lent bytes afterwards.
@@ -129,7 +129,7 @@ fn answer_around(face: &impl Face, call: &Call) -> Answer {
         Call::MessageWrite(message) => Answer::Bytes(face.version_message_write(*message)),
         Call::MessageRead(bytes) => Answer::Message(face.version_message_read(*bytes)),
         Call::TalkerMake(side, versions, control) => {
-            Answer::Talker(face.talker_make(*side, *versions, *control))
+            Answer::TalkerMade(face.talker_make(*side, *versions, *control))
         }
         Call::TalkerConnect(talker) => Answer::Talk(face.talker_connect(*talker)),
         Call::TalkerTick(talker) => Answer::Talk(face.talker_tick(*talker)),
@@ -251,12 +251,15 @@ pub struct Pair<'a, L, R> {
     pub tally: Tally,
 }
 
+/// The outcomes of the ends and of talkers: 0 to 7.
+pub const OUTCOMES: usize = 8;
+
 /// Calls by function, and answers by function and outcome.
 #[derive(Clone, Debug, Default)]
 pub struct Tally {
     pub calls: [u64; NAMES.len()],
-    /// At each function: outcome 0 to 4; where it answers none, 1 is refused.
-    pub outcomes: [[u64; 5]; NAMES.len()],
+    /// At each function: outcome 0 to 7; where it answers none, 1 is refused.
+    pub outcomes: [[u64; OUTCOMES]; NAMES.len()],
 }
 
 impl Tally {
@@ -266,7 +269,7 @@ impl Tally {
 
     fn add(&mut self, place: usize, answer: &Answer) {
         self.calls[place] += 1;
-        self.outcomes[place][usize::from(outcome(answer)).min(4)] += 1;
+        self.outcomes[place][usize::from(outcome(answer)).min(OUTCOMES - 1)] += 1;
     }
 }
 
@@ -285,7 +288,8 @@ fn outcome(answer: &Answer) -> u8 {
         Answer::Written(writing, _) => u8::from(writing.refusal != 0),
         Answer::Finding(finding) => u8::from(finding.refusal != 0),
         Answer::Bytes(writing) => u8::from(writing.refusal != 0),
-        Answer::Number(_) | Answer::Talker(_) => 0,
+        Answer::TalkerMade(made) => u8::from(made.refusal != 0),
+        Answer::Number(_) => 0,
     }
 }
 

@@ -283,15 +283,18 @@ pub fn flat_receiver(end: &Receiver) -> FlatReceiver {
     }
 }
 
-fn receiver_answer(end: &Receiver, answer: Result<receiver::Answer, Refused>) -> FlatReceiverAnswer {
+fn receiver_answer(
+    end: &Receiver,
+    answer: Result<receiver::Answer, Refused>,
+) -> FlatReceiverAnswer {
     let (frame, (outcome, refusal, cause, length, bytes)) = match answer {
         Err(Refused(number)) => (None, (1, number, 0, 0, [0; 8])),
         Ok(receiver::Answer { frame, report }) => {
             let numbers = match report {
                 None => (0, 0, 0, 0, [0; 8]),
-                Some(receiver::Report::Delivered { l }) => (2, 0, 0, l, [0; 8]),
+                Some(receiver::Report::Delivered { l }) => (4, 0, 0, l, [0; 8]),
                 Some(receiver::Report::Failed { cause }) => (3, 0, cause, 0, [0; 8]),
-                Some(receiver::Report::Short(bytes)) => (4, 0, 0, 0, bytes),
+                Some(receiver::Report::Short(bytes)) => (5, 0, 0, 0, bytes),
             };
             (frame, numbers)
         }

@@ -24,7 +24,8 @@ mod linked {
             length: usize,
         ) -> FlatSenderAnswer;
         pub fn kospelna_sender_hear(sender: FlatSender, frame: FlatFrame) -> FlatSenderAnswer;
-        pub fn kospelna_receiver_make(timeout: u16, window: u16, capacity: u16) -> FlatReceiverMade;
+        pub fn kospelna_receiver_make(timeout: u16, window: u16, capacity: u16)
+            -> FlatReceiverMade;
         pub fn kospelna_receiver_tick(receiver: FlatReceiver) -> FlatReceiverAnswer;
         pub fn kospelna_receiver_hear(
             receiver: FlatReceiver,
@@ -42,10 +43,17 @@ mod linked {
         pub fn kospelna_version_list(bytes: *const u8, length: usize) -> FlatVersionListing;
         pub fn kospelna_version_message_write(message: FlatVersionMessage) -> FlatVersionWriting;
         pub fn kospelna_version_message_read(bytes: FlatVersionBytes) -> FlatVersionReading;
-        pub fn kospelna_talker_make(side: u8, versions: FlatVersions, control: u8) -> FlatTalker;
+        pub fn kospelna_talker_make(
+            side: u8,
+            versions: FlatVersions,
+            control: u8,
+        ) -> FlatTalkerMade;
         pub fn kospelna_talker_connect(talker: FlatTalker) -> FlatTalkerAnswer;
         pub fn kospelna_talker_tick(talker: FlatTalker) -> FlatTalkerAnswer;
-        pub fn kospelna_talker_hear(talker: FlatTalker, bytes: FlatVersionBytes) -> FlatTalkerAnswer;
+        pub fn kospelna_talker_hear(
+            talker: FlatTalker,
+            bytes: FlatVersionBytes,
+        ) -> FlatTalkerAnswer;
         pub fn kospelna_talker_stop(talker: FlatTalker) -> FlatTalkerAnswer;
         pub fn kospelna_talker_greet(talker: FlatTalker) -> FlatTalkerAnswer;
         pub fn kospelna_talker_functions_heard(talker: FlatTalker) -> FlatTalkerAnswer;

@@ -31,7 +31,7 @@ pub trait Around {
     fn version_list(&self, bytes: &[u8]) -> FlatVersionListing;
     fn version_message_write(&self, message: FlatVersionMessage) -> FlatVersionWriting;
     fn version_message_read(&self, bytes: FlatVersionBytes) -> FlatVersionReading;
-    fn talker_make(&self, side: u8, versions: FlatVersions, control: u8) -> FlatTalker;
+    fn talker_make(&self, side: u8, versions: FlatVersions, control: u8) -> FlatTalkerMade;
     fn talker_connect(&self, talker: FlatTalker) -> FlatTalkerAnswer;
     fn talker_tick(&self, talker: FlatTalker) -> FlatTalkerAnswer;
     fn talker_hear(&self, talker: FlatTalker, bytes: FlatVersionBytes) -> FlatTalkerAnswer;
@@ -154,7 +154,7 @@ macro_rules! through {
             }
 
             #[inline]
-            fn talker_make(&self, side: u8, versions: FlatVersions, control: u8) -> FlatTalker {
+            fn talker_make(&self, side: u8, versions: FlatVersions, control: u8) -> FlatTalkerMade {
                 unsafe { $module::kospelna_talker_make(side, versions, control) }
             }
 

@@ -5,7 +5,7 @@ use compare::reference::groups::ROWS;
 
 use crate::call::Call;
 use crate::frames::random_bytes;
-use crate::lists::{accepted, forged, lent, message};
+use crate::lists::{accepted, lent, message, offered};
 use crate::values::*;
 
 pub fn identifier_call(random: &mut Random) -> Call {
@@ -59,12 +59,12 @@ fn identifier(random: &mut Random) -> u32 {
 }
 
 pub fn version_call(random: &mut Random) -> Call {
-    match random.weighted(&[35, 25, 30, 10]) {
+    match random.weighted(&[30, 25, 25, 20]) {
         0 => Call::List(lent(random)),
         1 => Call::MessageWrite(FlatVersionMessage {
-            verdict: match random.percent(90) {
+            verdict: match random.percent(75) {
                 true => random.between(0, 2) as u8,
-                false => random.byte(),
+                false => random.pick(&[3, 4, 128, 255]),
             },
             version: u32::from_le_bytes(random_bytes(random)) & 0x00FF_FFFF,
             control: random.byte(),
@@ -73,7 +73,7 @@ pub fn version_call(random: &mut Random) -> Call {
             let versions = accepted(random);
             Call::MessageRead(message(random, &versions))
         }
-        _ => Call::TalkerMake(random.pick(&[0, 1, 2, 255]), forged(random), random.byte()),
+        _ => Call::TalkerMake(random.pick(&[0, 1, 2, 255]), offered(random), random.byte()),
     }
 }
 

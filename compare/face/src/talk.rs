@@ -48,10 +48,10 @@ impl Talk {
                 return Ok(());
             }
             let make = Call::TalkerMake(side as u8, listing.versions, self.controls[side]);
-            let Answer::Talker(made) = pair.compare(make)? else {
-                unreachable!("making is answered by a talker");
+            let Answer::TalkerMade(made) = pair.compare(make)? else {
+                unreachable!("making is answered by a talker or its refusal");
             };
-            *talker = made;
+            *talker = made.talker;
         }
         let said = [None; 2];
         let mut sides = Sides { talkers, said };

@@ -76,7 +76,7 @@ pub struct FlatReceiverMade {
     pub receiver: FlatReceiver,
 }
 
-/// Outcome 0 is quiet, 1 refused, 2 delivered, 3 failed, 4 short.
+/// Outcome 0 is quiet, 1 refused, 3 failed, 4 delivered, 5 short.
 #[repr(C)]
 #[derive(Clone, Copy, Debug, PartialEq, Eq)]
 pub struct FlatReceiverAnswer {
@@ -175,7 +175,14 @@ pub struct FlatTalker {
     pub timing: bool,
 }
 
-/// Outcome 0 is quiet, 1 refused, 2 agreed on the version, 3 failed, 4 left.
+#[repr(C)]
+#[derive(Clone, Copy, Debug, PartialEq, Eq)]
+pub struct FlatTalkerMade {
+    pub refusal: u8,
+    pub talker: FlatTalker,
+}
+
+/// Outcome 0 is quiet, 1 refused, 3 failed, 6 agreed on the version, 7 left.
 #[repr(C)]
 #[derive(Clone, Copy, Debug, PartialEq, Eq)]
 pub struct FlatTalkerAnswer {

@@ -29,7 +29,7 @@ fn sender(phase: u8) -> FlatSender {
         frames: 3,
         emitted: 1,
         start: 1,
-        next: 1,
+        due: 1,
         last: 2,
         ..FlatSender::default()
     }

@@ -195,6 +195,7 @@ writing-numbered g s = pick-elim Known _ (λ e. by-row (findIn (g .code) rows) (
   where
     Known : Outcome → Type 0
     Known o = Numbered (o .answer)
+
     by-row : (r : Result Row) → Numbered r → Known (writeBy g s r)
     by-row (accepted x) h = pick-elim Known _ (λ e. tt) (λ e. omega arith)
     by-row (refused n) h = h

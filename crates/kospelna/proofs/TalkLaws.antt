@@ -29,7 +29,7 @@ use Rattle.version.specs.declared.Talker.{Talker}
 use Rattle.version.specs.declared.Verdict.{Verdict}
 use Rattle.version.specs.declared.Verdict.the-variants.{Continue, Success, Failure}
 use Rattle.version.specs.declared.Versions.{Versions}
-use Rattle.kospelna.specs.Talk.{sideNumber, sideIn, stateNumber, stateIn, verdictIn, versionsIn, versionsOut, noVersions, listRefusal, listedOut, listingOut, listingIn, ListingMade, messageIn, messageOut, MessageMade, bytesIn, bytesOut, noBytes, messageBytes, writingOut, writingIn, WritingMade, noMessage, readingOut, readingIn, ReadingMade, talkerIn, talkerOut, TalkerMade, noTalker, makingOut, makingIn, MakingMade, madeOut, outcomeNumber, outcomeRefusal, outcomeVersion, outcomeIn, answerOut, answerIn, AnswerMade}
+use Rattle.kospelna.specs.Talk.{sideNumber, sideIn, stateNumber, stateIn, verdictIn, versionsIn, versionsOut, noVersions, listRefusal, listedOut, listingOut, listingIn, ListingMade, messageIn, messageOut, MessageMade, bytesIn, bytesOut, noBytes, messageBytes, writingOut, writingIn, WritingMade, noMessage, readingOut, readingIn, ReadingMade, talkerIn, talkerOut, TalkerMade, noTalker, makingOut, makingIn, MakingMade, madeOut, outcomeNumber, outcomeRefusal, outcomeVersion, outcomeIn, OutcomeMade, made-quiet, made-refused, made-failed, made-agreed, made-left, answerOut, answerIn, AnswerMade}
 use Rattle.kospelna.specs.declared.talk.FlatVersions.{FlatVersions}
 use Rattle.kospelna.specs.declared.talk.FlatVersionListing.{FlatVersionListing}
 use Rattle.kospelna.specs.declared.talk.FlatVersionMessage.{FlatVersionMessage}
@@ -428,32 +428,28 @@ pub answer-read : (a : Told) → answerIn (answerOut a) ≡ a
 unfolding answerIn answerOut
 answer-read a = rw (talker-read (a .next), outcome-read (a .outcome))
 
-outcome-made : (o : Outcome)
-    → (outcomeNumber o ≤ 4) × ((outcomeNumber o ≡ 1 → ⊥) → outcomeRefusal o ≡ 0) × ((outcomeNumber o ≡ 2 → ⊥) → outcomeVersion o ≡ 0)
-outcome-made quiet = (omega arith, λ h. refl, λ h. refl)
-outcome-made (refused n) = (omega arith, λ h. absurd (h refl), λ h. refl)
-outcome-made (agreed v) = (omega arith, λ h. refl, λ h. absurd (h refl))
-outcome-made failed = (omega arith, λ h. refl, λ h. refl)
-outcome-made left = (omega arith, λ h. refl, λ h. refl)
+outcome-made : (o : Outcome) → OutcomeMade (outcomeNumber o) (outcomeRefusal o) (outcomeVersion o)
+outcome-made quiet = made-quiet
+outcome-made (refused n) = made-refused n
+outcome-made (agreed v) = made-agreed v
+outcome-made failed = made-failed
+outcome-made left = made-left
 
 pub answer-made : (a : Told) → AnswerMade (answerOut a)
 unfolding answerOut
-answer-made a =
-    let o = outcome-made (a .outcome) in
-    record { next = talker-made (a .next); outcome = o .0; refusal = o .1; version = o .2 }
+answer-made a = (talker-made (a .next), outcome-made (a .outcome))
 
-outcome-written : (n r v : ℕ) → n ≤ 4 → ((n ≡ 1 → ⊥) → r ≡ 0) → ((n ≡ 2 → ⊥) → v ≡ 0)
+outcome-written : {n r v : ℕ} → OutcomeMade n r v
     → (outcomeNumber (outcomeIn n r v) ≡ n) × (outcomeRefusal (outcomeIn n r v) ≡ r) × (outcomeVersion (outcomeIn n r v) ≡ v)
 unfolding outcomeIn pick
-outcome-written zero r v h a b = rw (a (λ e. omega arith), b (λ e. omega arith)) (refl, refl, refl)
-outcome-written (suc zero) r v h a b = rw (b (λ e. omega arith)) (refl, refl, refl)
-outcome-written (suc (suc zero)) r v h a b = rw (a (λ e. omega arith)) (refl, refl, refl)
-outcome-written (suc (suc (suc zero))) r v h a b = rw (a (λ e. omega arith), b (λ e. omega arith)) (refl, refl, refl)
-outcome-written (suc (suc (suc (suc zero)))) r v h a b = rw (a (λ e. omega arith), b (λ e. omega arith)) (refl, refl, refl)
-outcome-written (suc (suc (suc (suc (suc n))))) r v h a b = absurd (omega arith)
+outcome-written made-quiet = (refl, refl, refl)
+outcome-written (made-refused n) = (refl, refl, refl)
+outcome-written made-failed = (refl, refl, refl)
+outcome-written (made-agreed v) = (refl, refl, refl)
+outcome-written made-left = (refl, refl, refl)
 
 pub answer-written : (f : FlatTalkerAnswer) → AnswerMade f → answerOut (answerIn f) ≡ f
 unfolding answerIn answerOut
 answer-written f made =
-    let o = outcome-written (f .outcome) (f .refusal) (f .version) (made .outcome) (made .refusal) (made .version) in
-    rw (talker-written (f .next) (made .next), o .0, o .1, o .2)
+    let o = outcome-written (made .1) in
+    rw (talker-written (f .next) (made .0), o .0, o .1, o .2)

@@ -201,14 +201,14 @@ MakingMade f = Made TalkerMade noTalker (f .refusal) (f .talker)
 unfoldable pub madeOut : made.Made → FlatTalkerMade
 madeOut m = record { refusal = listRefusal (m .outcome); talker = talkerOut (m .talker) }
 
--- what a call reports: 0 nothing, 1 refused with its number, 2 agreed with the version, 3 failed, 4 left; number and version
+-- what a call reports: 0 nothing, 1 refused with its number, 3 failed, 6 agreed with the version, 7 left; number and version
 -- are 0 elsewhere
 abbrev pub outcomeNumber : Outcome → ℕ
 outcomeNumber quiet = 0
 outcomeNumber (refused n) = 1
-outcomeNumber (agreed v) = 2
+outcomeNumber (agreed v) = 6
 outcomeNumber failed = 3
-outcomeNumber left = 4
+outcomeNumber left = 7
 
 abbrev pub outcomeRefusal : Outcome → ℕ
 outcomeRefusal quiet = 0
@@ -227,7 +227,7 @@ outcomeVersion left = 0
 -- any other number is read as 0
 unfoldable pub outcomeIn : ℕ → ℕ → ℕ → Outcome
 outcomeIn n number version =
-    pick (eqb n 1) (refused number) (pick (eqb n 2) (agreed version) (pick (eqb n 3) failed (pick (eqb n 4) left quiet)))
+    pick (eqb n 1) (refused number) (pick (eqb n 3) failed (pick (eqb n 6) (agreed version) (pick (eqb n 7) left quiet)))
 
 -- a call's whole answer
 unfoldable pub answerOut : Told → FlatTalkerAnswer
@@ -250,9 +250,14 @@ answerIn f =
       outcome = outcomeIn (f .outcome) (f .refusal) (f .version);
     }
 
+-- the numbers that writing makes of an outcome
+pub data OutcomeMade : ℕ → ℕ → ℕ → Type 0 where
+  made-quiet : OutcomeMade 0 0 0
+  made-refused : (number : ℕ) → OutcomeMade 1 number 0
+  made-failed : OutcomeMade 3 0 0
+  made-agreed : (version : ℕ) → OutcomeMade 6 0 version
+  made-left : OutcomeMade 7 0 0
+
 -- the flat answers that writing makes
-pub record AnswerMade (f : FlatTalkerAnswer) : Type 0 where
-  pub next : TalkerMade (f .next)
-  pub outcome : f .outcome ≤ 4
-  pub refusal : (f .outcome ≡ 1 → ⊥) → f .refusal ≡ 0
-  pub version : (f .outcome ≡ 2 → ⊥) → f .version ≡ 0
+abbrev pub AnswerMade : FlatTalkerAnswer → Type 0
+AnswerMade f = TalkerMade (f .next) × OutcomeMade (f .outcome) (f .refusal) (f .version)

@@ -94,10 +94,7 @@ fn write_reading(reading: Reading) -> FlatGroupReading
     match reading {
         Reading::Group(g) => {
             let group = write_group(g);
-            FlatGroupReading {
-                refusal: 0,
-                group,
-            }
+            FlatGroupReading { refusal: 0, group }
         }
         Reading::Refused(refusal) => {
             let group = FlatGroup {
@@ -107,10 +104,7 @@ fn write_reading(reading: Reading) -> FlatGroupReading
                 third: 0,
                 fourth: 0,
             };
-            FlatGroupReading {
-                refusal,
-                group,
-            }
+            FlatGroupReading { refusal, group }
         }
     }
 }
@@ -119,12 +113,8 @@ fn write_writing(writing: Writing) -> FlatGroupWriting
     ensures { λ r. ⌜ r ≡ writingOut (toldWriting writing) ⌝ }
 {
     match writing {
-        Writing::Done => FlatGroupWriting {
-            refusal: 0,
-        },
-        Writing::Refused(refusal) => FlatGroupWriting {
-            refusal,
-        },
+        Writing::Done => FlatGroupWriting { refusal: 0 },
+        Writing::Refused(refusal) => FlatGroupWriting { refusal },
     }
 }
 
@@ -160,10 +150,7 @@ fn write_finding(finding: Finding) -> FlatGroupFinding
     match finding {
         Finding::Row(x) => {
             let row = write_row(x);
-            FlatGroupFinding {
-                refusal: 0,
-                row,
-            }
+            FlatGroupFinding { refusal: 0, row }
         }
         Finding::Refused(refusal) => {
             let row = FlatGroupRow {
@@ -176,10 +163,7 @@ fn write_finding(finding: Finding) -> FlatGroupFinding
                 third: 0,
                 fourth: 0,
             };
-            FlatGroupFinding {
-                refusal,
-                row,
-            }
+            FlatGroupFinding { refusal, row }
         }
     }
 }

@@ -78,10 +78,7 @@ fn write_splitting(parted: Parted) -> FlatIdentifierSplitting
     match parted {
         Parted::Into(x) => {
             let parts = write_parts(x);
-            FlatIdentifierSplitting {
-                refusal: 0,
-                parts,
-            }
+            FlatIdentifierSplitting { refusal: 0, parts }
         }
         Parted::Refused(refusal) => {
             let parts = FlatIdentifierParts {
@@ -92,10 +89,7 @@ fn write_splitting(parted: Parted) -> FlatIdentifierSplitting
                 ps: 0,
                 sa: 0,
             };
-            FlatIdentifierSplitting {
-                refusal,
-                parts,
-            }
+            FlatIdentifierSplitting { refusal, parts }
         }
     }
 }

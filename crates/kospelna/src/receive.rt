@@ -57,7 +57,7 @@ pub struct FlatReceiverMade {
 }
 
 // What a call answers: the next state; whether a frame goes out, and which (zeros where none does); the outcome's number
-// (0 quiet, 1 refused, 2 delivered, 3 failed, 4 short); the refusal's number; a failure's cause; the delivered length; the
+// (0 quiet, 1 refused, 3 failed, 4 delivered, 5 short); the refusal's number; a failure's cause; the delivered length; the
 // bytes of a short delivery. What an outcome has not is 0.
 #[repr(C)]
 pub struct FlatReceiverAnswer {
@@ -181,9 +181,9 @@ fn write_outcome(outcome: Outcome) -> Report
     match outcome {
         Outcome::Quiet => reported(0, 0, 0, 0),
         Outcome::Refused(number) => reported(1, number, 0, 0),
-        Outcome::Delivered(length) => reported(2, 0, 0, length),
+        Outcome::Delivered(length) => reported(4, 0, 0, length),
         Outcome::Failed(cause) => reported(3, 0, cause, 0),
-        Outcome::Short => reported(4, 0, 0, 0),
+        Outcome::Short => reported(5, 0, 0, 0),
     }
 }
 
@@ -236,7 +236,11 @@ fn write_made(m: Made) -> FlatReceiverMade
 
 // An idle receiver with these settings, nothing delivered.
 #[no_mangle]
-pub extern "C" fn kospelna_receiver_make(timeout: u16, window: u16, capacity: u16) -> FlatReceiverMade
+pub extern "C" fn kospelna_receiver_make(
+    timeout: u16,
+    window: u16,
+    capacity: u16,
+) -> FlatReceiverMade
     ensures { λ r. ⌜ r ≡ flatMade (makeOf timeout window capacity) ⌝ }
 {
     write_made(Receiver::make(timeout, window, capacity))

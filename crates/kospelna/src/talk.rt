@@ -115,8 +115,8 @@ pub struct FlatTalkerMade {
     pub talker: FlatTalker,
 }
 
-// Outcome 0: quiet; 1: refused, with the refusal's number; 2: agreed, with the version; 3: failed; 4: left. What an outcome
-// does not name is 0. Where emits is false, bytes are eight zeros.
+// Outcome 0: quiet; 1: refused, with the refusal's number; 3: failed; 6: agreed, with the version; 7: left. What an outcome
+// has not is 0. Where emits is false, bytes are eight zeros.
 #[repr(C)]
 pub struct FlatTalkerAnswer {
     pub next: FlatTalker,
@@ -227,10 +227,7 @@ fn write_listing(listed: Listed) -> FlatVersionListing
     let came = listed.outcome;
     let versions = write_versions(kept);
     let refusal = list_refusal(came);
-    FlatVersionListing {
-        refusal,
-        versions,
-    }
+    FlatVersionListing { refusal, versions }
 }
 
 fn read_message(f: FlatVersionMessage) -> Message
@@ -286,10 +283,7 @@ fn write_reading(reading: MessageReading) -> FlatVersionReading
                 version: 0,
                 control: 0,
             };
-            FlatVersionReading {
-                refusal,
-                message,
-            }
+            FlatVersionReading { refusal, message }
         }
     }
 }
@@ -355,9 +349,9 @@ fn outcome_number(outcome: Outcome) -> u8
     match outcome {
         Outcome::Quiet => 0,
         Outcome::Refused(_) => 1,
-        Outcome::Agreed(_) => 2,
+        Outcome::Agreed(_) => 6,
         Outcome::Failed => 3,
-        Outcome::Left => 4,
+        Outcome::Left => 7,
     }
 }
 
@@ -473,7 +467,10 @@ pub extern "C" fn kospelna_talker_tick(talker: FlatTalker) -> FlatTalkerAnswer
 
 // A message of the other side is heard.
 #[no_mangle]
-pub extern "C" fn kospelna_talker_hear(talker: FlatTalker, bytes: FlatVersionBytes) -> FlatTalkerAnswer
+pub extern "C" fn kospelna_talker_hear(
+    talker: FlatTalker,
+    bytes: FlatVersionBytes,
+) -> FlatTalkerAnswer
     ensures { λ r. ⌜ r ≡ answerOut (hearOf (talkerIn talker) (bytesIn bytes)) ⌝ }
 {
     let t = read_talker(talker);

@@ -36,7 +36,10 @@ pub const MISTAKES: &[(&str, Mistake)] = &[
         "the control byte in the transport's place",
         Mistake::MessageWrite(control_moved),
     ),
-    ("result 3 is written", Mistake::MessageWrite(result_3_written)),
+    (
+        "result 3 is written",
+        Mistake::MessageWrite(result_3_written),
+    ),
     (
         "result 2 is not written",
         Mistake::MessageWrite(result_2_refused),
@@ -44,9 +47,28 @@ pub const MISTAKES: &[(&str, Mistake)] = &[
     ("result 3 is read", Mistake::MessageRead(result_3)),
     ("CAN type 1 is read", Mistake::MessageRead(can_1)),
     ("made at the lowest version", Mistake::TalkerMake(at_lowest)),
+    ("made of no versions", Mistake::TalkerMake(count_0)),
+    ("made of a count of nine", Mistake::TalkerMake(count_9)),
     (
-        "made at the count's low byte",
-        Mistake::TalkerMake(at_low_byte),
+        "made of a count modulo 256",
+        Mistake::TalkerMake(count_modulo),
+    ),
+    ("made of an unsorted list", Mistake::TalkerMake(unsorted)),
+    (
+        "made of two equal versions",
+        Mistake::TalkerMake(equal_made),
+    ),
+    (
+        "made of a version of four bytes",
+        Mistake::TalkerMake(four_bytes),
+    ),
+    (
+        "what stands past the count is judged",
+        Mistake::TalkerMake(past_the_count),
+    ),
+    (
+        "a refused making leaves the list",
+        Mistake::TalkerMake(refused_kept),
     ),
     (
         "connect says success",
@@ -198,12 +220,86 @@ fn can_1(bytes: FlatVersionBytes, reading: &mut FlatVersionReading) {
     }
 }
 
-fn at_lowest(talker: &mut FlatTalker) {
-    talker.place = 0;
+fn at_lowest(_: u8, _: FlatVersions, made: &mut FlatTalkerMade) {
+    made.talker.place = 0;
 }
 
-fn at_low_byte(talker: &mut FlatTalker) {
-    talker.place = (talker.versions.count % 256).saturating_sub(1);
+/// Made of another list, and kept with the given one.
+fn made_of(side: u8, list: FlatVersions, versions: FlatVersions, made: &mut FlatTalkerMade) {
+    let control = made.talker.control;
+    *made = Reference.talker_make(side, list, control);
+    if made.refusal == 0 {
+        made.talker.versions = versions;
+    }
+}
+
+/// With version 0.0.0.
+fn count_0(side: u8, versions: FlatVersions, made: &mut FlatTalkerMade) {
+    if versions.count == 0 {
+        let list = FlatVersions {
+            count: 1,
+            numbers: [0; 8],
+        };
+        made_of(side, list, versions, made);
+    }
+}
+
+fn count_9(side: u8, versions: FlatVersions, made: &mut FlatTalkerMade) {
+    if versions.count == 9 {
+        let list = FlatVersions {
+            count: 8,
+            ..versions
+        };
+        made_of(side, list, versions, made);
+    }
+}
+
+fn count_modulo(side: u8, versions: FlatVersions, made: &mut FlatTalkerMade) {
+    let list = FlatVersions {
+        count: versions.count % 256,
+        ..versions
+    };
+    made_of(side, list, versions, made);
+}
+
+fn unsorted(side: u8, versions: FlatVersions, made: &mut FlatTalkerMade) {
+    let mut list = versions;
+    list.numbers[..versions.count.min(8) as usize].sort();
+    made_of(side, list, versions, made);
+}
+
+fn equal_made(side: u8, versions: FlatVersions, made: &mut FlatTalkerMade) {
+    let [first, second, ..] = versions.numbers;
+    if versions.count == 2 && first == second {
+        let list = FlatVersions {
+            count: 1,
+            ..versions
+        };
+        made_of(side, list, versions, made);
+    }
+}
+
+/// Judged by its three bytes.
+fn four_bytes(side: u8, versions: FlatVersions, made: &mut FlatTalkerMade) {
+    let list = FlatVersions {
+        numbers: versions.numbers.map(|number| number & 0x00FF_FFFF),
+        ..versions
+    };
+    made_of(side, list, versions, made);
+}
+
+fn past_the_count(side: u8, versions: FlatVersions, made: &mut FlatTalkerMade) {
+    let past = versions.numbers.iter().skip(versions.count as usize);
+    if past.into_iter().any(|&number| number != 0) {
+        let none = FlatVersions::default();
+        made_of(side, none, versions, made);
+    }
+}
+
+fn refused_kept(side: u8, versions: FlatVersions, made: &mut FlatTalkerMade) {
+    if made.refusal != 0 {
+        (made.talker.side, made.talker.versions) = (side, versions);
+    }
 }
 
 fn connect_success(_: FlatTalker, a: &mut FlatTalkerAnswer) {
@@ -269,7 +365,7 @@ fn none_lower(t: FlatTalker, bytes: FlatVersionBytes, a: &mut FlatTalkerAnswer) 
 }
 
 fn stop_fails(_: FlatTalker, a: &mut FlatTalkerAnswer) {
-    if a.outcome == 4 {
+    if a.outcome == 7 {
         a.outcome = 3;
     }
 }

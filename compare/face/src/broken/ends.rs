@@ -176,7 +176,7 @@ fn sender_wait_restarted(s: FlatSender, f: FlatFrame, a: &mut FlatSenderAnswer) 
 
 /// Stores whatever the frame carries.
 fn filler_copied(r: FlatReceiver, f: FlatFrame, buffer: &mut [u8], a: &mut FlatReceiverAnswer) {
-    if r.phase == OPEN && a.outcome == 2 {
+    if r.phase == OPEN && a.outcome == 4 {
         let start = 7 * (usize::from(r.expected) - 1);
         buffer[start..start + 7].copy_from_slice(&f.bytes[1..]);
     }
@@ -431,13 +431,13 @@ fn answered_later(r: FlatReceiver, f: FlatFrame, _: &mut [u8], a: &mut FlatRecei
 }
 
 fn urm_acknowledged(_: FlatReceiver, f: FlatFrame, _: &mut [u8], a: &mut FlatReceiverAnswer) {
-    if f.kind == 7 && a.outcome == 4 {
+    if f.kind == 7 && a.outcome == 5 {
         (a.emits, a.frame) = (true, filled(6, &[f.bytes[0]]));
     }
 }
 
 fn short_forgets(r: FlatReceiver, _: FlatFrame, _: &mut [u8], a: &mut FlatReceiverAnswer) {
-    if r.phase == DONE && a.outcome == 4 {
+    if r.phase == DONE && a.outcome == 5 {
         (a.next.phase, a.next.frames, a.next.length) = (0, 0, 0);
     }
 }

@@ -25,7 +25,7 @@ pub enum Mistake {
     List(fn(&[u8], &mut FlatVersionListing)),
     MessageWrite(fn(FlatVersionMessage, &mut FlatVersionWriting)),
     MessageRead(fn(FlatVersionBytes, &mut FlatVersionReading)),
-    TalkerMake(fn(&mut FlatTalker)),
+    TalkerMake(fn(u8, FlatVersions, &mut FlatTalkerMade)),
     TalkerConnect(fn(FlatTalker, &mut FlatTalkerAnswer)),
     TalkerTick(fn(FlatTalker, &mut FlatTalkerAnswer)),
     TalkerHear(fn(FlatTalker, FlatVersionBytes, &mut FlatTalkerAnswer)),
@@ -166,9 +166,9 @@ impl Around for Broken {
         answered!(self, right, MessageRead, bytes)
     }
 
-    fn talker_make(&self, side: u8, versions: FlatVersions, control: u8) -> FlatTalker {
+    fn talker_make(&self, side: u8, versions: FlatVersions, control: u8) -> FlatTalkerMade {
         let right = Reference.talker_make(side, versions, control);
-        answered!(self, right, TalkerMake,)
+        answered!(self, right, TalkerMake, side, versions)
     }
 
     fn talker_connect(&self, talker: FlatTalker) -> FlatTalkerAnswer {

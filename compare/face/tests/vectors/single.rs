@@ -12,44 +12,50 @@ pub fn answer(face: &impl Around, call: &str, words: &[&str]) -> String {
     match call {
         "find" => {
             let found = face.group_find(byte(words[0]));
-            told(found.outcome, found.refusal, found.row, row)
+            told(found.refusal, found.row, row)
         }
         "read" => {
             let read = face.group_read(&bytes(words));
-            told(read.outcome, read.refusal, read.group, group)
+            told(read.refusal, read.group, group)
         }
         "write" => write(face, words),
         "named" => {
             let [secc, evcc] = [face.charger_address(), face.vehicle_address()];
-            let [charger, vehicle] = [face.charger_version_identifier(), face.vehicle_version_identifier()];
+            let [charger, vehicle] = [
+                face.charger_version_identifier(),
+                face.vehicle_version_identifier(),
+            ];
             format!(" {secc:X} {evcc:X} {charger:08X} {vehicle:08X}")
         }
         "join" => {
             let joined = face.identifier_join(parts_of(words));
             let tell = |identifier| format!(" {identifier:08X}");
-            told(joined.outcome, joined.refusal, joined.identifier, tell)
+            told(joined.refusal, joined.identifier, tell)
         }
-        "part" => {
+        "split" => {
             let [identifier] = hexadecimal(words);
-            let parted = face.identifier_split(identifier);
-            told(parted.outcome, parted.refusal, parted.parts, parts)
+            let split = face.identifier_split(identifier);
+            told(split.refusal, split.parts, parts)
         }
         "list" => {
             let listed = face.version_list(&bytes(words));
-            told(listed.outcome, listed.refusal, listed.versions, versions)
+            told(listed.refusal, listed.versions, versions)
         }
         "message" => {
             let bytes = eight(words);
             let read = face.version_message_read(FlatVersionBytes { bytes });
-            told(read.outcome, read.refusal, read.message, message)
+            told(read.refusal, read.message, message)
         }
-        "say" => hex(&face.version_message_write(message_of(words)).bytes),
+        "say" => {
+            let written = face.version_message_write(message_of(words));
+            told(written.refusal, written.bytes, |said| hex(&said.bytes))
+        }
         _ => panic!("no such call: {call}"),
     }
 }
 
 fn row(row: FlatGroupRow) -> String {
-    let sender = ["charger", "vehicle"][usize::from(row.sender)];
+    let sender = ["charger", "vehicle"][usize::from(row.side)];
     let reliable = if row.reliable { " reliable" } else { "" };
     let kinds = [row.first, row.second, row.third, row.fourth].map(|kind| format!(" {kind}"));
     let kinds = kinds.concat();
@@ -75,7 +81,7 @@ fn write(face: &impl Around, words: &[&str]) -> String {
     assert_eq!(words[5], "into");
     let mut lent = bytes(&words[6..]);
     let done = face.group_write(group, &mut lent);
-    told(done.outcome, done.refusal, (), |()| " done".into()) + &hex(&lent)
+    told(done.refusal, (), |()| " done".into()) + &hex(&lent)
 }
 
 fn parts(parts: FlatIdentifierParts) -> String {
@@ -105,9 +111,10 @@ fn message(message: FlatVersionMessage) -> String {
 }
 
 fn message_of(words: &[&str]) -> FlatVersionMessage {
-    let verdict = RESULTS.iter().position(|&result| result == words[0]);
+    let named = RESULTS.iter().position(|&result| result == words[0]);
+    let verdict = named.map_or_else(|| byte(words[0]), |place| place as u8);
     FlatVersionMessage {
-        verdict: verdict.expect("a result") as u8,
+        verdict,
         version: version_of(words[1]),
         control: byte(words[2]),
     }

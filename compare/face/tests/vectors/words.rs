@@ -49,14 +49,13 @@ pub fn versions(list: FlatVersions) -> String {
 
 /// What was asked for, or the refusal, with which nothing else is answered.
 pub fn told<T: Default + PartialEq>(
-    outcome: u8,
     refusal: u8,
     value: T,
     tell: impl FnOnce(T) -> String,
 ) -> String {
-    match (outcome, refusal) {
-        (0, 0) => tell(value),
-        (1, number) if value == T::default() => format!(" refused {number}"),
-        _ => format!(" outcome {outcome}, refusal {refusal}"),
+    match refusal {
+        0 => tell(value),
+        number if value == T::default() => format!(" refused {number}"),
+        number => format!(" refused {number} with a value"),
     }
 }

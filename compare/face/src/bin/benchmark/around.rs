@@ -57,12 +57,12 @@ fn lists(face: impl Around) -> impl FnMut() -> FlatVersionListing {
     given(bytes, move |bytes| face.version_list(bytes))
 }
 
-fn writes_message(face: impl Around) -> impl FnMut() -> FlatVersionBytes {
+fn writes_message(face: impl Around) -> impl FnMut() -> FlatVersionWriting {
     given(MESSAGE, move |message| face.version_message_write(*message))
 }
 
 fn reads_message(face: impl Around) -> impl FnMut() -> FlatVersionReading {
-    let bytes = face.version_message_write(MESSAGE);
+    let bytes = face.version_message_write(MESSAGE).bytes;
     given(bytes, move |bytes| face.version_message_read(*bytes))
 }
 
@@ -100,7 +100,9 @@ fn version_rows() -> Vec<Row> {
 /// A charger with four versions that has connected: S1.
 fn talking() -> FlatTalker {
     let list = Proved.version_list(&CHARGER.concat()).versions;
-    Proved.talker_connect(Proved.talker_make(0, list, 1)).next
+    Proved
+        .talker_connect(Proved.talker_make(0, list, 1).talker)
+        .next
 }
 
 fn talker_ticks(face: impl Around, talker: FlatTalker) -> impl FnMut() -> FlatTalkerAnswer {
@@ -112,9 +114,10 @@ fn talker_hears(
     talker: FlatTalker,
     bytes: [u8; 8],
 ) -> impl FnMut() -> FlatTalkerAnswer {
-    given((talker, FlatVersionBytes { bytes }), move |(talker, bytes)| {
-        face.talker_hear(*talker, *bytes)
-    })
+    given(
+        (talker, FlatVersionBytes { bytes }),
+        move |(talker, bytes)| face.talker_hear(*talker, *bytes),
+    )
 }
 
 /// The reference's talker is changed in place and its counts put back: a copy would be an allocation.
@@ -165,16 +168,15 @@ fn talker_rows() -> Vec<Row> {
 fn talk(face: impl Around, charger: &[u8], vehicle: &[u8]) -> u64 {
     let lists = [charger, vehicle].map(|bytes| face.version_list(bytes).versions);
     let mut said = [0, 1].map(|side| {
-        let talker = face.talker_make(side, lists[usize::from(side)], 1);
-        face.talker_connect(talker)
+        let made = face.talker_make(side, lists[usize::from(side)], 1);
+        face.talker_connect(made.talker)
     });
     let mut calls = 6;
     while said.iter().any(|answer| answer.next.state == 1) {
         for side in [0, 1] {
             let other = said[1 - side];
             if other.emits {
-                let bytes = FlatVersionBytes { bytes: other.bytes };
-                let answer = face.talker_hear(said[side].next, bytes);
+                let answer = face.talker_hear(said[side].next, other.bytes);
                 calls += 1;
                 said[1 - side].emits = false;
                 said[side].next = answer.next;

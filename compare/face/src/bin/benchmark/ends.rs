@@ -42,7 +42,7 @@ fn sending() -> FlatSender {
 fn waiting() -> FlatSender {
     FlatSender {
         phase: 3,
-        next: 0,
+        due: 0,
         count: 0,
         ..sending()
     }
@@ -69,25 +69,41 @@ fn over(sender: FlatSender) -> FlatSender {
 
 type Message = &'static [u8];
 
-fn begins(face: impl Ends, sender: FlatSender, message: Message) -> impl FnMut() -> FlatSenderAnswer {
+fn begins(
+    face: impl Ends,
+    sender: FlatSender,
+    message: Message,
+) -> impl FnMut() -> FlatSenderAnswer {
     given((sender, message), move |(sender, message)| {
         face.sender_begin(*sender, message)
     })
 }
 
-fn ticks(face: impl Ends, sender: FlatSender, message: Message) -> impl FnMut() -> FlatSenderAnswer {
+fn ticks(
+    face: impl Ends,
+    sender: FlatSender,
+    message: Message,
+) -> impl FnMut() -> FlatSenderAnswer {
     given((sender, message), move |(sender, message)| {
         face.sender_tick(*sender, message)
     })
 }
 
-fn hears(face: impl Ends, sender: FlatSender, frame: FlatFrame) -> impl FnMut() -> FlatSenderAnswer {
+fn hears(
+    face: impl Ends,
+    sender: FlatSender,
+    frame: FlatFrame,
+) -> impl FnMut() -> FlatSenderAnswer {
     given((sender, frame), move |(sender, frame)| {
         face.sender_hear(*sender, *frame)
     })
 }
 
-fn posts(face: impl Ends, sender: FlatSender, message: Message) -> impl FnMut() -> FlatSenderAnswer {
+fn posts(
+    face: impl Ends,
+    sender: FlatSender,
+    message: Message,
+) -> impl FnMut() -> FlatSenderAnswer {
     given((sender, message), move |(sender, message)| {
         face.sender_post(*sender, message)
     })
