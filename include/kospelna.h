@@ -114,8 +114,8 @@ enum {
 
 /* ---- The sender ----
  *
- * A tick is a call that the caller makes once in each unit of its clock, at both ends; G, T and M are counted in ticks.
- * A call emits at most one frame.
+ * A tick is a call that the caller makes once in each unit of its clock, at both ends; gap, timeout and sending time are
+ * counted in it. No call emits more than one frame.
  *
  * `sent` means delivered, under conditions: since the begin the receiver has delivered this message and no other, a long
  * one once, a short one at least once, if

@@ -135,8 +135,8 @@ static void group_values(void)
     CHECK(!takes(output, 0, 3, 0));
     CHECK(takes(battery, KOSPELNA_CELL_ABNORMAL, KOSPELNA_CELL_INVALID, KOSPELNA_TEMPERATURE_ABNORMAL));
     CHECK(takes(battery, 0, 0, KOSPELNA_TEMPERATURE_INVALID) && !takes(battery, 0xFFFD, 0, 0));
-    CHECK(takes(KOSPELNA_GROUP_CHARGER_PAUSE, KOSPELNA_PAUSE, 0, 0) && takes(KOSPELNA_GROUP_VEHICLE_PAUSE, KOSPELNA_RESUME, 0, 0));
-    CHECK(!takes(KOSPELNA_GROUP_VEHICLE_PAUSE, 1, 0, 0));
+    CHECK(takes(KOSPELNA_GROUP_CHARGER_PAUSE, KOSPELNA_PAUSE, 0, 0));
+    CHECK(takes(KOSPELNA_GROUP_VEHICLE_PAUSE, KOSPELNA_RESUME, 0, 0) && !takes(KOSPELNA_GROUP_VEHICLE_PAUSE, 1, 0, 0));
 }
 
 /* A group goes to the other end: a reliable one by begin, any other by post, and is read from the short delivery. */

@@ -1,23 +1,13 @@
-/* Plays document 01's example over the C face: both ends, and the line as two lists of its own. Prints its seven lines.
- * Exits 1 where a line, a state, the buffer or a refusal is another than document 01 has it. */
+/* Plays document 01's example over the C face: both ends, and the line as two lists of its own. Prints its seven lines,
+ * which .ci/face compares with the sample's. Exits 1 where a state, the buffer, a limit or a refusal is another than it
+ * should be. */
 #include "kospelna.h"
 
-#include <stdarg.h>
 #include <stdio.h>
 #include <stdlib.h>
 #include <string.h>
 
-static const char *const expected[] = {
-    "0 S 1 00 02 09 00 FF FF FF FF",
-    "1 R 2 01 02 FF FF FF FF FF FF",
-    "3 S 1 01 01 02 03 04 05 06 07",
-    "5 S 1 02 08 09 FF FF FF FF FF",
-    "6 R 4 02 09 00 FF FF FF FF FF",
-    "6 R delivered 9",
-    "7 S sent 2 3",
-};
-enum { LINES = sizeof expected / sizeof *expected, PLACES = 16 };
-static int printed;
+enum { PLACES = 16 };
 
 static void must(bool held, const char *what)
 {
@@ -27,23 +17,11 @@ static void must(bool held, const char *what)
     }
 }
 
-static void print(const char *form, ...)
-{
-    char line[64];
-    va_list values;
-    va_start(values, form);
-    vsnprintf(line, sizeof line, form, values);
-    va_end(values);
-    puts(line);
-    must(printed < LINES && strcmp(line, expected[printed]) == 0, "another line than document 01's");
-    printed++;
-}
-
 static void print_frame(int event, char end, kospelna_frame f)
 {
     const uint8_t *d = f.bytes;
-    print("%d %c %d %02X %02X %02X %02X %02X %02X %02X %02X", event, end, f.kind, d[0], d[1], d[2], d[3], d[4], d[5],
-          d[6], d[7]);
+    printf("%d %c %d %02X %02X %02X %02X %02X %02X %02X %02X\n", event, end, f.kind, d[0], d[1], d[2], d[3], d[4],
+           d[5], d[6], d[7]);
 }
 
 /* A direction of the line: frames join at the end, and the first is taken away. */
@@ -78,7 +56,7 @@ static void sender_did(int event, kospelna_sender_answer a)
         join(&forward, a.frame);
     }
     if (a.outcome == KOSPELNA_SENT)
-        print("%d S sent %d %d", event, a.ticks, a.frames);
+        printf("%d S sent %d %d\n", event, a.ticks, a.frames);
     else
         must(a.outcome == KOSPELNA_QUIET, "the sender refused or failed");
 }
@@ -91,7 +69,7 @@ static void receiver_did(int event, kospelna_receiver_answer a)
         join(&back, a.frame);
     }
     if (a.outcome == KOSPELNA_DELIVERED)
-        print("%d R delivered %d", event, a.length);
+        printf("%d R delivered %d\n", event, a.length);
     else
         must(a.outcome == KOSPELNA_QUIET, "the receiver refused or failed");
 }
@@ -135,7 +113,7 @@ static void opened(void)
              && s.frames == 2 && s.first == 1 && s.age == 0 && s.emitted == 1,
          "the sender after begin");
     const kospelna_receiver r = kospelna_receiver_tick(receiver).next;
-    must(r.timeout == 10 && r.window == 2 && r.capacity == KOSPELNA_BUFFER_LENGTH && r.phase == KOSPELNA_RECEIVER_OPEN
+    must(r.timeout == 10 && r.window == 2 && r.capacity == KOSPELNA_CAPACITY_MAX && r.phase == KOSPELNA_RECEIVER_OPEN
              && r.frames == 2 && r.length == 9 && r.expected == 1 && r.last == 2 && r.wait == 1 && r.misses == 0,
          "the receiver after the announcement and a tick");
 }
@@ -144,7 +122,7 @@ static void example(void)
 {
     static const int events[] = {3, 6, 1, 3, 1, 3, 6};
     kospelna_sender_made s = kospelna_sender_make(1, 10, 100);
-    kospelna_receiver_made r = kospelna_receiver_make(10, 2, KOSPELNA_BUFFER_LENGTH);
+    kospelna_receiver_made r = kospelna_receiver_make(10, 2, KOSPELNA_CAPACITY_MAX);
     must(s.refusal == 0 && r.refusal == 0, "an end was not made");
     sender = s.sender;
     receiver = r.receiver;
@@ -155,10 +133,10 @@ static void example(void)
         if (i == 0)
             opened();
     }
-    must(printed == LINES, "a line of document 01's is missing");
     must(same_sender(sender, s.sender), "the sender is not idle again");
     const kospelna_receiver done = {
-        .timeout = 10, .window = 2, .capacity = KOSPELNA_BUFFER_LENGTH, .phase = KOSPELNA_RECEIVER_DONE, .frames = 2, .length = 9};
+        .timeout = 10, .window = 2, .capacity = KOSPELNA_CAPACITY_MAX, .phase = KOSPELNA_RECEIVER_DONE, .frames = 2,
+        .length = 9};
     must(same_receiver(receiver, done), "the receiver does not remember its delivery");
     must(memcmp(buffer, message, sizeof message) == 0, "the delivery is another");
     for (size_t i = sizeof message; i < sizeof buffer; i++)

@@ -26,11 +26,12 @@ pub fn hexadecimal<const COUNT: usize>(words: &[&str]) -> [u32; COUNT] {
     numbers.try_into().expect("so many numbers")
 }
 
-/// Major, minor and temporary number.
+/// Major, minor and temporary number; a number of four bytes is no version.
 pub fn version(number: u32) -> String {
-    let [above, major, minor, temporary] = number.to_be_bytes();
-    assert_eq!(above, 0, "a version of three bytes");
-    format!("{major}.{minor}.{temporary}")
+    match number.to_be_bytes() {
+        [0, major, minor, temporary] => format!("{major}.{minor}.{temporary}"),
+        _ => format!("{number:X}"),
+    }
 }
 
 pub fn version_of(word: &str) -> u32 {
