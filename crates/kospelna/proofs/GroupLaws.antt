@@ -22,7 +22,7 @@ use Rattle.groups.specs.declared.Writing.{Writing}
 use Rattle.groups.specs.declared.Finding.the-variants as findings
 use Rattle.groups.specs.declared.Reading.the-variants as readings
 use Rattle.groups.specs.declared.Writing.the-variants as writings
-use Rattle.kospelna.specs.Group.{groupIn, groupOut, noGroup, readingOut, readingIn, ReadingMade, writingOut, writingIn, Written, written, writtenOut, writtenIn, sideNumber, sideIn, rowOut, rowIn, noRow, findingOut, findingIn, FindingMade}
+use Rattle.kospelna.specs.Group.{groupIn, groupOut, noGroup, readingOut, readingIn, ReadingMade, writingOut, writingIn, Written, written, writtenOut, writtenIn, sideNumber, sideIn, rowOut, rowIn, noRow, findingOut, findingIn, FindingMade, GroupWhole}
 use Rattle.kospelna.specs.Refusals.{resultFrom, Numbered}
 use Rattle.kospelna.proofs.Refusals.{result-back, result-made, number-again, value-again}
 use Rattle.kospelna.specs.declared.group.FlatGroup.{FlatGroup}
@@ -199,3 +199,9 @@ writing-numbered g s = pick-elim Known _ (λ e. by-row (findIn (g .code) rows) (
     by-row : (r : Result Row) → Numbered r → Known (writeBy g s r)
     by-row (accepted x) h = pick-elim Known _ (λ e. tt) (λ e. omega arith)
     by-row (refused n) h = h
+
+pub group-whole : GroupWhole
+group-whole =
+    (λ s. reading-read (readOf s) (reading-numbered s),
+    λ g s. written-read (writeOf g s) (writing-numbered g s),
+    λ code. finding-read (findOf code) (finding-numbered code))

@@ -11,7 +11,7 @@ use Rattle.identifier.specs.declared.Joined.{Joined}
 use Rattle.identifier.specs.declared.Parted.{Parted}
 use Rattle.identifier.specs.declared.Joined.the-variants as joins
 use Rattle.identifier.specs.declared.Parted.the-variants as partings
-use Rattle.kospelna.specs.Identify.{partsIn, partsOut, joiningOut, joiningIn, JoiningMade, noParts, splittingOut, splittingIn, SplittingMade}
+use Rattle.kospelna.specs.Identify.{partsIn, partsOut, joiningOut, joiningIn, JoiningMade, noParts, splittingOut, splittingIn, SplittingMade, IdentifierWhole}
 use Rattle.kospelna.specs.Refusals.{Numbered}
 use Rattle.kospelna.proofs.Refusals.{result-back, result-made, number-again, value-again}
 use Rattle.kospelna.specs.declared.identify.FlatIdentifierParts.{FlatIdentifierParts}
@@ -85,3 +85,7 @@ join-numbered x = pick-elim Numbered _ (λ e. tt) (λ e. omega arith)
 pub part-numbered : (n : ℕ) → Numbered (partOf n)
 unfolding partOf
 part-numbered n = pick-elim Numbered _ (λ e. tt) (λ e. omega arith)
+
+pub identifier-whole : IdentifierWhole
+identifier-whole =
+    (λ x. joining-read (joinOf x) (join-numbered x), λ n. splitting-read (partOf n) (part-numbered n))

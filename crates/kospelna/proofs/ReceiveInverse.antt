@@ -7,7 +7,7 @@ use native.Mathlib.Omega.{arith}
 use Rattle.frame.proofs.Choice.{pick-elim}
 use Rattle.frame.specs.Result.{Result}
 use Rattle.frame.specs.Choice.{pick}
-use Rattle.kospelna.specs.Receive.{connectionFrom, phaseFrom, receiverFrom, flatOf, flatPhase, flatReceiver, Written, idle, done, opened, flatOutcome, flatAnswer, noReceiver, flatMade, outcomeFrom, answerFrom, madeFrom}
+use Rattle.kospelna.specs.Receive.{connectionFrom, phaseFrom, receiverFrom, flatOf, flatPhase, flatReceiver, Written, idle, done, opened, flatOutcome, flatAnswer, noReceiver, flatMade, outcomeFrom, answerFrom, madeFrom, ReceiverWhole}
 use Rattle.kospelna.specs.Refusals.{Numbered}
 use Rattle.kospelna.specs.declared.receive.FlatReceiver.{FlatReceiver}
 use Rattle.receiver.specs.Make.{makeOf}
@@ -80,3 +80,9 @@ made-back m numbered = result-back flatReceiver receiverFrom noReceiver receiver
 pub made-numbered : (timeout window capacity : ℕ) → Numbered (makeOf timeout window capacity)
 unfolding makeOf
 made-numbered timeout window capacity = pick-elim Numbered _ (λ e. tt) (λ e. omega arith)
+
+pub receiver-whole : ReceiverWhole
+receiver-whole =
+    (receiver-back,
+    answer-back,
+    λ timeout window capacity. made-back (makeOf timeout window capacity) (made-numbered timeout window capacity))

@@ -7,7 +7,7 @@ use native.Mathlib.Omega.{arith}
 use Rattle.frame.proofs.Choice.{pick-elim}
 use Rattle.frame.specs.Result.{Result}
 use Rattle.frame.specs.Choice.{pick}
-use Rattle.kospelna.specs.Send.{transferFrom, phaseFrom, senderFrom, flatOf, flatPhase, flatSender, windowFrom, Written, idle, opening, sending, waiting, short, flatOutcome, flatAnswer, noSender, flatMade, outcomeFrom, answerFrom, madeFrom}
+use Rattle.kospelna.specs.Send.{transferFrom, phaseFrom, senderFrom, flatOf, flatPhase, flatSender, windowFrom, Written, idle, opening, sending, waiting, short, flatOutcome, flatAnswer, noSender, flatMade, outcomeFrom, answerFrom, madeFrom, SenderWhole}
 use Rattle.kospelna.specs.Refusals.{Numbered}
 use Rattle.kospelna.specs.declared.send.FlatSender.{FlatSender}
 use Rattle.sender.specs.Make.{makeOf}
@@ -89,3 +89,9 @@ made-back m numbered = result-back flatSender senderFrom noSender sender-back m 
 pub made-numbered : (gap timeout limit : ℕ) → Numbered (makeOf gap timeout limit)
 unfolding makeOf
 made-numbered gap timeout limit = pick-elim Numbered _ (λ e. tt) (λ e. omega arith)
+
+pub sender-whole : SenderWhole
+sender-whole =
+    (sender-back,
+    answer-back,
+    λ gap timeout limit. made-back (makeOf gap timeout limit) (made-numbered gap timeout limit))

@@ -29,7 +29,7 @@ use Rattle.version.specs.declared.Talker.{Talker}
 use Rattle.version.specs.declared.Verdict.{Verdict}
 use Rattle.version.specs.declared.Verdict.the-variants.{Continue, Success, Failure}
 use Rattle.version.specs.declared.Versions.{Versions}
-use Rattle.kospelna.specs.Talk.{sideNumber, sideIn, stateNumber, stateIn, verdictIn, versionsIn, versionsOut, noVersions, listRefusal, listedOut, listingOut, listingIn, ListingMade, messageIn, messageOut, MessageMade, bytesIn, bytesOut, noBytes, messageBytes, writingOut, writingIn, WritingMade, noMessage, readingOut, readingIn, ReadingMade, talkerIn, talkerOut, TalkerMade, noTalker, makingOut, makingIn, MakingMade, madeOut, outcomeNumber, outcomeRefusal, outcomeVersion, outcomeIn, OutcomeMade, made-quiet, made-refused, made-failed, made-agreed, made-left, answerOut, answerIn, AnswerMade}
+use Rattle.kospelna.specs.Talk.{sideNumber, sideIn, stateNumber, stateIn, verdictIn, versionsIn, versionsOut, noVersions, listRefusal, listedOut, listingOut, listingIn, ListingMade, messageIn, messageOut, MessageMade, bytesIn, bytesOut, noBytes, messageBytes, writingOut, writingIn, WritingMade, noMessage, readingOut, readingIn, ReadingMade, talkerIn, talkerOut, TalkerMade, noTalker, makingOut, makingIn, MakingMade, madeOut, outcomeNumber, outcomeRefusal, outcomeVersion, outcomeIn, OutcomeMade, made-quiet, made-refused, made-failed, made-agreed, made-left, answerOut, answerIn, AnswerMade, TalkWhole}
 use Rattle.kospelna.specs.declared.talk.FlatVersions.{FlatVersions}
 use Rattle.kospelna.specs.declared.talk.FlatVersionListing.{FlatVersionListing}
 use Rattle.kospelna.specs.declared.talk.FlatVersionMessage.{FlatVersionMessage}
@@ -453,3 +453,14 @@ unfolding answerIn answerOut
 answer-written f made =
     let o = outcome-written (made .1) in
     rw (talker-written (f .next) (made .0), o .0, o .1, o .2)
+
+pub talk-whole : TalkWhole
+talk-whole =
+    record {
+      lists = λ s. listing-read (listOf s) (list-numbered s);
+      writes = λ f. writing-read (messageBytes f) (bytes-numbered f);
+      reads = λ s. reading-read (readOf s) (read-numbered s);
+      talkers = talker-read;
+      makes = λ side v control. making-read (makeOf side v control) (make-numbered side v control);
+      answers = answer-read;
+    }

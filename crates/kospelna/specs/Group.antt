@@ -7,7 +7,9 @@ use mathlib.Core.Path.{_≡_}
 use lib.Dec.{eqb}
 use Rattle.frame.specs.Choice.{pick}
 use Rattle.frame.specs.Result.{Result, refusalOf}
-use Rattle.groups.specs.Writing.{Outcome, outcome}
+use Rattle.groups.specs.Reading.{readOf}
+use Rattle.groups.specs.Table.{findOf}
+use Rattle.groups.specs.Writing.{Outcome, outcome, writeOf}
 use Rattle.groups.specs.declared.Group.{Group}
 use Rattle.groups.specs.declared.Row.{Row}
 use Rattle.groups.specs.declared.Sender.{Sender}
@@ -108,3 +110,10 @@ findingIn f = resultFrom rowIn (f .refusal) (f .row)
 
 abbrev pub FindingMade : FlatGroupFinding → Type 0
 FindingMade f = Made (λ (x : FlatGroupRow). x .side ≤ 1) noRow (f .refusal) (f .row)
+
+-- Theorem: nothing is lost. A caller reads off each answer what document 01 has there.
+abbrev pub GroupWhole : Type 0
+GroupWhole =
+    ((s : List ℕ) → readingIn (readingOut (readOf s)) ≡ readOf s)
+    × ((g : Group) (s : List ℕ) → writtenIn (writtenOut (writeOf g s)) ≡ writeOf g s)
+    × ((code : ℕ) → findingIn (findingOut (findOf code)) ≡ findOf code)

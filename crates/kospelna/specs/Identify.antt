@@ -1,7 +1,9 @@
 -- The identifier's flat structs: what each stands for, in both directions. Document 01, Around the transport, Identifier;
 -- Refusals, identifier.
 use Prim.Native.Nat.{ℕ}
+use mathlib.Core.Path.{_≡_}
 use Rattle.frame.specs.Result.{Result, refusalOf}
+use Rattle.identifier.specs.Answer.{joinOf, partOf}
 use Rattle.identifier.specs.declared.Parts.{Parts}
 use Rattle.kospelna.specs.Refusals.{valueOf, resultFrom, Made}
 use Rattle.kospelna.specs.declared.identify.FlatIdentifierParts.{FlatIdentifierParts}
@@ -38,3 +40,8 @@ splittingIn f = resultFrom partsIn (f .refusal) (f .parts)
 
 abbrev pub SplittingMade : FlatIdentifierSplitting → Type 0
 SplittingMade f = Made (λ (x : FlatIdentifierParts). Unit) noParts (f .refusal) (f .parts)
+
+-- Theorem: nothing is lost. A caller reads off each answer what document 01 has there.
+abbrev pub IdentifierWhole : Type 0
+IdentifierWhole =
+    ((x : Parts) → joiningIn (joiningOut (joinOf x)) ≡ joinOf x) × ((n : ℕ) → splittingIn (splittingOut (partOf n)) ≡ partOf n)

@@ -11,6 +11,7 @@ use Rattle.kospelna.specs.declared.receive.FlatReceiver.{FlatReceiver}
 use Rattle.kospelna.specs.declared.receive.FlatReceiverAnswer.{FlatReceiverAnswer}
 use Rattle.kospelna.specs.declared.receive.FlatReceiverMade.{FlatReceiverMade}
 use Rattle.kospelna.specs.declared.receive.Report.{Report}
+use Rattle.receiver.specs.Make.{makeOf}
 use Rattle.receiver.specs.Told.{Outcome, quiet, refused, delivered, failed, short, Told, Heard}
 use Rattle.receiver.specs.declared.Connection.{Connection}
 use Rattle.receiver.specs.declared.Phase.{Phase}
@@ -148,3 +149,10 @@ answerFrom a =
 
 abbrev pub madeFrom : FlatReceiverMade → Result Receiver
 madeFrom m = resultFrom receiverFrom (m .refusal) (m .receiver)
+
+-- Theorem: nothing is lost. A caller reads off every state, every answer and every making what document 01 has there.
+abbrev pub ReceiverWhole : Type 0
+ReceiverWhole =
+    ((r : Receiver) → receiverFrom (flatReceiver r) ≡ r)
+    × ((t : Told) → answerFrom (flatAnswer t) ≡ t)
+    × ((timeout window capacity : ℕ) → madeFrom (flatMade (makeOf timeout window capacity)) ≡ makeOf timeout window capacity)

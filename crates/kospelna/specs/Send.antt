@@ -11,6 +11,7 @@ use Rattle.kospelna.specs.declared.send.Report.{Report}
 use Rattle.kospelna.specs.declared.send.FlatSenderAnswer.{FlatSenderAnswer}
 use Rattle.kospelna.specs.declared.send.FlatSenderMade.{FlatSenderMade}
 use Rattle.kospelna.specs.declared.send.Window.{Window}
+use Rattle.sender.specs.Make.{makeOf}
 use Rattle.sender.specs.Told.{Outcome, quiet, refused, sent, failed, Told}
 use Rattle.sender.specs.declared.Phase.{Phase}
 use Rattle.sender.specs.declared.Phase.the-variants.{Idle, Opening, Sending, Waiting, Short}
@@ -114,7 +115,7 @@ abbrev pub report : ℕ → ℕ → ℕ → ℕ → ℕ → Report
 report outcome refusal cause ticks frames =
     record { outcome = outcome; refusal = refusal; cause = cause; ticks = ticks; frames = frames }
 
--- 0 quiet, 1 refused with its number, 2 sent, 3 failed with its cause; a report's ticks and frames; 0 for what an outcome has not
+-- 0 quiet, 1 refused with its number, 2 sent, 3 failed with its cause; a report's ticks and frames; 0 for what is not there
 unfoldable pub flatOutcome : Outcome → Report
 flatOutcome quiet = report 0 0 0 0 0
 flatOutcome (refused number) = report 1 number 0 0 0
@@ -166,3 +167,10 @@ answerFrom a =
 
 abbrev pub madeFrom : FlatSenderMade → Result Sender
 madeFrom m = resultFrom senderFrom (m .refusal) (m .sender)
+
+-- Theorem: nothing is lost. A caller reads off every state, every answer and every making what document 01 has there.
+abbrev pub SenderWhole : Type 0
+SenderWhole =
+    ((s : Sender) → senderFrom (flatSender s) ≡ s)
+    × ((t : Told) → answerFrom (flatAnswer t) ≡ t)
+    × ((gap timeout limit : ℕ) → madeFrom (flatMade (makeOf gap timeout limit)) ≡ makeOf gap timeout limit)

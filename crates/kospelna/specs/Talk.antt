@@ -10,7 +10,9 @@ use Rattle.frame.specs.Choice.{pick}
 use Rattle.frame.specs.Result as result
 use Rattle.frame.specs.Result.{Result, accepted, refusalOf}
 use Rattle.kospelna.specs.Refusals.{valueOf, resultFrom, Made}
-use Rattle.version.specs.Message.{verdictByte, writeOf}
+use Rattle.version.specs.List.{listOf}
+use Rattle.version.specs.Message.{verdictByte, writeOf, readOf}
+use Rattle.version.specs.Talk.{makeOf}
 use Rattle.version.specs.Told.{Told, Outcome, quiet, refused, agreed, failed, left}
 use Rattle.version.specs.declared.ListOutcome.{ListOutcome}
 use Rattle.version.specs.declared.ListOutcome.the-variants.{Accepted, Refused}
@@ -261,3 +263,13 @@ pub data OutcomeMade : ℕ → ℕ → ℕ → Type 0 where
 -- the flat answers that writing makes
 abbrev pub AnswerMade : FlatTalkerAnswer → Type 0
 AnswerMade f = TalkerMade (f .next) × OutcomeMade (f .outcome) (f .refusal) (f .version)
+
+-- Theorem: nothing is lost. A caller reads off every talker and every answer what document 01 has there.
+pub record TalkWhole : Type 0 where
+  pub lists : (s : List ℕ) → listingIn (listingOut (listOf s)) ≡ listOf s
+  pub writes : (f : FlatVersionMessage) → writingIn (writingOut (messageBytes f)) ≡ messageBytes f
+  pub reads : (s : List ℕ) → readingIn (readingOut (readOf s)) ≡ readOf s
+  pub talkers : (t : Talker) → talkerIn (talkerOut t) ≡ t
+  pub makes : (side : Side) (v : Versions) (control : ℕ)
+      → makingIn (makingOut (makeOf side v control)) ≡ makeOf side v control
+  pub answers : (a : Told) → answerIn (answerOut a) ≡ a
