@@ -82,7 +82,8 @@ module _ {a : Finding} where
       → record { refusal = n; row = noRow } ≡ findingOut (toldFinding a)
   find-refused e = rw e
 
-pub find-through : (n : ℕ) {r : FlatGroupFinding} {a : Result Row} → r ≡ findingOut a → a ≡ findOf n → r ≡ findingOut (findOf n)
+pub find-through : (n : ℕ) {r : FlatGroupFinding} {a : Result Row} → r ≡ findingOut a → a ≡ findOf n
+    → r ≡ findingOut (findOf n)
 find-through n w e = w ∙ ap findingOut e
 
 pub ruleset group-paths = (
@@ -116,7 +117,10 @@ reading-made = result-made groupOut noGroup (λ (g : FlatGroup). Unit) (λ g. tt
 
 pub reading-written : (f : FlatGroupReading) → ReadingMade f → readingOut (readingIn f) ≡ f
 reading-written f made =
-    rw (number-again groupIn (f .refusal) (f .group), value-again groupOut groupIn noGroup (λ (g : FlatGroup). Unit) (λ g h. group-written g) (f .refusal) (f .group) made)
+    rw (
+      number-again groupIn (f .refusal) (f .group),
+      value-again groupOut groupIn noGroup (λ (g : FlatGroup). Unit) (λ g h. group-written g) (f .refusal) (f .group) made,
+    )
 
 pub writing-read : (r : Result Unit) → Numbered r → writingIn (writingOut r) ≡ r
 unfolding resultFrom
@@ -170,7 +174,10 @@ finding-made = result-made rowOut noRow (λ (x : FlatGroupRow). x .side ≤ 1) (
 
 pub finding-written : (f : FlatGroupFinding) → FindingMade f → findingOut (findingIn f) ≡ f
 finding-written f made =
-    rw (number-again rowIn (f .refusal) (f .row), value-again rowOut rowIn noRow (λ (x : FlatGroupRow). x .side ≤ 1) row-written (f .refusal) (f .row) made)
+    rw (
+      number-again rowIn (f .refusal) (f .row),
+      value-again rowOut rowIn noRow (λ (x : FlatGroupRow). x .side ≤ 1) row-written (f .refusal) (f .row) made,
+    )
 
 -- no refusal is numbered 0
 find-numbered : (code : ℕ) (table : List Row) → Numbered (findIn code table)
@@ -183,7 +190,10 @@ finding-numbered code = find-numbered code rows
 
 pub reading-numbered : (s : List ℕ) → Numbered (readOf s)
 unfolding readIn readBy readRow judged
-reading-numbered s = pick-elim Numbered _ (λ e. by-row (findIn (getD s 0 0) rows) (find-numbered (getD s 0 0) rows)) (λ e. omega arith)
+reading-numbered s =
+    pick-elim Numbered _
+    (λ e. by-row (findIn (getD s 0 0) rows) (find-numbered (getD s 0 0) rows))
+    (λ e. omega arith)
   where
     by-row : (r : Result Row) → Numbered r → Numbered (readBy s (getD s 0 0) r)
     by-row (accepted x) h = pick-elim Numbered _ (λ e. pick-elim Numbered _ (λ e. tt) (λ e. omega arith)) (λ e. omega arith)
@@ -191,7 +201,8 @@ reading-numbered s = pick-elim Numbered _ (λ e. by-row (findIn (getD s 0 0) row
 
 pub writing-numbered : (g : Group) (s : List ℕ) → Numbered (writeOf g s .answer)
 unfolding writeIn writeBy writeRow
-writing-numbered g s = pick-elim Known _ (λ e. by-row (findIn (g .code) rows) (find-numbered (g .code) rows)) (λ e. omega arith)
+writing-numbered g s =
+    pick-elim Known _ (λ e. by-row (findIn (g .code) rows) (find-numbered (g .code) rows)) (λ e. omega arith)
   where
     Known : Outcome → Type 0
     Known o = Numbered (o .answer)
@@ -201,7 +212,8 @@ writing-numbered g s = pick-elim Known _ (λ e. by-row (findIn (g .code) rows) (
     by-row (refused n) h = h
 
 pub group-whole : GroupWhole
-group-whole =
-    (λ s. reading-read (readOf s) (reading-numbered s),
-    λ g s. written-read (writeOf g s) (writing-numbered g s),
-    λ code. finding-read (findOf code) (finding-numbered code))
+group-whole = (
+  λ s. reading-read (readOf s) (reading-numbered s),
+  λ g s. written-read (writeOf g s) (writing-numbered g s),
+  λ code. finding-read (findOf code) (finding-numbered code),
+)

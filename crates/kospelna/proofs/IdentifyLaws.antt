@@ -45,7 +45,14 @@ module _ {p : Parted} where
 pub part-through : (n : ℕ) {r : FlatIdentifierSplitting} {a : Result Parts} → r ≡ splittingOut a → a ≡ partOf n → r ≡ splittingOut (partOf n)
 part-through n w e = w ∙ ap splittingOut e
 
-pub ruleset identify-paths = (joined-accepted, joined-refused, join-through, parted-accepted, parted-refused, part-through)
+pub ruleset identify-paths = (
+  joined-accepted,
+  joined-refused,
+  join-through,
+  parted-accepted,
+  parted-refused,
+  part-through,
+)
 
 -- ---- back and forth
 
@@ -65,7 +72,10 @@ joining-made = result-made (λ (n : ℕ). n) 0 (λ (n : ℕ). Unit) (λ n. tt)
 
 pub joining-written : (f : FlatIdentifierJoining) → JoiningMade f → joiningOut (joiningIn f) ≡ f
 joining-written f made =
-    rw (number-again (λ (n : ℕ). n) (f .refusal) (f .identifier), value-again (λ (n : ℕ). n) (λ (n : ℕ). n) 0 (λ (n : ℕ). Unit) (λ n h. refl) (f .refusal) (f .identifier) made)
+    rw (
+      number-again (λ (n : ℕ). n) (f .refusal) (f .identifier),
+      value-again (λ (n : ℕ). n) (λ (n : ℕ). n) 0 (λ (n : ℕ). Unit) (λ n h. refl) (f .refusal) (f .identifier) made,
+    )
 
 pub splitting-read : (r : Result Parts) → Numbered r → splittingIn (splittingOut r) ≡ r
 splitting-read = result-back partsOut partsIn noParts parts-read
@@ -75,7 +85,10 @@ splitting-made = result-made partsOut noParts (λ (x : FlatIdentifierParts). Uni
 
 pub splitting-written : (f : FlatIdentifierSplitting) → SplittingMade f → splittingOut (splittingIn f) ≡ f
 splitting-written f made =
-    rw (number-again partsIn (f .refusal) (f .parts), value-again partsOut partsIn noParts (λ (x : FlatIdentifierParts). Unit) (λ x h. parts-written x) (f .refusal) (f .parts) made)
+    rw (
+      number-again partsIn (f .refusal) (f .parts),
+      value-again partsOut partsIn noParts (λ (x : FlatIdentifierParts). Unit) (λ x h. parts-written x) (f .refusal) (f .parts) made,
+    )
 
 -- no refusal is numbered 0
 pub join-numbered : (x : Parts) → Numbered (joinOf x)

@@ -82,7 +82,8 @@ unfolding makeOf
 made-numbered timeout window capacity = pick-elim Numbered _ (λ e. tt) (λ e. omega arith)
 
 pub receiver-whole : ReceiverWhole
-receiver-whole =
-    (receiver-back,
-    answer-back,
-    λ timeout window capacity. made-back (makeOf timeout window capacity) (made-numbered timeout window capacity))
+receiver-whole = (
+  receiver-back,
+  answer-back,
+  λ timeout window capacity. made-back (makeOf timeout window capacity) (made-numbered timeout window capacity),
+)

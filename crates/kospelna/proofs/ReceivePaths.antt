@@ -108,7 +108,16 @@ pub ruleset tells = (tells-quiet, tells-refused, tells-delivered, tells-failed, 
 pub writes-answer : (a : Answer) (next : FlatReceiver) (f : FlatFrame) (r : Report) → next ≡ flatReceiver (a .next)
     → f ≡ flatFrame (a .frame) → r ≡ flatOutcome (toldOutcome (a .outcome))
     → _≡_ {A = FlatReceiverAnswer}
-    (record { next = next; emits = a .emits; frame = f; outcome = r .outcome; refusal = r .refusal; cause = r .cause; length = r .length; bytes = a .bytes })
+    (record {
+      next = next;
+      emits = a .emits;
+      frame = f;
+      outcome = r .outcome;
+      refusal = r .refusal;
+      cause = r .cause;
+      length = r .length;
+      bytes = a .bytes;
+    })
     (flatAnswer (told a))
 unfolding flatAnswer
 writes-answer a next f r n k o = cc

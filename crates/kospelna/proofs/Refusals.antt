@@ -22,7 +22,8 @@ result-made flat none These these (accepted a) h = inl (refl, these a)
 result-made flat none These these (refused n) h = inr (h, refl)
 
 -- and each of those comes back: the number, whatever it is, and the value
-pub number-again : {A B : Type 0} (back : B → A) (refusal : ℕ) (value : B) → refusalOf (resultFrom back refusal value) ≡ refusal
+pub number-again : {A B : Type 0} (back : B → A) (refusal : ℕ) (value : B)
+    → refusalOf (resultFrom back refusal value) ≡ refusal
 unfolding resultFrom
 number-again back zero value = refl
 number-again back (suc n) value = refl

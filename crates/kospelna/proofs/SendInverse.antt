@@ -91,7 +91,8 @@ unfolding makeOf
 made-numbered gap timeout limit = pick-elim Numbered _ (λ e. tt) (λ e. omega arith)
 
 pub sender-whole : SenderWhole
-sender-whole =
-    (sender-back,
-    answer-back,
-    λ gap timeout limit. made-back (makeOf gap timeout limit) (made-numbered gap timeout limit))
+sender-whole = (
+  sender-back,
+  answer-back,
+  λ gap timeout limit. made-back (makeOf gap timeout limit) (made-numbered gap timeout limit),
+)

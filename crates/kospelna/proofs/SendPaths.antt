@@ -63,7 +63,9 @@ reads-idle s n1 n2 n3 n4 = cc (ne-eqb _ _ n1, ne-eqb _ _ n2, ne-eqb _ _ n3, ne-e
 pub ruleset reads = (reads-opening, reads-sending, reads-waiting, reads-short, reads-idle)
 
 pub reads-sender : (s : FlatSender) (p : Phase) → p ≡ phaseFrom s
-    → _≡_ {A = Sender} (record { settings = record { gap = s .gap; timeout = s .timeout; limit = s .limit }; phase = p }) (senderFrom s)
+    → _≡_ {A = Sender}
+    (record { settings = record { gap = s .gap; timeout = s .timeout; limit = s .limit }; phase = p })
+    (senderFrom s)
 reads-sender s p e = cc
 
 -- ---- writing, by the phase
@@ -127,7 +129,16 @@ pub ruleset tells = (tells-quiet, tells-refused, tells-sent, tells-failed)
 pub writes-answer : (a : Answer) (next : FlatSender) (f : FlatFrame) (r : Report) → next ≡ flatSender (a .next)
     → f ≡ flatFrame (a .frame) → r ≡ flatOutcome (toldOutcome (a .outcome))
     → _≡_ {A = FlatSenderAnswer}
-    (record { next = next; emits = a .emits; frame = f; outcome = r .outcome; refusal = r .refusal; cause = r .cause; ticks = r .ticks; frames = r .frames })
+    (record {
+      next = next;
+      emits = a .emits;
+      frame = f;
+      outcome = r .outcome;
+      refusal = r .refusal;
+      cause = r .cause;
+      ticks = r .ticks;
+      frames = r .frames;
+    })
     (flatAnswer (told a))
 unfolding flatAnswer
 writes-answer a next f r n k o = cc

@@ -198,7 +198,8 @@ pub talker-out : (t : Talker) {side state verdict : ℕ} {versions : FlatVersion
 unfolding talkerOut
 talker-out t a b c d = rw (a, b, c, d)
 
-pub answer-out : (a : Answer) {next : FlatTalker} {b : FlatVersionBytes} {o r v : ℕ} → next ≡ talkerOut (a .next) → b ≡ bytesOut (a .bytes)
+pub answer-out : (a : Answer) {next : FlatTalker} {b : FlatVersionBytes} {o r v : ℕ} → next ≡ talkerOut (a .next)
+    → b ≡ bytesOut (a .bytes)
     → o ≡ outcomeNumber (toldOutcome (a .outcome)) → r ≡ outcomeRefusal (toldOutcome (a .outcome))
     → v ≡ outcomeVersion (toldOutcome (a .outcome))
     → record { next = next; emits = a .emits; bytes = b; outcome = o; refusal = r; version = v } ≡ answerOut (told a)
@@ -335,7 +336,10 @@ listing-made = result-made versionsOut noVersions (λ (v : FlatVersions). Unit) 
 
 pub listing-written : (f : FlatVersionListing) → ListingMade f → listingOut (listingIn f) ≡ f
 listing-written f made =
-    rw (number-again versionsIn (f .refusal) (f .versions), value-again versionsOut versionsIn noVersions (λ (v : FlatVersions). Unit) (λ v h. versions-written v) (f .refusal) (f .versions) made)
+    rw (
+      number-again versionsIn (f .refusal) (f .versions),
+      value-again versionsOut versionsIn noVersions (λ (v : FlatVersions). Unit) (λ v h. versions-written v) (f .refusal) (f .versions) made,
+    )
 
 pub message-read : (m : Message) → messageIn (messageOut m) ≡ m
 unfolding messageIn messageOut
@@ -363,7 +367,10 @@ reading-made = result-made messageOut noMessage MessageMade message-made
 
 pub reading-written : (f : FlatVersionReading) → ReadingMade f → readingOut (readingIn f) ≡ f
 reading-written f made =
-    rw (number-again messageIn (f .refusal) (f .message), value-again messageOut messageIn noMessage MessageMade message-written (f .refusal) (f .message) made)
+    rw (
+      number-again messageIn (f .refusal) (f .message),
+      value-again messageOut messageIn noMessage MessageMade message-written (f .refusal) (f .message) made,
+    )
 
 pub writing-read : (r : Result (List ℕ)) → Numbered r → writingIn (writingOut r) ≡ r
 writing-read = result-back bytesOut bytesIn noBytes bytes-read
@@ -373,7 +380,10 @@ writing-made = result-made bytesOut noBytes (λ (s : FlatVersionBytes). Unit) (�
 
 pub writing-written : (f : FlatVersionWriting) → WritingMade f → writingOut (writingIn f) ≡ f
 writing-written f made =
-    rw (number-again bytesIn (f .refusal) (f .bytes), value-again bytesOut bytesIn noBytes (λ (s : FlatVersionBytes). Unit) (λ s h. bytes-written s) (f .refusal) (f .bytes) made)
+    rw (
+      number-again bytesIn (f .refusal) (f .bytes),
+      value-again bytesOut bytesIn noBytes (λ (s : FlatVersionBytes). Unit) (λ s h. bytes-written s) (f .refusal) (f .bytes) made,
+    )
 
 -- no refusal is numbered 0
 pub list-numbered : (s : List ℕ) → Numbered (listOf s)
@@ -410,7 +420,10 @@ making-made = result-made talkerOut noTalker TalkerMade talker-made
 
 pub making-written : (f : FlatTalkerMade) → MakingMade f → makingOut (makingIn f) ≡ f
 making-written f made =
-    rw (number-again talkerIn (f .refusal) (f .talker), value-again talkerOut talkerIn noTalker TalkerMade talker-written (f .refusal) (f .talker) made)
+    rw (
+      number-again talkerIn (f .refusal) (f .talker),
+      value-again talkerOut talkerIn noTalker TalkerMade talker-written (f .refusal) (f .talker) made,
+    )
 
 pub make-numbered : (side : Side) (versions : Versions) (control : ℕ) → Numbered (makeOf side versions control)
 unfolding makeOf

@@ -44,4 +44,5 @@ SplittingMade f = Made (λ (x : FlatIdentifierParts). Unit) noParts (f .refusal)
 -- Theorem: nothing is lost. A caller reads off each answer what document 01 has there.
 abbrev pub IdentifierWhole : Type 0
 IdentifierWhole =
-    ((x : Parts) → joiningIn (joiningOut (joinOf x)) ≡ joinOf x) × ((n : ℕ) → splittingIn (splittingOut (partOf n)) ≡ partOf n)
+    ((x : Parts) → joiningIn (joiningOut (joinOf x)) ≡ joinOf x)
+    × ((n : ℕ) → splittingIn (splittingOut (partOf n)) ≡ partOf n)

@@ -87,7 +87,7 @@ pub data Written (r : FlatReceiver) : Type 0 where
 abbrev pub report : ℕ → ℕ → ℕ → ℕ → Report
 report outcome refusal cause length = record { outcome = outcome; refusal = refusal; cause = cause; length = length }
 
--- 0 quiet, 1 refused with its number, 3 failed with its cause, 4 delivered with its length, 5 short; 0 for what an outcome has not
+-- 0 quiet, 1 refused with its number, 3 failed with its cause, 4 delivered with its length, 5 short; 0 for what is not there
 unfoldable pub flatOutcome : Outcome → Report
 flatOutcome quiet = report 0 0 0 0
 flatOutcome (refused number) = report 1 number 0 0

@@ -1,5 +1,5 @@
--- An answer that is a value or a refusal, in C's layout: the refusal's number, 0 where there is none (`refusalOf`), beside the
--- value, zeros where it is refused. Document 01, Refusals, by place.
+-- An answer that is a value or a refusal, in C's layout: the refusal's number, 0 where there is none (`refusalOf`), beside
+-- the value, zeros where it is refused. Document 01, Refusals, by place.
 use Prim.Native.Nat.{ℕ, zero, suc, _≤_}
 use mathlib.Core.Logic.{_⊎_}
 use mathlib.Core.Path.{_≡_}
@@ -15,8 +15,8 @@ unfoldable pub resultFrom : {A B : Type 0} → (B → A) → ℕ → B → Resul
 resultFrom back zero value = accepted (back value)
 resultFrom back (suc n) value = refused (suc n)
 
--- Document 01 numbers its refusals from 1 on, so a caller tells by 0 that there is none. The theorems at the end of each file
--- here say that no call's answer is lost by it.
+-- Document 01 numbers its refusals from 1 on, so a caller tells by 0 that there is none. The theorems at the end of each
+-- file here say that no call's answer is lost by it.
 abbrev pub Numbered : {A : Type 0} → Result A → Type 0
 Numbered (accepted a) = Unit
 Numbered (refused number) = 1 ≤ number

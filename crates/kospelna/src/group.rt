@@ -168,7 +168,8 @@ fn write_finding(finding: Finding) -> FlatGroupFinding
     }
 }
 
-// The group in eight lent bytes: refusal 9 for the length, the code and the filler, then 10 for a value.
+// The group in eight lent bytes: refusal 9 for the length, the code and the filler, then 10 for a
+// value.
 #[no_mangle]
 pub extern "C" fn kospelna_group_read(bytes: &[u8]) -> FlatGroupReading
     ensures { λ r. ⌜ r ≡ readingOut (readOf (now (bytes .entry))) ⌝ }
@@ -176,7 +177,8 @@ pub extern "C" fn kospelna_group_read(bytes: &[u8]) -> FlatGroupReading
     write_reading(groups::read::read(bytes))
 }
 
-// A group into eight lent bytes: refusal 9 for the length and the code, then 10 for a value; a refusal leaves the bytes.
+// A group into eight lent bytes: refusal 9 for the length and the code, then 10 for a value; a
+// refusal leaves the bytes.
 #[no_mangle]
 pub extern "C" fn kospelna_group_write(group: FlatGroup, bytes: &mut [u8]) -> FlatGroupWriting
     ensures { λ r. ⌜ written r (now (bytes .exit)) ≡ writtenOut (writeOf (groupIn group) (now (bytes .entry))) ⌝ }

@@ -1,4 +1,5 @@
-// The receiver over C's layouts: each call reads the flat receiver, calls the receiver and writes its answer.
+// The receiver over C's layouts: each call reads the flat receiver, calls the receiver and writes
+// its answer.
 ghost use mathlib.Core.Path.{_≡_};
 ghost use Rattle.kospelna.specs.Frames.{frameFrom};
 ghost use Rattle.kospelna.specs.Receive.{
@@ -32,9 +33,9 @@ use receiver::Phase;
 use receiver::Receiver;
 use receiver::Settings;
 
-// A receiver: timeout T, window C and capacity K; the phase's number (0 Idle, 1 Idle with a delivery remembered, 2 Open;
-// any other is read as Idle); N and L; the frame expected, the window's last, wait and misses. What a phase has not is
-// written as 0 and not read.
+// A receiver: timeout T, window C and capacity K; the phase's number (0 Idle, 1 Idle with a
+// delivery remembered, 2 Open; any other is read as Idle); N and L; the frame expected, the
+// window's last, wait and misses. What a phase has not is written as 0 and not read.
 #[repr(C)]
 pub struct FlatReceiver {
     pub timeout: u16,
@@ -49,16 +50,18 @@ pub struct FlatReceiver {
     pub misses: u16,
 }
 
-// What making answers: the refusal's number, 0 where there is none, and the receiver, zeros where refused.
+// What making answers: the refusal's number, 0 where there is none, and the receiver, zeros where
+// refused.
 #[repr(C)]
 pub struct FlatReceiverMade {
     pub refusal: u8,
     pub receiver: FlatReceiver,
 }
 
-// What a call answers: the next state; whether a frame goes out, and which (zeros where none does); the outcome's number
-// (0 quiet, 1 refused, 3 failed, 4 delivered, 5 short); the refusal's number; a failure's cause; the delivered length; the
-// bytes of a short delivery. What an outcome has not is 0.
+// What a call answers: the next state; whether a frame goes out, and which (zeros where none does);
+// the outcome's number (0 quiet, 1 refused, 3 failed, 4 delivered, 5 short); the refusal's number;
+// a failure's cause; the delivered length; the bytes of a short delivery. What an outcome has not
+// is 0.
 #[repr(C)]
 pub struct FlatReceiverAnswer {
     pub next: FlatReceiver,

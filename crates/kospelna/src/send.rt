@@ -1,4 +1,5 @@
-// The sender over C's layouts: each call reads the flat sender, calls the sender and writes its answer.
+// The sender over C's layouts: each call reads the flat sender, calls the sender and writes its
+// answer.
 ghost use mathlib.Core.Path.{_≡_};
 ghost use Rattle.kospelna.specs.Frames.{frameFrom};
 ghost use Rattle.kospelna.specs.Send.{
@@ -35,10 +36,10 @@ use sender::Single;
 use sender::Streamed;
 use sender::Transfer;
 
-// A sender: gap G, timeout T and sending time M; the phase's number (0 Idle, 1 Opening, 2 Sending, 3 Waiting, 4 Short; any
-// other is read as Idle); L, N and the message's first byte; the ticks and the frames emitted since begin; wait and
-// misses; the last start taken, the number of the frame due, the window's last, and the gap count. What a phase has not
-// is written as 0 and not read.
+// A sender: gap G, timeout T and sending time M; the phase's number (0 Idle, 1 Opening, 2 Sending,
+// 3 Waiting, 4 Short; any other is read as Idle); L, N and the message's first byte; the ticks and
+// the frames emitted since begin; wait and misses; the last start taken, the number of the frame
+// due, the window's last, and the gap count. What a phase has not is written as 0 and not read.
 #[repr(C)]
 pub struct FlatSender {
     pub gap: u16,
@@ -58,16 +59,17 @@ pub struct FlatSender {
     pub count: u16,
 }
 
-// What making answers: the refusal's number, 0 where there is none, and the sender, zeros where refused.
+// What making answers: the refusal's number, 0 where there is none, and the sender, zeros where
+// refused.
 #[repr(C)]
 pub struct FlatSenderMade {
     pub refusal: u8,
     pub sender: FlatSender,
 }
 
-// What a call answers: the next state; whether a frame goes out, and which (zeros where none does); the outcome's number
-// (0 quiet, 1 refused, 2 sent, 3 failed); the refusal's number; a failure's cause; a report's ticks and frames. What an
-// outcome has not is 0.
+// What a call answers: the next state; whether a frame goes out, and which (zeros where none does);
+// the outcome's number (0 quiet, 1 refused, 2 sent, 3 failed); the refusal's number; a failure's
+// cause; a report's ticks and frames. What an outcome has not is 0.
 #[repr(C)]
 pub struct FlatSenderAnswer {
     pub next: FlatSender,

@@ -94,7 +94,8 @@ pub struct FlatVersionReading {
     pub message: FlatVersionMessage,
 }
 
-// Side 0 is the charger, 1 the vehicle; state 0 to 5 is S0 to S5; verdict as above. Any other number is read as 0.
+// Side 0 is the charger, 1 the vehicle; state 0 to 5 is S0 to S5; verdict as above. Any other
+// number is read as 0.
 #[repr(C)]
 pub struct FlatTalker {
     pub side: u8,
@@ -108,15 +109,16 @@ pub struct FlatTalker {
     pub timing: bool,
 }
 
-// What making answers: the refusal's number, 0 where there is none, and the talker, zeros where refused.
+// What making answers: the refusal's number, 0 where there is none, and the talker, zeros where
+// refused.
 #[repr(C)]
 pub struct FlatTalkerMade {
     pub refusal: u8,
     pub talker: FlatTalker,
 }
 
-// Outcome 0: quiet; 1: refused, with the refusal's number; 3: failed; 6: agreed, with the version; 7: left. What an outcome
-// has not is 0. Where emits is false, bytes are eight zeros.
+// Outcome 0: quiet; 1: refused, with the refusal's number; 3: failed; 6: agreed, with the version;
+// 7: left. What an outcome has not is 0. Where emits is false, bytes are eight zeros.
 #[repr(C)]
 pub struct FlatTalkerAnswer {
     pub next: FlatTalker,

@@ -1,5 +1,5 @@
--- `kospelna::talk::kospelna_version_message_write` meets its contract. By the result: the bytes of the message that was read, or
--- the refusal.
+-- `kospelna::talk::kospelna_version_message_write` meets its contract. By the result: the bytes of the message that was
+-- read, or the refusal.
 -- Assumes nothing.
 use borrow.Author.Needs.{needs}
 use Rattle.kospelna.proofs.TalkLaws.{message-paths}
