@@ -7,7 +7,7 @@ use native.Mathlib.Omega.{arith}
 use Rattle.frame.proofs.Choice.{pick-elim}
 use Rattle.frame.specs.Result.{Result}
 use Rattle.frame.specs.Choice.{pick}
-use Rattle.kospelna.specs.Receive.{connectionFrom, phaseFrom, receiverFrom, flatOf, flatPhase, flatReceiver, Written, idle, done, opened, outcomeNumber, outcomeRefusal, outcomeCause, outcomeLength, flatAnswer, noReceiver, flatMade, outcomeFrom, answerFrom, madeFrom, ReceiverWhole}
+use Rattle.kospelna.specs.Receive.{connectionFrom, phaseFrom, receiverFrom, flatOf, flatPhase, flatReceiver, Written, idle, done, opened, flatOutcome, flatAnswer, noReceiver, flatMade, outcomeFrom, answerFrom, madeFrom, ReceiverWhole}
 use Rattle.kospelna.specs.Refusals.{Numbered}
 use Rattle.kospelna.specs.declared.receive.FlatReceiver.{FlatReceiver}
 use Rattle.receiver.specs.Make.{makeOf}
@@ -55,9 +55,8 @@ flat-back r (opened p) = ap (flatPhase _) (sym (reads-open r p _ refl)) ∙ rebu
 
 -- ---- answers
 
-outcome-back : (o : Outcome)
-    → outcomeFrom (outcomeNumber o) (outcomeRefusal o) (outcomeCause o) (outcomeLength o) ≡ o
-unfolding outcomeFrom pick
+outcome-back : (o : Outcome) → outcomeFrom (flatOutcome o) ≡ o
+unfolding outcomeFrom flatOutcome pick
 outcome-back quiet = refl
 outcome-back (refused number) = refl
 outcome-back (delivered length) = refl
@@ -67,7 +66,11 @@ outcome-back short = refl
 -- a caller reads the definition's answer off the flat one, whole
 pub answer-back : (t : Told) → answerFrom (flatAnswer t) ≡ t
 unfolding answerFrom flatAnswer
-answer-back t = rw (receiver-back (t .next), outcome-back (t .outcome))
+answer-back t =
+    ap (λ (r : Receiver). record { next = r; emits = t .emits; frame = t .frame; outcome = outcomeFrom (flatOutcome (t .outcome)); bytes = t .bytes })
+    (receiver-back (t .next))
+    ∙ ap (λ (o : Outcome). record { next = t .next; emits = t .emits; frame = t .frame; outcome = o; bytes = t .bytes })
+    (outcome-back (t .outcome))
 
 pub made-back : (m : Result Receiver) → Numbered m → madeFrom (flatMade m) ≡ m
 unfolding flatMade

@@ -8,11 +8,12 @@ use Rattle.frame.specs.Result.{Result}
 use Rattle.frame.specs.Choice.{pick}
 use Rattle.frame.specs.declared.Frame.{Frame}
 use Rattle.kospelna.specs.Frames.{frameFrom, flatFrame}
-use Rattle.kospelna.specs.Receive.{connectionFrom, phaseFrom, receiverFrom, remembering, flatOf, flatPhase, flatReceiver, outcomeNumber, outcomeRefusal, outcomeCause, outcomeLength, flatAnswer, noReceiver, flatMade, hearing, flatHeard}
+use Rattle.kospelna.specs.Receive.{connectionFrom, phaseFrom, receiverFrom, remembering, flatOf, flatPhase, flatReceiver, report, flatOutcome, flatAnswer, noReceiver, flatMade, hearing, flatHeard}
 use Rattle.kospelna.specs.declared.frames.FlatFrame.{FlatFrame}
 use Rattle.kospelna.specs.declared.receive.FlatReceiver.{FlatReceiver}
 use Rattle.kospelna.specs.declared.receive.FlatReceiverAnswer.{FlatReceiverAnswer}
 use Rattle.kospelna.specs.declared.receive.FlatReceiverMade.{FlatReceiverMade}
+use Rattle.kospelna.specs.declared.receive.Report.{Report}
 use Rattle.receiver.specs.Hear.{hearOf}
 use Rattle.receiver.specs.Make.{makeOf}
 use Rattle.receiver.specs.Tick.{tickOf}
@@ -22,6 +23,8 @@ use Rattle.receiver.specs.declared.Connection.{Connection}
 use Rattle.receiver.specs.declared.Delivery.{Delivery}
 use Rattle.receiver.specs.declared.Made as made-enum
 use Rattle.receiver.specs.declared.Made.the-variants as made-variants
+use Rattle.receiver.specs.declared.Outcome as outcome-enum
+use Rattle.receiver.specs.declared.Outcome.the-variants as outcome-variants
 use Rattle.receiver.specs.declared.Phase.{Phase}
 use Rattle.receiver.specs.declared.Phase.the-variants.{Idle, Done, Open}
 use Rattle.receiver.specs.declared.Receiver.{Receiver}
@@ -74,23 +77,50 @@ pub ruleset writes = (writes-idle, writes-done, writes-open)
 
 -- ---- answers
 
-pub writes-answer : (a : Answer) (next : FlatReceiver) (f : FlatFrame) (n r c l : ℕ) → next ≡ flatReceiver (a .next)
-    → f ≡ flatFrame (a .frame) → n ≡ outcomeNumber (toldOutcome (a .outcome)) → r ≡ outcomeRefusal (toldOutcome (a .outcome))
-    → c ≡ outcomeCause (toldOutcome (a .outcome)) → l ≡ outcomeLength (toldOutcome (a .outcome))
+module _ (r : Report) (o : outcome-enum.Outcome) where
+  pub tells-quiet : r ≡ report 0 0 0 0 → o ≡ outcome-variants.Quiet
+      → r ≡ flatOutcome (toldOutcome o)
+  unfolding flatOutcome
+  tells-quiet e p = cc
+
+  pub tells-refused : (n : ℕ) → r ≡ report 1 n 0 0 → o ≡ outcome-variants.Refused n
+      → r ≡ flatOutcome (toldOutcome o)
+  unfolding flatOutcome
+  tells-refused n e p = cc
+
+  pub tells-delivered : (n : ℕ) → r ≡ report 4 0 0 n → o ≡ outcome-variants.Delivered n
+      → r ≡ flatOutcome (toldOutcome o)
+  unfolding flatOutcome
+  tells-delivered n e p = cc
+
+  pub tells-failed : (n : ℕ) → r ≡ report 3 0 n 0 → o ≡ outcome-variants.Failed n
+      → r ≡ flatOutcome (toldOutcome o)
+  unfolding flatOutcome
+  tells-failed n e p = cc
+
+  pub tells-short : r ≡ report 5 0 0 0 → o ≡ outcome-variants.Short
+      → r ≡ flatOutcome (toldOutcome o)
+  unfolding flatOutcome
+  tells-short e p = cc
+
+pub ruleset tells = (tells-quiet, tells-refused, tells-delivered, tells-failed, tells-short)
+
+pub writes-answer : (a : Answer) (next : FlatReceiver) (f : FlatFrame) (r : Report) → next ≡ flatReceiver (a .next)
+    → f ≡ flatFrame (a .frame) → r ≡ flatOutcome (toldOutcome (a .outcome))
     → _≡_ {A = FlatReceiverAnswer}
     (record {
       next = next;
       emits = a .emits;
       frame = f;
-      outcome = n;
-      refusal = r;
-      cause = c;
-      length = l;
+      outcome = r .outcome;
+      refusal = r .refusal;
+      cause = r .cause;
+      length = r .length;
       bytes = a .bytes;
     })
     (flatAnswer (told a))
 unfolding flatAnswer
-writes-answer a next f n r c l k0 k1 k2 k3 k4 k5 = rw (k0, k1, k2, k3, k4, k5)
+writes-answer a next f r n k o = cc
 
 pub zeros : (a : FlatReceiver) (k : Connection) → k ≡ remembering 0 0
     → a ≡ flatOf (record { timeout = 0; window = 0; capacity = 0 }) 0 k → a ≡ noReceiver

@@ -7,7 +7,7 @@ use native.Mathlib.Omega.{arith}
 use Rattle.frame.proofs.Choice.{pick-elim}
 use Rattle.frame.specs.Result.{Result}
 use Rattle.frame.specs.Choice.{pick}
-use Rattle.kospelna.specs.Send.{transferFrom, phaseFrom, senderFrom, flatOf, flatPhase, flatSender, windowFrom, Written, idle, opening, sending, waiting, short, outcomeNumber, outcomeRefusal, outcomeCause, outcomeTicks, outcomeFrames, flatAnswer, noSender, flatMade, outcomeFrom, answerFrom, madeFrom, SenderWhole}
+use Rattle.kospelna.specs.Send.{transferFrom, phaseFrom, senderFrom, flatOf, flatPhase, flatSender, windowFrom, Written, idle, opening, sending, waiting, short, flatOutcome, flatAnswer, noSender, flatMade, outcomeFrom, answerFrom, madeFrom, SenderWhole}
 use Rattle.kospelna.specs.Refusals.{Numbered}
 use Rattle.kospelna.specs.declared.send.FlatSender.{FlatSender}
 use Rattle.sender.specs.Make.{makeOf}
@@ -66,9 +66,8 @@ flat-back s (short p w m) = ap (flatPhase _) (sym (reads-short s _ refl p)) ∙ 
 
 -- ---- answers
 
-outcome-back : (o : Outcome)
-    → outcomeFrom (outcomeNumber o) (outcomeRefusal o) (outcomeCause o) (outcomeTicks o) (outcomeFrames o) ≡ o
-unfolding outcomeFrom pick
+outcome-back : (o : Outcome) → outcomeFrom (flatOutcome o) ≡ o
+unfolding outcomeFrom flatOutcome pick
 outcome-back quiet = refl
 outcome-back (refused number) = refl
 outcome-back (sent ticks frames) = refl
@@ -77,7 +76,10 @@ outcome-back (failed cause ticks frames) = refl
 -- a caller reads the definition's answer off the flat one, whole
 pub answer-back : (t : Told) → answerFrom (flatAnswer t) ≡ t
 unfolding answerFrom flatAnswer
-answer-back t = rw (sender-back (t .next), outcome-back (t .outcome))
+answer-back t =
+    ap (λ (s : Sender). record { next = s; emits = t .emits; frame = t .frame; outcome = outcomeFrom (flatOutcome (t .outcome)) })
+    (sender-back (t .next))
+    ∙ ap (λ (o : Outcome). record { next = t .next; emits = t .emits; frame = t .frame; outcome = o }) (outcome-back (t .outcome))
 
 pub made-back : (m : Result Sender) → Numbered m → madeFrom (flatMade m) ≡ m
 unfolding flatMade

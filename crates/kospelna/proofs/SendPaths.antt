@@ -8,9 +8,10 @@ use Rattle.frame.specs.Result.{Result}
 use Rattle.frame.specs.Choice.{pick}
 use Rattle.frame.specs.declared.Frame.{Frame}
 use Rattle.kospelna.specs.Frames.{frameFrom, flatFrame}
-use Rattle.kospelna.specs.Send.{transferFrom, openingFrom, sendingFrom, waitingFrom, shortFrom, phaseFrom, senderFrom, window, noTransfer, flatOf, flatPhase, flatSender, outcomeNumber, outcomeRefusal, outcomeCause, outcomeTicks, outcomeFrames, flatAnswer, noSender, flatMade}
+use Rattle.kospelna.specs.Send.{transferFrom, openingFrom, sendingFrom, waitingFrom, shortFrom, phaseFrom, senderFrom, window, noTransfer, flatOf, flatPhase, flatSender, report, flatOutcome, flatAnswer, noSender, flatMade}
 use Rattle.kospelna.specs.declared.frames.FlatFrame.{FlatFrame}
 use Rattle.kospelna.specs.declared.send.FlatSender.{FlatSender}
+use Rattle.kospelna.specs.declared.send.Report.{Report}
 use Rattle.kospelna.specs.declared.send.FlatSenderAnswer.{FlatSenderAnswer}
 use Rattle.kospelna.specs.declared.send.FlatSenderMade.{FlatSenderMade}
 use Rattle.kospelna.specs.declared.send.Window.{Window}
@@ -24,6 +25,8 @@ use Rattle.sender.specs.declared.Answer.{Answer}
 use Rattle.sender.specs.declared.Awaited.{Awaited}
 use Rattle.sender.specs.declared.Made as made-enum
 use Rattle.sender.specs.declared.Made.the-variants as made-variants
+use Rattle.sender.specs.declared.Outcome as outcome-enum
+use Rattle.sender.specs.declared.Outcome.the-variants as outcome-variants
 use Rattle.sender.specs.declared.Phase.{Phase}
 use Rattle.sender.specs.declared.Phase.the-variants.{Idle, Opening, Sending, Waiting, Short}
 use Rattle.sender.specs.declared.Sender.{Sender}
@@ -100,24 +103,45 @@ pub ruleset writes = (writes-idle, writes-opening, writes-sending, writes-waitin
 
 -- ---- answers
 
-pub writes-answer : (a : Answer) (next : FlatSender) (f : FlatFrame) (n r c t k : ℕ) → next ≡ flatSender (a .next)
-    → f ≡ flatFrame (a .frame) → n ≡ outcomeNumber (toldOutcome (a .outcome)) → r ≡ outcomeRefusal (toldOutcome (a .outcome))
-    → c ≡ outcomeCause (toldOutcome (a .outcome)) → t ≡ outcomeTicks (toldOutcome (a .outcome))
-    → k ≡ outcomeFrames (toldOutcome (a .outcome))
+module _ (r : Report) (o : outcome-enum.Outcome) where
+  pub tells-quiet : r ≡ report 0 0 0 0 0 → o ≡ outcome-variants.Quiet
+      → r ≡ flatOutcome (toldOutcome o)
+  unfolding flatOutcome
+  tells-quiet e p = cc
+
+  pub tells-refused : (n : ℕ) → r ≡ report 1 n 0 0 0
+      → o ≡ outcome-variants.Refused n → r ≡ flatOutcome (toldOutcome o)
+  unfolding flatOutcome
+  tells-refused n e p = cc
+
+  pub tells-sent : (t f : ℕ) → r ≡ report 2 0 0 t f
+      → o ≡ outcome-variants.Sent t f → r ≡ flatOutcome (toldOutcome o)
+  unfolding flatOutcome
+  tells-sent t f e p = cc
+
+  pub tells-failed : (n t f : ℕ) → r ≡ report 3 0 n t f
+      → o ≡ outcome-variants.Failed n t f → r ≡ flatOutcome (toldOutcome o)
+  unfolding flatOutcome
+  tells-failed n t f e p = cc
+
+pub ruleset tells = (tells-quiet, tells-refused, tells-sent, tells-failed)
+
+pub writes-answer : (a : Answer) (next : FlatSender) (f : FlatFrame) (r : Report) → next ≡ flatSender (a .next)
+    → f ≡ flatFrame (a .frame) → r ≡ flatOutcome (toldOutcome (a .outcome))
     → _≡_ {A = FlatSenderAnswer}
     (record {
       next = next;
       emits = a .emits;
       frame = f;
-      outcome = n;
-      refusal = r;
-      cause = c;
-      ticks = t;
-      frames = k;
+      outcome = r .outcome;
+      refusal = r .refusal;
+      cause = r .cause;
+      ticks = r .ticks;
+      frames = r .frames;
     })
     (flatAnswer (told a))
 unfolding flatAnswer
-writes-answer a next f n r c t k h0 h1 h2 h3 h4 h5 h6 = rw (h0, h1, h2, h3, h4, h5, h6)
+writes-answer a next f r n k o = cc
 
 pub zeros : (a : FlatSender) (t : Transfer) (w : Window) → t ≡ noTransfer → w ≡ window 0 0 0 0
     → a ≡ flatOf (record { gap = 0; timeout = 0; limit = 0 }) 0 t w 0 0 → a ≡ noSender

@@ -10,6 +10,7 @@ use Rattle.kospelna.specs.Refusals.{valueOf, resultFrom}
 use Rattle.kospelna.specs.declared.receive.FlatReceiver.{FlatReceiver}
 use Rattle.kospelna.specs.declared.receive.FlatReceiverAnswer.{FlatReceiverAnswer}
 use Rattle.kospelna.specs.declared.receive.FlatReceiverMade.{FlatReceiverMade}
+use Rattle.kospelna.specs.declared.receive.Report.{Report}
 use Rattle.receiver.specs.Make.{makeOf}
 use Rattle.receiver.specs.Told.{Outcome, quiet, refused, delivered, failed, short, Told, Heard}
 use Rattle.receiver.specs.declared.Connection.{Connection}
@@ -83,47 +84,32 @@ pub data Written (r : FlatReceiver) : Type 0 where
 
 -- ---- answers
 
+abbrev pub report : ℕ → ℕ → ℕ → ℕ → Report
+report outcome refusal cause length = record { outcome = outcome; refusal = refusal; cause = cause; length = length }
+
 -- 0 quiet, 1 refused with its number, 3 failed with its cause, 4 delivered with its length, 5 short; 0 for what is not there
-abbrev pub outcomeNumber : Outcome → ℕ
-outcomeNumber quiet = 0
-outcomeNumber (refused number) = 1
-outcomeNumber (delivered length) = 4
-outcomeNumber (failed cause) = 3
-outcomeNumber short = 5
+unfoldable pub flatOutcome : Outcome → Report
+flatOutcome quiet = report 0 0 0 0
+flatOutcome (refused number) = report 1 number 0 0
+flatOutcome (delivered length) = report 4 0 0 length
+flatOutcome (failed cause) = report 3 0 cause 0
+flatOutcome short = report 5 0 0 0
 
-abbrev pub outcomeRefusal : Outcome → ℕ
-outcomeRefusal quiet = 0
-outcomeRefusal (refused number) = number
-outcomeRefusal (delivered length) = 0
-outcomeRefusal (failed cause) = 0
-outcomeRefusal short = 0
-
-abbrev pub outcomeCause : Outcome → ℕ
-outcomeCause quiet = 0
-outcomeCause (refused number) = 0
-outcomeCause (delivered length) = 0
-outcomeCause (failed cause) = cause
-outcomeCause short = 0
-
-abbrev pub outcomeLength : Outcome → ℕ
-outcomeLength quiet = 0
-outcomeLength (refused number) = 0
-outcomeLength (delivered length) = length
-outcomeLength (failed cause) = 0
-outcomeLength short = 0
-
-unfoldable pub flatAnswer : Told → FlatReceiverAnswer
-flatAnswer t =
+abbrev pub answerOf : FlatReceiver → Told → Report → FlatReceiverAnswer
+answerOf next t r =
     record {
-      next = flatReceiver (t .next);
+      next = next;
       emits = t .emits;
       frame = flatFrame (t .frame);
-      outcome = outcomeNumber (t .outcome);
-      refusal = outcomeRefusal (t .outcome);
-      cause = outcomeCause (t .outcome);
-      length = outcomeLength (t .outcome);
+      outcome = r .outcome;
+      refusal = r .refusal;
+      cause = r .cause;
+      length = r .length;
       bytes = t .bytes;
     }
+
+unfoldable pub flatAnswer : Told → FlatReceiverAnswer
+flatAnswer t = answerOf (flatReceiver (t .next)) t (flatOutcome (t .outcome))
 
 -- all zeros, where no receiver was made
 abbrev pub noReceiver : FlatReceiver
@@ -145,11 +131,11 @@ flatHeard h = hearing (flatAnswer (h .told)) (h .buffer)
 
 -- ---- what a caller reads off an answer
 
-unfoldable pub outcomeFrom : ℕ → ℕ → ℕ → ℕ → Outcome
-outcomeFrom outcome refusal cause length =
-    pick (eqb outcome 1) (refused refusal)
-    (pick (eqb outcome 3) (failed cause)
-    (pick (eqb outcome 4) (delivered length) (pick (eqb outcome 5) short quiet)))
+unfoldable pub outcomeFrom : Report → Outcome
+outcomeFrom r =
+    pick (eqb (r .outcome) 1) (refused (r .refusal))
+    (pick (eqb (r .outcome) 3) (failed (r .cause))
+    (pick (eqb (r .outcome) 4) (delivered (r .length)) (pick (eqb (r .outcome) 5) short quiet)))
 
 unfoldable pub answerFrom : FlatReceiverAnswer → Told
 answerFrom a =
@@ -157,7 +143,7 @@ answerFrom a =
       next = receiverFrom (a .next);
       emits = a .emits;
       frame = frameFrom (a .frame);
-      outcome = outcomeFrom (a .outcome) (a .refusal) (a .cause) (a .length);
+      outcome = outcomeFrom (report (a .outcome) (a .refusal) (a .cause) (a .length));
       bytes = a .bytes;
     }
 

@@ -7,6 +7,7 @@ use Rattle.frame.specs.Choice.{pick}
 use Rattle.kospelna.specs.Frames.{frameFrom, flatFrame}
 use Rattle.kospelna.specs.Refusals.{valueOf, resultFrom}
 use Rattle.kospelna.specs.declared.send.FlatSender.{FlatSender}
+use Rattle.kospelna.specs.declared.send.Report.{Report}
 use Rattle.kospelna.specs.declared.send.FlatSenderAnswer.{FlatSenderAnswer}
 use Rattle.kospelna.specs.declared.send.FlatSenderMade.{FlatSenderMade}
 use Rattle.kospelna.specs.declared.send.Window.{Window}
@@ -110,49 +111,32 @@ pub data Written (s : FlatSender) : Type 0 where
 
 -- ---- answers
 
+abbrev pub report : ℕ → ℕ → ℕ → ℕ → ℕ → Report
+report outcome refusal cause ticks frames =
+    record { outcome = outcome; refusal = refusal; cause = cause; ticks = ticks; frames = frames }
+
 -- 0 quiet, 1 refused with its number, 2 sent, 3 failed with its cause; a report's ticks and frames; 0 for what is not there
-abbrev pub outcomeNumber : Outcome → ℕ
-outcomeNumber quiet = 0
-outcomeNumber (refused number) = 1
-outcomeNumber (sent ticks frames) = 2
-outcomeNumber (failed cause ticks frames) = 3
+unfoldable pub flatOutcome : Outcome → Report
+flatOutcome quiet = report 0 0 0 0 0
+flatOutcome (refused number) = report 1 number 0 0 0
+flatOutcome (sent ticks frames) = report 2 0 0 ticks frames
+flatOutcome (failed cause ticks frames) = report 3 0 cause ticks frames
 
-abbrev pub outcomeRefusal : Outcome → ℕ
-outcomeRefusal quiet = 0
-outcomeRefusal (refused number) = number
-outcomeRefusal (sent ticks frames) = 0
-outcomeRefusal (failed cause ticks frames) = 0
-
-abbrev pub outcomeCause : Outcome → ℕ
-outcomeCause quiet = 0
-outcomeCause (refused number) = 0
-outcomeCause (sent ticks frames) = 0
-outcomeCause (failed cause ticks frames) = cause
-
-abbrev pub outcomeTicks : Outcome → ℕ
-outcomeTicks quiet = 0
-outcomeTicks (refused number) = 0
-outcomeTicks (sent ticks frames) = ticks
-outcomeTicks (failed cause ticks frames) = ticks
-
-abbrev pub outcomeFrames : Outcome → ℕ
-outcomeFrames quiet = 0
-outcomeFrames (refused number) = 0
-outcomeFrames (sent ticks frames) = frames
-outcomeFrames (failed cause ticks frames) = frames
-
-unfoldable pub flatAnswer : Told → FlatSenderAnswer
-flatAnswer t =
+abbrev pub answerOf : FlatSender → Told → Report → FlatSenderAnswer
+answerOf next t r =
     record {
-      next = flatSender (t .next);
+      next = next;
       emits = t .emits;
       frame = flatFrame (t .frame);
-      outcome = outcomeNumber (t .outcome);
-      refusal = outcomeRefusal (t .outcome);
-      cause = outcomeCause (t .outcome);
-      ticks = outcomeTicks (t .outcome);
-      frames = outcomeFrames (t .outcome);
+      outcome = r .outcome;
+      refusal = r .refusal;
+      cause = r .cause;
+      ticks = r .ticks;
+      frames = r .frames;
     }
+
+unfoldable pub flatAnswer : Told → FlatSenderAnswer
+flatAnswer t = answerOf (flatSender (t .next)) t (flatOutcome (t .outcome))
 
 -- all zeros, where no sender was made
 abbrev pub noSender : FlatSender
@@ -163,10 +147,14 @@ flatMade m = record { refusal = refusalOf m; sender = valueOf flatSender noSende
 
 -- ---- what a caller reads off an answer
 
-unfoldable pub outcomeFrom : ℕ → ℕ → ℕ → ℕ → ℕ → Outcome
-outcomeFrom outcome refusal cause ticks frames =
-    pick (eqb outcome 1) (refused refusal)
-    (pick (eqb outcome 2) (sent ticks frames) (pick (eqb outcome 3) (failed cause ticks frames) quiet))
+unfoldable pub outcomeFrom : Report → Outcome
+outcomeFrom r =
+    pick (eqb (r .outcome) 1) (refused (r .refusal))
+    (pick (eqb (r .outcome) 2) (sent (r .ticks) (r .frames))
+    (pick (eqb (r .outcome) 3) (failed (r .cause) (r .ticks) (r .frames)) quiet))
+
+abbrev pub reportFrom : FlatSenderAnswer → Report
+reportFrom a = report (a .outcome) (a .refusal) (a .cause) (a .ticks) (a .frames)
 
 unfoldable pub answerFrom : FlatSenderAnswer → Told
 answerFrom a =
@@ -174,7 +162,7 @@ answerFrom a =
       next = senderFrom (a .next);
       emits = a .emits;
       frame = frameFrom (a .frame);
-      outcome = outcomeFrom (a .outcome) (a .refusal) (a .cause) (a .ticks) (a .frames);
+      outcome = outcomeFrom (reportFrom a);
     }
 
 abbrev pub madeFrom : FlatSenderMade → Result Sender

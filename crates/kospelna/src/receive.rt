@@ -9,10 +9,8 @@ ghost use Rattle.kospelna.specs.Receive.{
   flatOf,
   remembering,
   flatReceiver,
-  outcomeNumber,
-  outcomeRefusal,
-  outcomeCause,
-  outcomeLength,
+  report,
+  flatOutcome,
   flatAnswer,
   noReceiver,
   flatMade,
@@ -74,6 +72,14 @@ pub struct FlatReceiverAnswer {
     pub cause: u8,
     pub length: u16,
     pub bytes: [u8; 8],
+}
+
+// An outcome's numbers.
+pub(crate) struct Report {
+    pub outcome: u8,
+    pub refusal: u8,
+    pub cause: u8,
+    pub length: u16,
 }
 
 fn read_connection(r: FlatReceiver) -> Connection
@@ -161,51 +167,26 @@ fn write_receiver(r: Receiver) -> FlatReceiver
     }
 }
 
-fn outcome_number(outcome: Outcome) -> u8
-    ensures { λ r. ⌜ r ≡ outcomeNumber (toldOutcome outcome) ⌝ }
+fn reported(outcome: u8, refusal: u8, cause: u8, length: u16) -> Report
+    ensures { λ r. ⌜ r ≡ report outcome refusal cause length ⌝ }
 {
-    match outcome {
-        Outcome::Quiet => 0,
-        Outcome::Refused(_) => 1,
-        Outcome::Delivered(_) => 4,
-        Outcome::Failed(_) => 3,
-        Outcome::Short => 5,
+    Report {
+        outcome,
+        refusal,
+        cause,
+        length,
     }
 }
 
-fn outcome_refusal(outcome: Outcome) -> u8
-    ensures { λ r. ⌜ r ≡ outcomeRefusal (toldOutcome outcome) ⌝ }
+fn write_outcome(outcome: Outcome) -> Report
+    ensures { λ r. ⌜ r ≡ flatOutcome (toldOutcome outcome) ⌝ }
 {
     match outcome {
-        Outcome::Quiet => 0,
-        Outcome::Refused(number) => number,
-        Outcome::Delivered(_) => 0,
-        Outcome::Failed(_) => 0,
-        Outcome::Short => 0,
-    }
-}
-
-fn outcome_cause(outcome: Outcome) -> u8
-    ensures { λ r. ⌜ r ≡ outcomeCause (toldOutcome outcome) ⌝ }
-{
-    match outcome {
-        Outcome::Quiet => 0,
-        Outcome::Refused(_) => 0,
-        Outcome::Delivered(_) => 0,
-        Outcome::Failed(cause) => cause,
-        Outcome::Short => 0,
-    }
-}
-
-fn outcome_length(outcome: Outcome) -> u16
-    ensures { λ r. ⌜ r ≡ outcomeLength (toldOutcome outcome) ⌝ }
-{
-    match outcome {
-        Outcome::Quiet => 0,
-        Outcome::Refused(_) => 0,
-        Outcome::Delivered(length) => length,
-        Outcome::Failed(_) => 0,
-        Outcome::Short => 0,
+        Outcome::Quiet => reported(0, 0, 0, 0),
+        Outcome::Refused(number) => reported(1, number, 0, 0),
+        Outcome::Delivered(length) => reported(4, 0, 0, length),
+        Outcome::Failed(cause) => reported(3, 0, cause, 0),
+        Outcome::Short => reported(5, 0, 0, 0),
     }
 }
 
@@ -214,20 +195,17 @@ fn write_answer(a: Answer) -> FlatReceiverAnswer
 {
     let next = write_receiver(a.next);
     let frame = write_frame(a.frame);
-    let came = a.outcome;
-    let outcome = outcome_number(came);
-    let refusal = outcome_refusal(came);
-    let cause = outcome_cause(came);
-    let length = outcome_length(came);
+    let outcome = a.outcome;
+    let report = write_outcome(outcome);
     let bytes = a.bytes;
     FlatReceiverAnswer {
         next,
         emits: a.emits,
         frame,
-        outcome,
-        refusal,
-        cause,
-        length,
+        outcome: report.outcome,
+        refusal: report.refusal,
+        cause: report.cause,
+        length: report.length,
         bytes,
     }
 }

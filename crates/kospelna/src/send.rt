@@ -10,11 +10,8 @@ ghost use Rattle.kospelna.specs.Send.{
   noTransfer,
   window,
   flatSender,
-  outcomeNumber,
-  outcomeRefusal,
-  outcomeCause,
-  outcomeTicks,
-  outcomeFrames,
+  report,
+  flatOutcome,
   flatAnswer,
   noSender,
   flatMade,
@@ -91,6 +88,15 @@ pub(crate) struct Window {
     pub due: u8,
     pub last: u8,
     pub count: u16,
+}
+
+// An outcome's numbers.
+pub(crate) struct Report {
+    pub outcome: u8,
+    pub refusal: u8,
+    pub cause: u8,
+    pub ticks: u16,
+    pub frames: u16,
 }
 
 fn read_transfer(s: FlatSender) -> Transfer
@@ -221,87 +227,30 @@ fn write_sender(s: Sender) -> FlatSender
     }
 }
 
-fn outcome_number(outcome: Outcome) -> u8
-    ensures { λ r. ⌜ r ≡ outcomeNumber (toldOutcome outcome) ⌝ }
+fn write_outcome(outcome: Outcome) -> Report
+    ensures { λ r. ⌜ r ≡ flatOutcome (toldOutcome outcome) ⌝ }
 {
     match outcome {
-        Outcome::Quiet => 0,
-        Outcome::Refused(_) => 1,
-        Outcome::Sent {
-            ticks: _,
-            frames: _,
-        } => 2,
-        Outcome::Failed {
-            cause: _,
-            ticks: _,
-            frames: _,
-        } => 3,
-    }
-}
-
-fn outcome_refusal(outcome: Outcome) -> u8
-    ensures { λ r. ⌜ r ≡ outcomeRefusal (toldOutcome outcome) ⌝ }
-{
-    match outcome {
-        Outcome::Quiet => 0,
-        Outcome::Refused(number) => number,
-        Outcome::Sent {
-            ticks: _,
-            frames: _,
-        } => 0,
-        Outcome::Failed {
-            cause: _,
-            ticks: _,
-            frames: _,
-        } => 0,
-    }
-}
-
-fn outcome_cause(outcome: Outcome) -> u8
-    ensures { λ r. ⌜ r ≡ outcomeCause (toldOutcome outcome) ⌝ }
-{
-    match outcome {
-        Outcome::Quiet => 0,
-        Outcome::Refused(_) => 0,
-        Outcome::Sent {
-            ticks: _,
-            frames: _,
-        } => 0,
+        Outcome::Quiet => reported(0, 0, 0, 0, 0),
+        Outcome::Refused(number) => reported(1, number, 0, 0, 0),
+        Outcome::Sent { ticks, frames } => reported(2, 0, 0, ticks, frames),
         Outcome::Failed {
             cause,
-            ticks: _,
-            frames: _,
-        } => cause,
-    }
-}
-
-fn outcome_ticks(outcome: Outcome) -> u16
-    ensures { λ r. ⌜ r ≡ outcomeTicks (toldOutcome outcome) ⌝ }
-{
-    match outcome {
-        Outcome::Quiet => 0,
-        Outcome::Refused(_) => 0,
-        Outcome::Sent { ticks, frames: _ } => ticks,
-        Outcome::Failed {
-            cause: _,
             ticks,
-            frames: _,
-        } => ticks,
+            frames,
+        } => reported(3, 0, cause, ticks, frames),
     }
 }
 
-fn outcome_frames(outcome: Outcome) -> u16
-    ensures { λ r. ⌜ r ≡ outcomeFrames (toldOutcome outcome) ⌝ }
+fn reported(outcome: u8, refusal: u8, cause: u8, ticks: u16, frames: u16) -> Report
+    ensures { λ r. ⌜ r ≡ report outcome refusal cause ticks frames ⌝ }
 {
-    match outcome {
-        Outcome::Quiet => 0,
-        Outcome::Refused(_) => 0,
-        Outcome::Sent { ticks: _, frames } => frames,
-        Outcome::Failed {
-            cause: _,
-            ticks: _,
-            frames,
-        } => frames,
+    Report {
+        outcome,
+        refusal,
+        cause,
+        ticks,
+        frames,
     }
 }
 
@@ -310,21 +259,17 @@ fn write_answer(a: Answer) -> FlatSenderAnswer
 {
     let next = write_sender(a.next);
     let frame = write_frame(a.frame);
-    let came = a.outcome;
-    let outcome = outcome_number(came);
-    let refusal = outcome_refusal(came);
-    let cause = outcome_cause(came);
-    let ticks = outcome_ticks(came);
-    let frames = outcome_frames(came);
+    let outcome = a.outcome;
+    let report = write_outcome(outcome);
     FlatSenderAnswer {
         next,
         emits: a.emits,
         frame,
-        outcome,
-        refusal,
-        cause,
-        ticks,
-        frames,
+        outcome: report.outcome,
+        refusal: report.refusal,
+        cause: report.cause,
+        ticks: report.ticks,
+        frames: report.frames,
     }
 }
 

@@ -11,17 +11,8 @@ write-receiver-requires c κs = search needs
 write-frame-requires : tie.Need-write-frame-requires
 write-frame-requires c κs = search needs
 
-outcome-number-requires : tie.Need-outcome-number-requires
-outcome-number-requires c κs = search needs
-
-outcome-refusal-requires : tie.Need-outcome-refusal-requires
-outcome-refusal-requires c κs = search needs
-
-outcome-cause-requires : tie.Need-outcome-cause-requires
-outcome-cause-requires c κs = search needs
-
-outcome-length-requires : tie.Need-outcome-length-requires
-outcome-length-requires c κs = search needs
+write-outcome-requires : tie.Need-write-outcome-requires
+write-outcome-requires c κs = search needs
 
 returns : tie.Need-returns
 returns c = search writes-answer
@@ -29,11 +20,4 @@ returns c = search writes-answer
 pub write-answer-spec : {M : Type 1} → statement M
 write-answer-spec =
     tie.close
-    (tie.spec
-    write-receiver-requires
-    write-frame-requires
-    outcome-number-requires
-    outcome-refusal-requires
-    outcome-cause-requires
-    outcome-length-requires
-    returns)
+    (tie.spec write-receiver-requires write-frame-requires write-outcome-requires returns)
