@@ -44,10 +44,10 @@ enum {
 enum {
     KOSPELNA_QUIET = 0,           /* nothing to report */
     KOSPELNA_REFUSED = 1,         /* `refusal` says why */
-    KOSPELNA_SENT = 2,            /* sender: acknowledged, with ticks and frames; it is Idle again */
+    KOSPELNA_DELIVERED = 2,       /* receiver: the message is the buffer's first `length` bytes */
     KOSPELNA_FAILED = 3,          /* sender: with cause, ticks and frames; receiver: with cause; both are Idle; talker: S4 */
-    KOSPELNA_DELIVERED = 4,       /* receiver: the message is the buffer's first `length` bytes */
-    KOSPELNA_DELIVERED_SHORT = 5, /* receiver: the message is the answer's `bytes`; the state stays */
+    KOSPELNA_DELIVERED_SHORT = 4, /* receiver: the message is the answer's `bytes`; the state stays */
+    KOSPELNA_SENT = 5,            /* sender: acknowledged, with ticks and frames; it is Idle again */
     KOSPELNA_AGREED = 6,          /* talker: S2 or S3, with the version */
     KOSPELNA_LEFT = 7             /* talker: S5 */
 };
@@ -164,7 +164,7 @@ typedef struct kospelna_sender_answer {
     kospelna_sender next;
     bool emits;           /* a frame goes out */
     kospelna_frame frame; /* which one; all zeros where none does */
-    uint8_t outcome;      /* KOSPELNA_QUIET, _REFUSED, _SENT, _FAILED */
+    uint8_t outcome;      /* KOSPELNA_QUIET, _REFUSED, _FAILED, _SENT */
     uint8_t refusal;
     uint8_t cause;        /* failed: KOSPELNA_CAUSE_..; else 0 */
     uint16_t ticks;       /* sent, failed: ticks since begin; else 0 */
@@ -219,7 +219,7 @@ typedef struct kospelna_receiver_answer {
     kospelna_receiver next;
     bool emits;           /* a frame goes out */
     kospelna_frame frame; /* which one; all zeros where none does */
-    uint8_t outcome;      /* KOSPELNA_QUIET, _REFUSED, _FAILED, _DELIVERED, _DELIVERED_SHORT */
+    uint8_t outcome;      /* KOSPELNA_QUIET, _REFUSED, _DELIVERED, _FAILED, _DELIVERED_SHORT */
     uint8_t refusal;
     uint8_t cause;        /* failed: KOSPELNA_CAUSE_..; else 0 */
     uint16_t length;      /* delivered: L; else 0 */

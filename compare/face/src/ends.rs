@@ -206,7 +206,7 @@ fn sender_answer(end: &Sender, answer: Result<sender::Answer, Refused>) -> FlatS
         Ok(sender::Answer { frame, report }) => {
             let numbers = match report {
                 None => (0, 0, 0, 0, 0),
-                Some(sender::Report::Sent { ticks, frames }) => (2, 0, 0, ticks, frames),
+                Some(sender::Report::Sent { ticks, frames }) => (5, 0, 0, ticks, frames),
                 Some(sender::Report::Failed {
                     cause,
                     ticks,
@@ -292,9 +292,9 @@ fn receiver_answer(
         Ok(receiver::Answer { frame, report }) => {
             let numbers = match report {
                 None => (0, 0, 0, 0, [0; 8]),
-                Some(receiver::Report::Delivered { l }) => (4, 0, 0, l, [0; 8]),
+                Some(receiver::Report::Delivered { l }) => (2, 0, 0, l, [0; 8]),
                 Some(receiver::Report::Failed { cause }) => (3, 0, cause, 0, [0; 8]),
-                Some(receiver::Report::Short(bytes)) => (5, 0, 0, 0, bytes),
+                Some(receiver::Report::Short(bytes)) => (4, 0, 0, 0, bytes),
             };
             (frame, numbers)
         }

@@ -38,7 +38,7 @@ pub struct FlatSenderMade {
     pub sender: FlatSender,
 }
 
-/// Outcome 0 is quiet, 1 refused, 2 sent, 3 failed.
+/// Outcome 0 is quiet, 1 refused, 3 failed, 5 sent.
 #[repr(C)]
 #[derive(Clone, Copy, Debug, PartialEq, Eq)]
 pub struct FlatSenderAnswer {
@@ -76,7 +76,7 @@ pub struct FlatReceiverMade {
     pub receiver: FlatReceiver,
 }
 
-/// Outcome 0 is quiet, 1 refused, 3 failed, 4 delivered, 5 short.
+/// Outcome 0 is quiet, 1 refused, 2 delivered, 3 failed, 4 short.
 #[repr(C)]
 #[derive(Clone, Copy, Debug, PartialEq, Eq)]
 pub struct FlatReceiverAnswer {

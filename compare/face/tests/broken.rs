@@ -37,7 +37,7 @@ fn the_reference_is_alike_with_itself() {
 #[test]
 fn every_outcome_comes() {
     let (tally, _) = first_difference(&Reference, &Reference, SEED, COUNT);
-    // 0 quiet, 1 refused, 2 sent, 3 failed, 4 delivered, 5 a short delivery, 6 agreed, 7 left.
+    // 0 quiet, 1 refused, 2 delivered, 3 failed, 4 a short delivery, 5 sent, 6 agreed, 7 left.
     let come = |name: &str, numbers: &[usize]| {
         let place = NAMES.iter().position(|&other| other == name).unwrap();
         let found: Vec<usize> = (0..OUTCOMES)
@@ -48,9 +48,9 @@ fn every_outcome_comes() {
     come("sender_begin", &[0, 1]);
     come("sender_post", &[0, 1]);
     come("sender_tick", &[0, 1, 3]);
-    come("sender_hear", &[0, 1, 2, 3]);
+    come("sender_hear", &[0, 1, 3, 5]);
     come("receiver_tick", &[0, 3]);
-    come("receiver_hear", &[0, 1, 3, 4, 5]);
+    come("receiver_hear", &[0, 1, 2, 3, 4]);
     come("talker_connect", &[0]);
     come("talker_tick", &[0, 3]);
     come("talker_hear", &[0, 1, 3, 6]);
@@ -95,7 +95,7 @@ static SENT: [AtomicU64; 3] = [const { AtomicU64::new(0) }; 3];
 fn count(sender: FlatSender, _: FlatFrame, answer: &mut FlatSenderAnswer) {
     let lengths = [1, 9, 1785];
     for (least, sent) in lengths.into_iter().zip(&SENT) {
-        if answer.outcome == 2 && sender.length >= least {
+        if answer.outcome == 5 && sender.length >= least {
             sent.fetch_add(1, Ordering::Relaxed);
         }
     }

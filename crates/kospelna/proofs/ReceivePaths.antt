@@ -88,7 +88,7 @@ module _ (r : Report) (o : outcome-enum.Outcome) where
   unfolding flatOutcome
   tells-refused n e p = cc
 
-  pub tells-delivered : (n : ℕ) → r ≡ report 4 0 0 n → o ≡ outcome-variants.Delivered n
+  pub tells-delivered : (n : ℕ) → r ≡ report 2 0 0 n → o ≡ outcome-variants.Delivered n
       → r ≡ flatOutcome (toldOutcome o)
   unfolding flatOutcome
   tells-delivered n e p = cc
@@ -98,7 +98,7 @@ module _ (r : Report) (o : outcome-enum.Outcome) where
   unfolding flatOutcome
   tells-failed n e p = cc
 
-  pub tells-short : r ≡ report 5 0 0 0 → o ≡ outcome-variants.Short
+  pub tells-short : r ≡ report 4 0 0 0 → o ≡ outcome-variants.Short
       → r ≡ flatOutcome (toldOutcome o)
   unfolding flatOutcome
   tells-short e p = cc

@@ -114,7 +114,7 @@ module _ (r : Report) (o : outcome-enum.Outcome) where
   unfolding flatOutcome
   tells-refused n e p = cc
 
-  pub tells-sent : (t f : ℕ) → r ≡ report 2 0 0 t f
+  pub tells-sent : (t f : ℕ) → r ≡ report 5 0 0 t f
       → o ≡ outcome-variants.Sent t f → r ≡ flatOutcome (toldOutcome o)
   unfolding flatOutcome
   tells-sent t f e p = cc

@@ -87,13 +87,13 @@ pub data Written (r : FlatReceiver) : Type 0 where
 abbrev pub report : ℕ → ℕ → ℕ → ℕ → Report
 report outcome refusal cause length = record { outcome = outcome; refusal = refusal; cause = cause; length = length }
 
--- 0 quiet, 1 refused with its number, 3 failed with its cause, 4 delivered with its length, 5 short; 0 for what is not there
+-- 0 quiet, 1 refused with its number, 2 delivered with its length, 3 failed with its cause, 4 short; 0 for what is not there
 unfoldable pub flatOutcome : Outcome → Report
 flatOutcome quiet = report 0 0 0 0
 flatOutcome (refused number) = report 1 number 0 0
-flatOutcome (delivered length) = report 4 0 0 length
+flatOutcome (delivered length) = report 2 0 0 length
 flatOutcome (failed cause) = report 3 0 cause 0
-flatOutcome short = report 5 0 0 0
+flatOutcome short = report 4 0 0 0
 
 abbrev pub answerOf : FlatReceiver → Told → Report → FlatReceiverAnswer
 answerOf next t r =
@@ -134,8 +134,8 @@ flatHeard h = hearing (flatAnswer (h .told)) (h .buffer)
 unfoldable pub outcomeFrom : Report → Outcome
 outcomeFrom r =
     pick (eqb (r .outcome) 1) (refused (r .refusal))
-    (pick (eqb (r .outcome) 3) (failed (r .cause))
-    (pick (eqb (r .outcome) 4) (delivered (r .length)) (pick (eqb (r .outcome) 5) short quiet)))
+    (pick (eqb (r .outcome) 2) (delivered (r .length))
+    (pick (eqb (r .outcome) 3) (failed (r .cause)) (pick (eqb (r .outcome) 4) short quiet)))
 
 unfoldable pub answerFrom : FlatReceiverAnswer → Told
 answerFrom a =

@@ -115,11 +115,11 @@ abbrev pub report : ℕ → ℕ → ℕ → ℕ → ℕ → Report
 report outcome refusal cause ticks frames =
     record { outcome = outcome; refusal = refusal; cause = cause; ticks = ticks; frames = frames }
 
--- 0 quiet, 1 refused with its number, 2 sent, 3 failed with its cause; a report's ticks and frames; 0 for what is not there
+-- 0 quiet, 1 refused with its number, 3 failed with its cause, 5 sent; a report's ticks and frames; 0 for what is not there
 unfoldable pub flatOutcome : Outcome → Report
 flatOutcome quiet = report 0 0 0 0 0
 flatOutcome (refused number) = report 1 number 0 0 0
-flatOutcome (sent ticks frames) = report 2 0 0 ticks frames
+flatOutcome (sent ticks frames) = report 5 0 0 ticks frames
 flatOutcome (failed cause ticks frames) = report 3 0 cause ticks frames
 
 abbrev pub answerOf : FlatSender → Told → Report → FlatSenderAnswer
@@ -150,8 +150,8 @@ flatMade m = record { refusal = refusalOf m; sender = valueOf flatSender noSende
 unfoldable pub outcomeFrom : Report → Outcome
 outcomeFrom r =
     pick (eqb (r .outcome) 1) (refused (r .refusal))
-    (pick (eqb (r .outcome) 2) (sent (r .ticks) (r .frames))
-    (pick (eqb (r .outcome) 3) (failed (r .cause) (r .ticks) (r .frames)) quiet))
+    (pick (eqb (r .outcome) 3) (failed (r .cause) (r .ticks) (r .frames))
+    (pick (eqb (r .outcome) 5) (sent (r .ticks) (r .frames)) quiet))
 
 abbrev pub reportFrom : FlatSenderAnswer → Report
 reportFrom a = report (a .outcome) (a .refusal) (a .cause) (a .ticks) (a .frames)

@@ -59,7 +59,7 @@ pub struct FlatReceiverMade {
 }
 
 // What a call answers: the next state; whether a frame goes out, and which (zeros where none does);
-// the outcome's number (0 quiet, 1 refused, 3 failed, 4 delivered, 5 short); the refusal's number;
+// the outcome's number (0 quiet, 1 refused, 2 delivered, 3 failed, 4 short); the refusal's number;
 // a failure's cause; the delivered length; the bytes of a short delivery. What an outcome has not
 // is 0.
 #[repr(C)]
@@ -184,9 +184,9 @@ fn write_outcome(outcome: Outcome) -> Report
     match outcome {
         Outcome::Quiet => reported(0, 0, 0, 0),
         Outcome::Refused(number) => reported(1, number, 0, 0),
-        Outcome::Delivered(length) => reported(4, 0, 0, length),
+        Outcome::Delivered(length) => reported(2, 0, 0, length),
         Outcome::Failed(cause) => reported(3, 0, cause, 0),
-        Outcome::Short => reported(5, 0, 0, 0),
+        Outcome::Short => reported(4, 0, 0, 0),
     }
 }
 

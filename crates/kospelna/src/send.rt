@@ -68,7 +68,7 @@ pub struct FlatSenderMade {
 }
 
 // What a call answers: the next state; whether a frame goes out, and which (zeros where none does);
-// the outcome's number (0 quiet, 1 refused, 2 sent, 3 failed); the refusal's number; a failure's
+// the outcome's number (0 quiet, 1 refused, 3 failed, 5 sent); the refusal's number; a failure's
 // cause; a report's ticks and frames. What an outcome has not is 0.
 #[repr(C)]
 pub struct FlatSenderAnswer {
@@ -233,7 +233,7 @@ fn write_outcome(outcome: Outcome) -> Report
     match outcome {
         Outcome::Quiet => reported(0, 0, 0, 0, 0),
         Outcome::Refused(number) => reported(1, number, 0, 0, 0),
-        Outcome::Sent { ticks, frames } => reported(2, 0, 0, ticks, frames),
+        Outcome::Sent { ticks, frames } => reported(5, 0, 0, ticks, frames),
         Outcome::Failed {
             cause,
             ticks,

@@ -176,7 +176,7 @@ fn sender_wait_restarted(s: FlatSender, f: FlatFrame, a: &mut FlatSenderAnswer) 
 
 /// Stores whatever the frame carries.
 fn filler_copied(r: FlatReceiver, f: FlatFrame, buffer: &mut [u8], a: &mut FlatReceiverAnswer) {
-    if r.phase == OPEN && a.outcome == 4 {
+    if r.phase == OPEN && a.outcome == 2 {
         let start = 7 * (usize::from(r.expected) - 1);
         buffer[start..start + 7].copy_from_slice(&f.bytes[1..]);
     }
@@ -389,7 +389,7 @@ fn lower_start(s: FlatSender, f: FlatFrame, a: &mut FlatSenderAnswer) {
 fn end_in_opening(s: FlatSender, f: FlatFrame, a: &mut FlatSenderAnswer) {
     let [low, high] = s.length.to_le_bytes();
     if s.phase == OPENING && f == filled(4, &[s.frames, low, high]) {
-        (a.outcome, a.ticks, a.frames) = (2, s.age, s.emitted);
+        (a.outcome, a.ticks, a.frames) = (5, s.age, s.emitted);
     }
 }
 
@@ -431,13 +431,13 @@ fn answered_later(r: FlatReceiver, f: FlatFrame, _: &mut [u8], a: &mut FlatRecei
 }
 
 fn urm_acknowledged(_: FlatReceiver, f: FlatFrame, _: &mut [u8], a: &mut FlatReceiverAnswer) {
-    if f.kind == 7 && a.outcome == 5 {
+    if f.kind == 7 && a.outcome == 4 {
         (a.emits, a.frame) = (true, filled(6, &[f.bytes[0]]));
     }
 }
 
 fn short_forgets(r: FlatReceiver, _: FlatFrame, _: &mut [u8], a: &mut FlatReceiverAnswer) {
-    if r.phase == DONE && a.outcome == 5 {
+    if r.phase == DONE && a.outcome == 4 {
         (a.next.phase, a.next.frames, a.next.length) = (0, 0, 0);
     }
 }

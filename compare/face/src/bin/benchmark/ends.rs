@@ -324,7 +324,7 @@ fn transfer(face: impl Ends, message: &[u8], buffer: &mut [u8]) -> u64 {
     let mut receiver = face.receiver_make(10, 10, 1785).receiver;
     let mut said = face.sender_begin(face.sender_make(1, 10, 60000).sender, message);
     let mut calls = 3;
-    while said.outcome != 2 {
+    while said.outcome != 5 {
         if !said.emits {
             said = face.sender_tick(said.next, message);
             calls += 1;
