@@ -2,7 +2,8 @@
  * Link target/staticlib/libkospelna.a, which `rt staticlib kospelna` makes for x86-64. examples/bench.c is a whole bench.
  *
  * Every function takes every value of its parameters and is proved to answer by document 01's rules (the equations stand in
- * crates/kospelna/specs/). Nothing is kept between calls: states go in and come back by value, and may be copied and kept.
+ * crates/kospelna/specs/; 001 is the source of version talk and groups). Nothing is kept between calls: states go in and
+ * come back by value, and may be copied and kept.
  *
  * The caller's part: a pointer is not null and has as many bytes behind it as the length beside it says, also where that
  * is 0; nobody else writes these bytes during the call. A function writes its answer and the bytes that it is lent to write

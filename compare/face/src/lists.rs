@@ -73,8 +73,8 @@ pub fn forged(random: &mut Random) -> FlatVersions {
     }
 }
 
-/// What a talker may be made of: a list as listing answers it, or one with another count, with two versions equal or exchanged, with
-/// a number of four bytes, or with a number past its count.
+/// What a talker may be made of: a list as listing answers it, or one with another count, with two versions equal or
+/// exchanged, with a number of four bytes, or with another number at any place, past its count too.
 pub fn offered(random: &mut Random) -> FlatVersions {
     let mut list = accepted(random);
     let count = list.count as usize;
