@@ -1,12 +1,17 @@
-/* Kospelna for programs in C: link target/staticlib/libkospelna.a, which `rt staticlib kospelna` makes for x86-64.
+/* Kospelna for programs in C: the two transport ends of GB/T 27930 category B, version talk, parameter groups.
+ * Link target/staticlib/libkospelna.a, which `rt staticlib kospelna` makes for x86-64. examples/bench.c is a whole bench.
  *
- * Every function is proved total: it takes every value of its parameters, and its answer is that of document 01's rules
- * (crates/kospelna/specs/ has the equations). No function keeps anything between calls; states go in and come back by
- * value, so a state can be copied, kept and used again.
+ * Every function takes every value of its parameters and is proved to answer by document 01's rules (the equations stand in
+ * crates/kospelna/specs/; 001 is the source of version talk and groups). Nothing is kept between calls: states go in and
+ * come back by value, and may be copied and kept.
  *
  * The caller's part: a pointer is not null and has as many bytes behind it as the length beside it says, also where that
- * is 0; nobody else writes these bytes during the call. A function writes nothing but its answer and the bytes that
- * it is lent to write: a receiver's buffer, a group's eight.
+ * is 0; nobody else writes these bytes during the call. A function writes its answer and the bytes that it is lent to write
+ * (a receiver's buffer, a group's eight), nothing else.
+ *
+ * In every answer `refusal` is 0 where the call was accepted, else a number below: then nothing goes out, the state and
+ * the lent bytes are what they were, and a value in the answer is all zeros: what a refused making answers is not for use.
+ * `next` is the state after the call: keep it and hand it to the next.
  */
 #ifndef KOSPELNA_H
 #define KOSPELNA_H
@@ -19,21 +24,111 @@
 extern "C" {
 #endif
 
-/* ---- Frames ---- */
+/* Refusals, by what is wrong. */
+enum {
+    KOSPELNA_REFUSAL_NONE = 0,
+    KOSPELNA_REFUSAL_SETTING = 1,       /* making an end: a setting outside its limits */
+    KOSPELNA_REFUSAL_LENGTH = 2,        /* begin, post: the message's length */
+    KOSPELNA_REFUSAL_BUSY = 3,          /* begin: the sender is not Idle */
+    KOSPELNA_REFUSAL_OTHER_MESSAGE = 4, /* sender tick: the lent length is not the begun one */
+    KOSPELNA_REFUSAL_BUFFER = 5,        /* receiver hears: the buffer's length is not KOSPELNA_BUFFER_LENGTH */
+    KOSPELNA_REFUSAL_FRAME = 6,         /* hearing: no such kind, or filler that is not 0xFF */
+    KOSPELNA_REFUSAL_OTHER_END = 7,     /* hearing: a kind for the other end */
+    KOSPELNA_REFUSAL_IDENTIFIER = 8,    /* identifier: over 29 bits, a part over its width, EDP or DP not 0 */
+    KOSPELNA_REFUSAL_GROUP = 9,         /* group: its code, the lent length or the filler */
+    KOSPELNA_REFUSAL_VALUE = 10,        /* group: a value outside its range; version message: CAN type or result */
+    KOSPELNA_REFUSAL_VERSIONS = 11,     /* version list, making a talker: not 1 to 8 strictly rising versions */
+    KOSPELNA_REFUSAL_PACK = 12          /* the player's run pack: no function here answers it */
+};
 
-/* A frame: its kind, 1 information, 2 LM_ACK, 3 LM_NACK, 4 LM_EndofACK, 5 SM_RM, 6 SM_ACK, 7 SM_URM, and the data bytes
- * d0 to d7. Where an answer emits no frame, its frame is all zeros. */
+/* Outcomes: what a call of an end or of a talker came to. */
+enum {
+    KOSPELNA_QUIET = 0,           /* nothing to report */
+    KOSPELNA_REFUSED = 1,         /* `refusal` says why */
+    KOSPELNA_DELIVERED = 2,       /* receiver: the message is the buffer's first `length` bytes */
+    KOSPELNA_FAILED = 3,          /* sender: with cause, ticks and frames; receiver: with cause; both are Idle; talker: S4 */
+    KOSPELNA_DELIVERED_SHORT = 4, /* receiver: the message is the answer's `bytes`; the state stays */
+    KOSPELNA_SENT = 5,            /* sender: acknowledged, with ticks and frames; it is Idle again */
+    KOSPELNA_AGREED = 6,          /* talker: S2 or S3, with the version */
+    KOSPELNA_LEFT = 7             /* talker: S5 */
+};
+
+/* ---- Frames ----
+ *
+ * kind           sent by    d0         d1        d2      d3       d4 to d7
+ * 1 information  sender     0          N         L low   L high   FF              the announcement
+ *                sender     i, 1 to N  message bytes 7(i-1) on, FF after the last one
+ * 2 LM_ACK       receiver   start s    count c   FF                               asks for frames s to s + c - 1
+ * 3 LM_NACK      either     cause      FF                                         ends a long transfer
+ * 4 LM_EndofACK  receiver   N          L low     L high  FF                       all of it was delivered
+ * 5 SM_RM        sender     the message, FF after it                              asks for an SM_ACK
+ * 6 SM_ACK       receiver   the message's first byte, then FF
+ * 7 SM_URM       sender     the message, FF after it                              posted: no answer
+ *
+ * L is a message's length and N its frames, L / 7 rounded up. A frame has no identifier: which one a kind has on the bus,
+ * and how the frame stands in the bus's bytes, is the caller's to map, both ways.
+ */
+enum {
+    KOSPELNA_KIND_INFORMATION = 1,
+    KOSPELNA_KIND_LM_ACK = 2,
+    KOSPELNA_KIND_LM_NACK = 3,
+    KOSPELNA_KIND_LM_ENDOFACK = 4,
+    KOSPELNA_KIND_SM_RM = 5,
+    KOSPELNA_KIND_SM_ACK = 6,
+    KOSPELNA_KIND_SM_URM = 7
+};
+
 typedef struct kospelna_frame {
-    uint8_t kind;
-    uint8_t bytes[8];
+    uint8_t kind;     /* KOSPELNA_KIND_.. */
+    uint8_t bytes[8]; /* d0 to d7 */
 } kospelna_frame;
 
-/* Causes of a failure: 1 no space (as a report: NACK heard), 2 three timeouts, 3 sending time over, 4 frame number above N,
- * 5 bad announcement. */
+/* The cause in an LM_NACK, its d0. */
+enum {
+    KOSPELNA_NACK_NO_SPACE = 1,     /* the receiver: L is above its capacity */
+    KOSPELNA_NACK_TIMEOUTS = 2,     /* either: three timeouts */
+    KOSPELNA_NACK_SENDING_TIME = 3, /* the sender: the sending time is over */
+    KOSPELNA_NACK_FRAME_NUMBER = 4, /* either: a number above N */
+    KOSPELNA_NACK_ANNOUNCEMENT = 5  /* the receiver: an announcement whose N and L do not fit */
+};
 
-/* ---- The sender ---- */
+/* The cause in a report of failure, the answer's `cause`. From 2 on it is the cause of the LM_NACK that went out with it
+ * (a short transfer's end sends none). */
+enum {
+    KOSPELNA_CAUSE_NACK_HEARD = 1, /* the other end's LM_NACK was heard, whatever its cause */
+    KOSPELNA_CAUSE_TIMEOUTS = 2,
+    KOSPELNA_CAUSE_SENDING_TIME = 3, /* the sender alone */
+    KOSPELNA_CAUSE_FRAME_NUMBER = 4
+};
 
-/* The phase of a sender. Every number above 4 is read as Idle. */
+/* Limits of settings and lengths. */
+enum {
+    KOSPELNA_GAP_MIN = 1,          KOSPELNA_GAP_MAX = 10,
+    KOSPELNA_TIMEOUT_MIN = 1,      KOSPELNA_TIMEOUT_MAX = 10000,
+    KOSPELNA_SENDING_TIME_MIN = 1, KOSPELNA_SENDING_TIME_MAX = 60000,
+    KOSPELNA_WINDOW_MIN = 1,       KOSPELNA_WINDOW_MAX = 255,
+    KOSPELNA_CAPACITY_MIN = 9,     KOSPELNA_CAPACITY_MAX = 1785,
+    KOSPELNA_SHORT_MAX = 8,      /* messages of 1 to 8 bytes go short */
+    KOSPELNA_MESSAGE_MAX = 1785, /* of 9 to 1785 long: 255 frames of 7 bytes */
+    KOSPELNA_BUFFER_LENGTH = 1785
+};
+
+/* ---- The sender ----
+ *
+ * A tick is a call that the caller makes once in each unit of its clock, at both ends; gap, timeout and sending time are
+ * counted in it. No call emits more than one frame.
+ *
+ * `sent` means delivered, under conditions: since the begin the receiver has delivered this message and no other, a long
+ * one once, a short one at least once, if
+ *   - at each begin the receiver was idle (no connection open), and no frame of an earlier transfer was on the line then, or
+ *     was heard later by either end;
+ *   - the line loses or repeats frames, but keeps their order and their bytes, and nothing was posted;
+ *   - ticks were lent the begun message, and every hearing the same buffer, which nobody else writes.
+ * Otherwise a stale SM_ACK (it names one byte) or LM_EndofACK (it names N and L) can make `sent` speak of an earlier
+ * message. `failed` does not mean undelivered: the last acknowledgement may have been lost.
+ */
+
+/* The phase of a sender. Every other number is read as Idle. */
 enum {
     KOSPELNA_SENDER_IDLE = 0,
     KOSPELNA_SENDER_OPENING = 1, /* the announcement is out, and no LM_ACK has been taken */
@@ -42,85 +137,71 @@ enum {
     KOSPELNA_SENDER_SHORT = 4    /* SM_RM is out, and no SM_ACK has come */
 };
 
-/* A sender. Beside each field, the phases that have it; in every other phase it is not read, and is written as 0. */
+/* A sender. Beside each field the phases that have it; in every other phase it is not read, and is written as 0. */
 typedef struct kospelna_sender {
-    uint16_t gap;     /* gap G, 1 to 10 ticks: every phase */
-    uint16_t timeout; /* timeout T, 1 to 10000 ticks: every phase */
-    uint16_t limit;   /* sending time M, 1 to 60000 ticks: every phase */
+    uint16_t gap;     /* gap G in ticks: every phase */
+    uint16_t timeout; /* timeout T in ticks: every phase */
+    uint16_t limit;   /* sending time M in ticks: every phase */
     uint8_t phase;    /* KOSPELNA_SENDER_.. */
-    uint16_t length;  /* L, the length of the message that was begun: all but Idle */
-    uint8_t frames;   /* N, its frames; 1 in Short: all but Idle */
+    uint16_t length;  /* L of the message that was begun: all but Idle */
+    uint8_t frames;   /* its N; 1 in Short: all but Idle */
     uint8_t first;    /* its first byte: all but Idle */
     uint16_t age;     /* ticks since begin: all but Idle */
     uint16_t emitted; /* frames emitted since begin: all but Idle */
     uint16_t wait;    /* ticks waited: Opening, Waiting, Short */
     uint16_t misses;  /* timeouts in a row: Opening, Sending, Waiting */
     uint8_t start;    /* the last start taken from an LM_ACK: Sending, Waiting */
-    uint8_t next;     /* the number of the next frame: Sending */
+    uint8_t due;      /* the number of the frame that goes out next: Sending */
     uint8_t last;     /* the number of the window's last frame: Sending, Waiting */
     uint16_t count;   /* the gap count: Sending */
 } kospelna_sender;
 
-/* What making a sender answers. */
 typedef struct kospelna_sender_made {
-    bool made;           /* whether a sender was made */
-    uint8_t number;      /* 0; where none was made, the refusal: 1 a setting is outside its limits */
-    kospelna_sender end; /* the sender, Idle; all zeros where none was made */
+    uint8_t refusal;
+    kospelna_sender sender; /* Idle */
 } kospelna_sender_made;
 
-/* What a call of a sender reports. */
-enum {
-    KOSPELNA_SENDER_QUIET = 0,
-    KOSPELNA_SENDER_REFUSED = 1, /* with the refusal's number; no frame, and the state stays */
-    KOSPELNA_SENDER_SENT = 2,    /* with ticks and frames; the sender is then Idle */
-    KOSPELNA_SENDER_FAILED = 3   /* with the cause, ticks and frames; the sender is then Idle */
-};
-
-/* What a call of a sender answers. */
 typedef struct kospelna_sender_answer {
-    kospelna_sender next; /* the state after the call */
-    bool emits;           /* whether a frame goes out */
+    kospelna_sender next;
+    bool emits;           /* a frame goes out */
     kospelna_frame frame; /* which one; all zeros where none does */
-    uint8_t outcome;      /* KOSPELNA_SENDER_QUIET to _FAILED */
-    uint8_t number;       /* the refusal's number, or the cause of the failure; else 0 */
-    uint16_t ticks;       /* sent or failed: the ticks since begin; else 0 */
-    uint16_t frames;      /* sent or failed: the frames emitted since begin, begin's and the closing one included; else 0 */
+    uint8_t outcome;      /* KOSPELNA_QUIET, _REFUSED, _FAILED, _SENT */
+    uint8_t refusal;
+    uint8_t cause;        /* failed: KOSPELNA_CAUSE_..; else 0 */
+    uint16_t ticks;       /* sent, failed: ticks since begin; else 0 */
+    uint16_t frames;      /* sent, failed: frames emitted since begin, begin's and the closing one included; else 0 */
 } kospelna_sender_answer;
 
-/* An Idle sender with these settings. */
+/* An Idle sender of gap G, timeout T and sending time M. Refused 1. */
 kospelna_sender_made kospelna_sender_make(uint16_t gap, uint16_t timeout, uint16_t limit);
 
-/* Begins a transfer of the message: 1 to 8 bytes go short, 9 to 1785 long. Refused 3 where the sender is not Idle, then 2
- * for another length. */
-kospelna_sender_answer kospelna_sender_begin(kospelna_sender s, const uint8_t *message, size_t length);
+/* Begins a transfer: emits the announcement, or the SM_RM of a short message. Refused 3, then 2. */
+kospelna_sender_answer kospelna_sender_begin(kospelna_sender sender, const uint8_t *message, size_t length);
 
-/* Emits the message, 1 to 8 bytes, as one SM_URM; changes nothing. Refused 2 for another length. */
-kospelna_sender_answer kospelna_sender_post(kospelna_sender s, const uint8_t *message, size_t length);
+/* Emits a message of 1 to 8 bytes as an SM_URM, in any phase; changes nothing and is not counted. Refused 2. */
+kospelna_sender_answer kospelna_sender_post(kospelna_sender sender, const uint8_t *message, size_t length);
 
-/* A tick, lent the message that was begun. Refused 4 where the sender is not Idle and the length is not the begun one. */
-kospelna_sender_answer kospelna_sender_tick(kospelna_sender s, const uint8_t *message, size_t length);
+/* A tick. It is lent the begun message, the same bytes each time: only their length is checked, refused 4. An Idle sender's
+ * tick does nothing and takes any bytes. */
+kospelna_sender_answer kospelna_sender_tick(kospelna_sender sender, const uint8_t *message, size_t length);
 
-/* A frame is heard. Refused 6 where it cannot be read (kind not 1 to 7, or filler not 0xFF), then 7 where its kind is for
- * the receiver: a sender takes 2, 3, 4, 6. */
-kospelna_sender_answer kospelna_sender_hear(kospelna_sender s, kospelna_frame f);
+/* A frame is heard: kind 2, 3, 4 or 6. Refused 6, then 7. */
+kospelna_sender_answer kospelna_sender_hear(kospelna_sender sender, kospelna_frame frame);
 
 /* ---- The receiver ---- */
 
-/* The phase of a receiver. Every number above 2 is read as Idle. */
+/* The phase of a receiver. Every other number is read as Idle. */
 enum {
     KOSPELNA_RECEIVER_IDLE = 0, /* Idle, no delivery remembered */
     KOSPELNA_RECEIVER_DONE = 1, /* Idle, with the N and L last delivered */
     KOSPELNA_RECEIVER_OPEN = 2  /* a connection is open */
 };
 
-/* The length of the buffer that every hearing of a receiver is lent. */
-enum { KOSPELNA_BUFFER = 1785 };
-
-/* A receiver. Beside each field, the phases that have it; in every other phase it is not read, and is written as 0. */
+/* A receiver. Beside each field the phases that have it; in every other phase it is not read, and is written as 0. */
 typedef struct kospelna_receiver {
-    uint16_t timeout;  /* timeout T, 1 to 10000 ticks: every phase */
-    uint16_t window;   /* window C, 1 to 255 frames: every phase */
-    uint16_t capacity; /* capacity K, 9 to 1785 bytes: every phase */
+    uint16_t timeout;  /* timeout T in ticks, its own: every phase */
+    uint16_t window;   /* window C in frames: every phase */
+    uint16_t capacity; /* capacity K in bytes: every phase */
     uint8_t phase;     /* KOSPELNA_RECEIVER_.. */
     uint8_t frames;    /* N: Done, Open */
     uint16_t length;   /* L: Done, Open */
@@ -130,51 +211,44 @@ typedef struct kospelna_receiver {
     uint16_t misses;   /* timeouts in a row: Open */
 } kospelna_receiver;
 
-/* What making a receiver answers. */
 typedef struct kospelna_receiver_made {
-    bool made;             /* whether a receiver was made */
-    uint8_t number;        /* 0; where none was made, the refusal: 1 a setting is outside its limits */
-    kospelna_receiver end; /* the receiver, Idle; all zeros where none was made */
+    uint8_t refusal;
+    kospelna_receiver receiver; /* Idle, nothing delivered */
 } kospelna_receiver_made;
 
-/* What a call of a receiver reports. */
-enum {
-    KOSPELNA_RECEIVER_QUIET = 0,
-    KOSPELNA_RECEIVER_REFUSED = 1,   /* with the refusal's number; no frame, and state and buffer stay */
-    KOSPELNA_RECEIVER_DELIVERED = 2, /* with the length: the message is the first bytes of the buffer */
-    KOSPELNA_RECEIVER_FAILED = 3,    /* with the cause; the receiver is then Idle */
-    KOSPELNA_RECEIVER_SHORT = 4      /* a short delivery, of the answer's eight bytes */
-};
-
-/* What a call of a receiver answers. */
 typedef struct kospelna_receiver_answer {
-    kospelna_receiver next; /* the state after the call */
-    bool emits;             /* whether a frame goes out */
-    kospelna_frame frame;   /* which one; all zeros where none does */
-    uint8_t outcome;        /* KOSPELNA_RECEIVER_QUIET to _SHORT */
-    uint8_t number;         /* the refusal's number, or the cause of the failure; else 0 */
-    uint16_t length;        /* delivered: L; else 0 */
-    uint8_t bytes[8];       /* a short delivery: its bytes; else zeros */
+    kospelna_receiver next;
+    bool emits;           /* a frame goes out */
+    kospelna_frame frame; /* which one; all zeros where none does */
+    uint8_t outcome;      /* KOSPELNA_QUIET, _REFUSED, _DELIVERED, _FAILED, _DELIVERED_SHORT */
+    uint8_t refusal;
+    uint8_t cause;        /* failed: KOSPELNA_CAUSE_..; else 0 */
+    uint16_t length;      /* delivered: L; else 0 */
+    uint8_t bytes[8];     /* a short delivery: the message, filled to eight with 0xFF; it carries no length. Else zeros */
 } kospelna_receiver_answer;
 
-/* An Idle receiver with these settings, nothing delivered. */
+/* An Idle receiver of timeout T, window C and capacity K. Refused 1. */
 kospelna_receiver_made kospelna_receiver_make(uint16_t timeout, uint16_t window, uint16_t capacity);
 
-/* A tick. It is never refused. */
-kospelna_receiver_answer kospelna_receiver_tick(kospelna_receiver r);
+/* A tick; never refused. */
+kospelna_receiver_answer kospelna_receiver_tick(kospelna_receiver receiver);
 
-/* A frame is heard; its message bytes go to their place in the buffer, and the rest of the buffer stays. Refused 5 where
- * the length is not KOSPELNA_BUFFER, then 6 where the frame cannot be read, then 7 where its kind is for the sender: a
- * receiver takes 1, 3, 5, 7. */
-kospelna_receiver_answer kospelna_receiver_hear(kospelna_receiver r, kospelna_frame f, uint8_t *buffer, size_t length);
-
-/* ---- Identifier, version talk and parameter groups ----
- *
- * An answer has its outcome as a number, and beside it the number of a refusal, 0 where there is none. What an outcome does
- * not name is 0. A side, state or verdict that has no such number is read as 0: the charger, S0, continue.
- */
+/* A frame is heard: kind 1, 3, 5 or 7. Message bytes go to their place in the buffer, the rest of it stays: lend the same
+ * buffer until the delivery. It always has 1785 bytes, the longest message, whatever the capacity, so that every frame's
+ * place is inside it. A short message is delivered in the answer, in any phase: an SM_RM emits its SM_ACK, an SM_URM
+ * nothing. Refused 5, then 6, then 7. */
+kospelna_receiver_answer kospelna_receiver_hear(kospelna_receiver receiver, kospelna_frame frame, uint8_t *buffer,
+                                                size_t length);
 
 /* ---- Identifier: 29 bits, P 3, EDP 1, DP 1, PF 8, PS 8, SA 8, the first in the highest bits ---- */
+
+/* Addresses, and the identifiers of the version messages (001 tables 4 and 5). */
+enum {
+    KOSPELNA_CHARGER_ADDRESS = 0x56, /* SECC */
+    KOSPELNA_VEHICLE_ADDRESS = 0xF4, /* EVCC */
+    KOSPELNA_CHARGER_VERSION_IDENTIFIER = 0x0C38F456,
+    KOSPELNA_VEHICLE_VERSION_IDENTIFIER = 0x0C3656F4
+};
 
 typedef struct kospelna_identifier_parts {
     uint32_t p;   /* priority, below 8 */
@@ -185,124 +259,190 @@ typedef struct kospelna_identifier_parts {
     uint32_t sa;  /* below 256: the address of the end that speaks */
 } kospelna_identifier_parts;
 
-typedef struct kospelna_identifier_joined {
-    uint8_t outcome;     /* 0 the identifier, 1 refused */
-    uint8_t refusal;     /* 8 where refused, else 0 */
-    uint32_t identifier; /* 0 where refused */
-} kospelna_identifier_joined;
+typedef struct kospelna_identifier_joining {
+    uint8_t refusal;
+    uint32_t identifier;
+} kospelna_identifier_joining;
 
-typedef struct kospelna_identifier_parted {
-    uint8_t outcome; /* 0 the parts, 1 refused */
-    uint8_t refusal; /* 8 where refused, else 0 */
-    kospelna_identifier_parts parts; /* all 0 where refused */
-} kospelna_identifier_parted;
+typedef struct kospelna_identifier_splitting {
+    uint8_t refusal;
+    kospelna_identifier_parts parts;
+} kospelna_identifier_splitting;
 
-/* The identifier of parts. Refused 8: a part over its width, or EDP or DP not 0. */
-kospelna_identifier_joined kospelna_identifier_join(kospelna_identifier_parts parts);
+/* The identifier of parts, and the parts of an identifier. Both refuse 8. */
+kospelna_identifier_joining kospelna_identifier_join(kospelna_identifier_parts parts);
+kospelna_identifier_splitting kospelna_identifier_split(uint32_t identifier);
 
-/* The parts of an identifier. Refused 8: over 29 bits, or EDP or DP not 0. */
-kospelna_identifier_parted kospelna_identifier_part(uint32_t identifier);
+/* The constants above, as the proved code has them. */
+uint32_t kospelna_charger_address(void);
+uint32_t kospelna_vehicle_address(void);
+uint32_t kospelna_charger_version_identifier(void);
+uint32_t kospelna_vehicle_version_identifier(void);
 
-uint32_t kospelna_charger_address(void); /* SECC, 0x56 */
-uint32_t kospelna_vehicle_address(void); /* EVCC, 0xF4 */
-uint32_t kospelna_charger_version(void); /* the identifier of the charger's version message, 0x0C38F456 */
-uint32_t kospelna_vehicle_version(void); /* the identifier of the vehicle's version message, 0x0C3656F4 */
-
-/* ---- Version talk: source document 001, tables 6 to 9, in ticks of 1 ms ----
+/* ---- Version talk: 001 tables 6 to 9 ----
  *
- * A version is a number: 65536 times the major, 256 times the minor and the temporary version; 2.0.0 is 0x020000.
+ * A version is a number: major, minor and temporary version as its three bytes, compared as it stands. A talker's tick is
+ * 1 ms. A message is eight bytes: CAN type 0, result, version (major, minor, temporary), the control-pilot byte, 0x01, 0xFF;
+ * the last three are not judged when heard. A failure names version FF FF FF.
  */
+#define KOSPELNA_VERSION(major, minor, temporary) \
+    ((uint32_t)(major) << 16 | (uint32_t)(minor) << 8 | (uint32_t)(temporary))
 
-/* The versions that an end supports, rising. */
+/* Sides, states and results. In making a talker and in a talker every other number is read as 0. */
+enum { KOSPELNA_CHARGER = 0, KOSPELNA_VEHICLE = 1 };
+enum {
+    KOSPELNA_TALKER_S0 = 0, /* start */
+    KOSPELNA_TALKER_S1 = 1, /* negotiating */
+    KOSPELNA_TALKER_S2 = 2, /* agreed on a version below 2.0.0 */
+    KOSPELNA_TALKER_S3 = 3, /* agreed */
+    KOSPELNA_TALKER_S4 = 4, /* failed */
+    KOSPELNA_TALKER_S5 = 5  /* left: stopped */
+};
+enum { KOSPELNA_VERDICT_CONTINUE = 0, KOSPELNA_VERDICT_SUCCESS = 1, KOSPELNA_VERDICT_FAILURE = 2 };
+
+/* Versions in a list; T1, the ticks from one message to the next; Tout0, the ticks after which an end fails. */
+enum { KOSPELNA_VERSIONS_MAX = 8, KOSPELNA_TALKER_PERIOD = 50, KOSPELNA_TALKER_LIMIT = 15000 };
+
+/* The versions that an end supports. */
 typedef struct kospelna_versions {
     uint32_t count;      /* 1 to 8 */
-    uint32_t numbers[8]; /* the first count of them; the rest are 0 */
+    uint32_t numbers[8]; /* the first count of them, strictly rising, below 2^24; the rest are not judged */
 } kospelna_versions;
 
 typedef struct kospelna_version_listing {
-    uint8_t outcome; /* 0 the list, 1 refused */
-    uint8_t refusal; /* 11 where refused, else 0 */
-    kospelna_versions versions; /* count 0 and eight zeros where refused */
+    uint8_t refusal;
+    kospelna_versions versions;
 } kospelna_version_listing;
 
 typedef struct kospelna_version_message {
-    uint8_t verdict;  /* the result: 0 continue, 1 success, 2 failure; any other number is read as 0 */
-    uint32_t version; /* its low three bytes are written; a failure is written with FF FF FF */
-    uint8_t control;  /* the control-pilot byte, which is not judged */
+    uint8_t verdict;  /* the result: KOSPELNA_VERDICT_.. */
+    uint32_t version; /* its low three bytes are written */
+    uint8_t control;  /* the control-pilot byte */
 } kospelna_version_message;
 
-/* The eight bytes of a version message: CAN type (0), result, version (major, minor, temporary), control-pilot byte,
- * transport version (written as 0x01, not judged), reserved (written as 0xFF, not judged). */
+/* The eight bytes of a message: what goes out and what is heard. */
 typedef struct kospelna_version_bytes {
     uint8_t bytes[8];
 } kospelna_version_bytes;
 
+typedef struct kospelna_version_writing {
+    uint8_t refusal;
+    kospelna_version_bytes bytes;
+} kospelna_version_writing;
+
 typedef struct kospelna_version_reading {
-    uint8_t outcome; /* 0 the message, 1 refused */
-    uint8_t refusal; /* 10 where refused, else 0 */
-    kospelna_version_message message; /* all 0 where refused */
+    uint8_t refusal;
+    kospelna_version_message message;
 } kospelna_version_reading;
 
-/* A talker. Keep it as it comes from a call, and hand it to the next. */
 typedef struct kospelna_talker {
-    uint8_t side;     /* 0 charger, 1 vehicle; any other number is read as 0 */
+    uint8_t side;               /* KOSPELNA_CHARGER, _VEHICLE */
     kospelna_versions versions; /* what it supports */
-    uint8_t control;  /* the control-pilot byte of its messages */
-    uint8_t state;    /* 0 S0 start, 1 S1 negotiating, 2 S2 agreed on a version below 2.0.0, 3 S3 agreed, 4 S4 failed,
-                         5 S5 left; any other number is read as 0 */
-    uint32_t place;   /* Ns, the place in numbers of the version that its messages name, from 0 */
-    uint8_t verdict;  /* the result that its messages carry: 0 continue, 1 success, 2 failure; any other is read as 0 */
-    uint16_t period;  /* T1 in ticks: a message every 50 */
-    uint16_t age;     /* Tout0 in ticks: failed at 15000 */
-    bool timing;      /* T1 runs on in the vehicle's S3 */
+    uint8_t control;            /* the control-pilot byte of its messages */
+    uint8_t state;              /* KOSPELNA_TALKER_S0 to _S5 */
+    uint32_t place;             /* Ns: the place in numbers, from 0, of the version that its messages name */
+    uint8_t verdict;            /* the result that its messages carry */
+    uint16_t period;            /* ticks of T1 */
+    uint16_t age;               /* ticks of Tout0 */
+    bool timing;                /* T1 runs on in the vehicle's S3 */
 } kospelna_talker;
 
-/* What a call of a talker answers. */
+typedef struct kospelna_talker_made {
+    uint8_t refusal;
+    kospelna_talker talker; /* in S0, at its highest version */
+} kospelna_talker_made;
+
 typedef struct kospelna_talker_answer {
-    kospelna_talker next; /* the talker after the call; as it was where refused */
-    bool emits;       /* a message goes out */
-    uint8_t bytes[8]; /* its bytes; eight zeros where none does */
-    uint8_t outcome;  /* 0 quiet, 1 refused, 2 agreed (S2 or S3 is entered), 3 failed (S4), 4 left (S5) */
-    uint8_t refusal;  /* 10 where refused, else 0 */
-    uint32_t version; /* the version where agreed, else 0 */
+    kospelna_talker next;
+    bool emits;                   /* a message goes out */
+    kospelna_version_bytes bytes; /* which one: hand it to the other side's hearing; all zeros where none does */
+    uint8_t outcome;              /* KOSPELNA_QUIET, _REFUSED, _FAILED, _AGREED, _LEFT */
+    uint8_t refusal;
+    uint32_t version;             /* agreed: on this one; else 0 */
 } kospelna_talker_answer;
 
-/* The list of versions in length bytes, three for each, major first. Refused 11: not 1 to 8 strictly rising versions. */
+/* The list in length bytes, three for each version, major first. Refused 11. */
 kospelna_version_listing kospelna_version_list(const uint8_t *bytes, size_t length);
 
-/* The bytes of a message. */
-kospelna_version_bytes kospelna_version_message_write(kospelna_version_message message);
+/* The bytes of a message. Refused 10: a result above 2. */
+kospelna_version_writing kospelna_version_message_write(kospelna_version_message message);
 
-/* The message of eight bytes. Refused 10: CAN type not 0, or result over 2. */
+/* The message of eight bytes. Refused 10: CAN type not 0, or a result above 2. */
 kospelna_version_reading kospelna_version_message_read(kospelna_version_bytes bytes);
 
-/* A talker in S0 of a side (0 charger, 1 vehicle; any other number is read as 0), at its highest version. versions are those
- * of a listing that was not refused; control is its control-pilot byte. */
-kospelna_talker kospelna_talker_make(uint8_t side, kospelna_versions versions, uint8_t control);
+/* A talker of a side, with a list and a control-pilot byte. Refused 11. */
+kospelna_talker_made kospelna_talker_make(uint8_t side, kospelna_versions versions, uint8_t control);
 
-/* The physical connection is complete. */
+/* The physical connection is complete. S0 emits its first message and is S1. */
 kospelna_talker_answer kospelna_talker_connect(kospelna_talker talker);
 
-/* One millisecond passes. */
+/* One millisecond passes. S1 emits every 50 and fails after 15000; the vehicle's S3 emits every 50. */
 kospelna_talker_answer kospelna_talker_tick(kospelna_talker talker);
 
-/* A message of the other side is heard. Refused 10 as in kospelna_version_message_read. */
+/* The other side's message is heard. It emits where S2, S3 or S4 is entered. Refused 10. */
 kospelna_talker_answer kospelna_talker_hear(kospelna_talker talker, kospelna_version_bytes bytes);
 
-/* A fault, or the other side opens its switch. */
+/* A fault, or the other side opens its switch: S1 is left. */
 kospelna_talker_answer kospelna_talker_stop(kospelna_talker talker);
 
 /* The old protocol's greeting (CHM) is heard: a vehicle in S0 or S1 fails. */
 kospelna_talker_answer kospelna_talker_greet(kospelna_talker talker);
 
-/* The charger's supported functions are heard: S3 closes its timers. */
+/* The charger's supported functions are heard: the vehicle's S3 falls silent. */
 kospelna_talker_answer kospelna_talker_functions_heard(kospelna_talker talker);
 
-/* ---- Parameter groups: source document 001, tables H.2 to H.11 ---- */
+/* ---- Parameter groups: 001 tables H.2 to H.11 ----
+ *
+ * code  group, and who sends it               first            second           third        fourth
+ * 0x71  the charger is ready                  ready
+ * 0x72  the vehicle is ready                  ready            its voltage
+ * 0x73  what the vehicle demands              voltage          current          mode
+ * 0x74  the vehicle's charging                state of charge  remaining time
+ * 0x75  what the charger can give             current          reason
+ * 0x76  the charger's charging                voltage          current
+ * 0x77  the vehicle's battery                 highest cell     lowest cell      highest      lowest temperature
+ * 0x78  the charger pauses                    pause
+ * 0x79  the vehicle pauses                    pause
+ *
+ * A group is a message of eight bytes: 0x78 and 0x79 are reliable and go by kospelna_sender_begin, the others by
+ * kospelna_sender_post. A short delivery's `bytes` are what kospelna_group_read takes.
+ */
+enum {
+    KOSPELNA_GROUP_CHARGER_READY = 0x71,
+    KOSPELNA_GROUP_VEHICLE_READY = 0x72,
+    KOSPELNA_GROUP_VEHICLE_DEMAND = 0x73,
+    KOSPELNA_GROUP_VEHICLE_CHARGING = 0x74,
+    KOSPELNA_GROUP_CHARGER_OUTPUT = 0x75,
+    KOSPELNA_GROUP_CHARGER_CHARGING = 0x76,
+    KOSPELNA_GROUP_VEHICLE_BATTERY = 0x77,
+    KOSPELNA_GROUP_CHARGER_PAUSE = 0x78,
+    KOSPELNA_GROUP_VEHICLE_PAUSE = 0x79,
+    KOSPELNA_GROUP_LENGTH = 8 /* the bytes that a group is read from and written to */
+};
 
-/* A group's code, 0x71 to 0x79, and the values of its fields in their order, 0 where it has none. */
+/* The kinds of fields, with the values that each takes. */
+enum {
+    KOSPELNA_FIELD_NONE = 0,        /* 0: the group has no such field */
+    KOSPELNA_FIELD_READY = 1,       /* 0 not ready, 1 ready */
+    KOSPELNA_FIELD_VOLTAGE = 2,     /* 0 to 65000: 0.1 V each */
+    KOSPELNA_FIELD_CURRENT = 3,     /* 0 to 65000: 0.1 A each */
+    KOSPELNA_FIELD_MODE = 4,        /* KOSPELNA_MODE_.. */
+    KOSPELNA_FIELD_CHARGE = 5,      /* 0 to 1000: 0.1 % each */
+    KOSPELNA_FIELD_TIME = 6,        /* 0 to 65000: 1 min each */
+    KOSPELNA_FIELD_REASON = 7,      /* KOSPELNA_REASON_.. */
+    KOSPELNA_FIELD_CELL = 8,        /* 0 to 65000: 0.01 V each; KOSPELNA_CELL_.. */
+    KOSPELNA_FIELD_TEMPERATURE = 9, /* 0 to 250: 1 degree Celsius each, from -50 on; KOSPELNA_TEMPERATURE_.. */
+    KOSPELNA_FIELD_PAUSE = 10       /* KOSPELNA_RESUME, KOSPELNA_PAUSE */
+};
+enum { KOSPELNA_MODE_CURRENT = 1, KOSPELNA_MODE_VOLTAGE = 2 }; /* constant current, constant voltage */
+enum { KOSPELNA_REASON_NONE = 0, KOSPELNA_REASON_GRID = 1, KOSPELNA_REASON_CHARGER = 2, KOSPELNA_REASON_OTHER = 0xFF };
+enum { KOSPELNA_CELL_ABNORMAL = 0xFFFE, KOSPELNA_CELL_INVALID = 0xFFFF };
+enum { KOSPELNA_TEMPERATURE_ABNORMAL = 0xFE, KOSPELNA_TEMPERATURE_INVALID = 0xFF };
+enum { KOSPELNA_RESUME = 0x00, KOSPELNA_PAUSE = 0xAA };
+
+/* A group's code and the values of its fields in their order, 0 where it has none. */
 typedef struct kospelna_group {
-    uint8_t code;
+    uint8_t code; /* KOSPELNA_GROUP_.. */
     uint16_t first;
     uint16_t second;
     uint16_t third;
@@ -310,55 +450,39 @@ typedef struct kospelna_group {
 } kospelna_group;
 
 typedef struct kospelna_group_reading {
-    uint8_t outcome; /* 0 the group, 1 refused */
-    uint8_t refusal; /* 9 or 10 where refused, else 0 */
-    kospelna_group group; /* all 0 where refused */
+    uint8_t refusal;
+    kospelna_group group;
 } kospelna_group_reading;
 
 typedef struct kospelna_group_writing {
-    uint8_t outcome; /* 0 written, 1 refused */
-    uint8_t refusal; /* 9 or 10 where refused, else 0 */
+    uint8_t refusal;
 } kospelna_group_writing;
 
-/* A row of the table of groups. Its fields' kinds:
- *   0 no field
- *   1 ready: 0 not ready, 1 ready
- *   2 voltage: 0 to 65000, 0.1 V
- *   3 current: 0 to 65000, 0.1 A
- *   4 charging mode: 1 constant current, 2 constant voltage
- *   5 state of charge: 0 to 1000, 0.1 %
- *   6 remaining time: 0 to 65000, 1 min
- *   7 reason: 0 no change, 1 the grid, 2 the charger, 0xFF other
- *   8 cell voltage: 0 to 65000, 0.01 V; 0xFFFE abnormal, 0xFFFF invalid
- *   9 temperature: 0 to 250, 1 degree Celsius from -50 on; 0xFE abnormal, 0xFF invalid
- *  10 pause: 0 resume, 0xAA pause
- */
+/* A row of the table of groups. */
 typedef struct kospelna_group_row {
     uint8_t code;
-    size_t length;  /* in bytes, the code's with them */
-    uint8_t sender; /* 0 charger, 1 vehicle */
-    bool reliable;  /* its receipt is confirmed */
-    size_t first;   /* the kinds of its fields, as above */
+    size_t length; /* in bytes, the code's with them; 0xFF follows to the eighth */
+    uint8_t side;  /* the side that sends it: KOSPELNA_CHARGER, _VEHICLE */
+    bool reliable; /* its receipt is confirmed */
+    size_t first;  /* the kinds of its fields: KOSPELNA_FIELD_.. */
     size_t second;
     size_t third;
     size_t fourth;
 } kospelna_group_row;
 
 typedef struct kospelna_group_finding {
-    uint8_t outcome; /* 0 the row, 1 refused */
-    uint8_t refusal; /* 9 where refused, else 0 */
-    kospelna_group_row row; /* all 0 and false where refused */
+    uint8_t refusal;
+    kospelna_group_row row;
 } kospelna_group_finding;
 
-/* The group in length bytes. Refused 9: length not 8, no such code, or a byte after the group's own length not 0xFF; then
- * refused 10: a value outside its field's range. */
+/* The group in eight bytes. Refused 9: length, code or filler; then 10: a value. */
 kospelna_group_reading kospelna_group_read(const uint8_t *bytes, size_t length);
 
-/* A group into length bytes, 0xFF after its own. Refused 9: length not 8, or no such code; then refused 10: a value outside
- * its field's range, a field that the group has not being 0. A refusal leaves the bytes. */
+/* A group into eight bytes, 0xFF after its own. Refused 9: length or code; then 10: a value, a field that it has not being
+ * 0. A refusal leaves the bytes. */
 kospelna_group_writing kospelna_group_write(kospelna_group group, uint8_t *bytes, size_t length);
 
-/* The row of a code. Refused 9: no such code. */
+/* The row of a code. Refused 9. */
 kospelna_group_finding kospelna_group_find(uint8_t code);
 
 #ifdef __cplusplus

@@ -30,8 +30,8 @@ const KINDS: [[usize; 4]; 9] = [
 ];
 
 impl Around for Reference {
-    fn identifier_join(&self, parts: FlatParts) -> FlatJoined {
-        let FlatParts {
+    fn identifier_join(&self, parts: FlatIdentifierParts) -> FlatIdentifierJoining {
+        let FlatIdentifierParts {
             p,
             edp,
             dp,
@@ -47,21 +47,16 @@ impl Around for Reference {
             ps,
             sa,
         });
-        let (outcome, refusal, identifier) = told(joined);
-        FlatJoined {
-            outcome,
+        let (refusal, identifier) = told(joined);
+        FlatIdentifierJoining {
             refusal,
             identifier,
         }
     }
 
-    fn identifier_part(&self, identifier: u32) -> FlatParted {
-        let (outcome, refusal, parts) = told(identifier::read(identifier).map(flat_parts));
-        FlatParted {
-            outcome,
-            refusal,
-            parts,
-        }
+    fn identifier_split(&self, identifier: u32) -> FlatIdentifierSplitting {
+        let (refusal, parts) = told(identifier::read(identifier).map(flat_parts));
+        FlatIdentifierSplitting { refusal, parts }
     }
 
     fn charger_address(&self) -> u32 {
@@ -72,85 +67,77 @@ impl Around for Reference {
         EVCC.into()
     }
 
-    fn charger_version(&self) -> u32 {
+    fn charger_version_identifier(&self) -> u32 {
         version_message(0x38, EVCC, SECC)
     }
 
-    fn vehicle_version(&self) -> u32 {
+    fn vehicle_version_identifier(&self) -> u32 {
         version_message(0x36, SECC, EVCC)
     }
 
-    fn version_list(&self, bytes: &[u8]) -> FlatListing {
+    fn version_list(&self, bytes: &[u8]) -> FlatVersionListing {
         let listed = versions(bytes).map(|list| flat_versions(&list));
-        let (outcome, refusal, versions) = told(listed);
-        FlatListing {
-            outcome,
-            refusal,
-            versions,
-        }
+        let (refusal, versions) = told(listed);
+        FlatVersionListing { refusal, versions }
     }
 
-    fn version_message_write(&self, message: FlatMessage) -> FlatBytes {
-        let said = Message {
-            outcome: verdict_of(message.verdict),
-            version: version_of(message.version),
-        };
-        let bytes = version::build(said, message.control);
-        FlatBytes { bytes }
+    fn version_message_write(&self, message: FlatVersionMessage) -> FlatVersionWriting {
+        let written = Outcome::of(message.verdict).map(|outcome| {
+            let version = version_of(message.version);
+            let said = Message { outcome, version };
+            FlatVersionBytes {
+                bytes: version::build(said, message.control),
+            }
+        });
+        let (refusal, bytes) = told(written);
+        FlatVersionWriting { refusal, bytes }
     }
 
-    fn version_message_read(&self, bytes: FlatBytes) -> FlatMessageReading {
-        let read = version::read(bytes.bytes).map(|message| FlatMessage {
+    fn version_message_read(&self, bytes: FlatVersionBytes) -> FlatVersionReading {
+        let read = version::read(bytes.bytes).map(|message| FlatVersionMessage {
             verdict: message.outcome.number(),
             version: number(message.version),
             control: bytes.bytes[5],
         });
-        let (outcome, refusal, message) = told(read);
-        FlatMessageReading {
-            outcome,
-            refusal,
-            message,
-        }
+        let (refusal, message) = told(read);
+        FlatVersionReading { refusal, message }
     }
 
-    /// A reference's talker is made of a list that listing answers. Of any other list it is made as of a single version, but
-    /// for that list and a place one before its count.
-    fn talker_make(&self, side: u8, versions: FlatVersions, control: u8) -> FlatTalker {
-        let make = |list: &[Version]| Talker::make(side_of(side), list, control);
-        let made = match make(&list_of(versions)) {
-            Ok(made) if versions.count <= 8 => flat_talker(&made),
-            _ => FlatTalker {
-                place: versions.count.saturating_sub(1),
-                ..flat_talker(&make(&[[0; 3]]).expect("one version is a list"))
-            },
-        };
-        FlatTalker { versions, ..made }
+    /// A talker keeps its list as it is given, with what stands past the count.
+    fn talker_make(&self, side: u8, versions: FlatVersions, control: u8) -> FlatTalkerMade {
+        let FlatVersions { count, numbers } = versions;
+        let made = Talker::make_listed(side_of(side), count, numbers, control);
+        let (refusal, talker) = told(made.map(|end| FlatTalker {
+            versions,
+            ..flat_talker(&end)
+        }));
+        FlatTalkerMade { refusal, talker }
     }
 
-    fn talker_connect(&self, talker: FlatTalker) -> FlatAnswer {
+    fn talker_connect(&self, talker: FlatTalker) -> FlatTalkerAnswer {
         called(talker, |end| Ok(end.connect()))
     }
 
-    fn talker_tick(&self, talker: FlatTalker) -> FlatAnswer {
+    fn talker_tick(&self, talker: FlatTalker) -> FlatTalkerAnswer {
         called(talker, |end| Ok(end.tick()))
     }
 
-    fn talker_hear(&self, talker: FlatTalker, bytes: FlatBytes) -> FlatAnswer {
+    fn talker_hear(&self, talker: FlatTalker, bytes: FlatVersionBytes) -> FlatTalkerAnswer {
         called(talker, |end| end.hear(bytes.bytes))
     }
 
-    fn talker_stop(&self, talker: FlatTalker) -> FlatAnswer {
+    fn talker_stop(&self, talker: FlatTalker) -> FlatTalkerAnswer {
         called(talker, |end| {
             end.fault();
             Ok(None)
         })
     }
 
-    fn talker_greet(&self, talker: FlatTalker) -> FlatAnswer {
+    fn talker_greet(&self, talker: FlatTalker) -> FlatTalkerAnswer {
         called(talker, |end| Ok(end.chm()))
     }
 
-    fn talker_functions_heard(&self, talker: FlatTalker) -> FlatAnswer {
+    fn talker_functions_heard(&self, talker: FlatTalker) -> FlatTalkerAnswer {
         called(talker, |end| {
             end.functions();
             Ok(None)
@@ -168,35 +155,27 @@ impl Around for Reference {
                 fourth,
             }
         });
-        let (outcome, refusal, group) = told(read);
-        FlatGroupReading {
-            outcome,
-            refusal,
-            group,
-        }
+        let (refusal, group) = told(read);
+        FlatGroupReading { refusal, group }
     }
 
     fn group_write(&self, group: FlatGroup, bytes: &mut [u8]) -> FlatGroupWriting {
         let values = [group.first, group.second, group.third, group.fourth];
-        let (outcome, refusal, ()) = told(write(group.code, values, bytes));
-        FlatGroupWriting { outcome, refusal }
+        let (refusal, ()) = told(write(group.code, values, bytes));
+        FlatGroupWriting { refusal }
     }
 
-    fn group_find(&self, code: u8) -> FlatFinding {
-        let (outcome, refusal, row) = told(row_of(code).map(flat_row).ok_or(refusal::GROUP));
-        FlatFinding {
-            outcome,
-            refusal,
-            row,
-        }
+    fn group_find(&self, code: u8) -> FlatGroupFinding {
+        let (refusal, row) = told(row_of(code).map(flat_row).ok_or(refusal::GROUP));
+        FlatGroupFinding { refusal, row }
     }
 }
 
-/// Outcome, refusal and value; what is not named is 0.
-fn told<T: Default>(answer: Result<T, Refused>) -> (u8, u8, T) {
+/// The refusal, 0 where there is none, and the value, zeros where refused.
+fn told<T: Default>(answer: Result<T, Refused>) -> (u8, T) {
     match answer {
-        Ok(value) => (0, 0, value),
-        Err(Refused(number)) => (1, number, T::default()),
+        Ok(value) => (0, value),
+        Err(Refused(number)) => (number, T::default()),
     }
 }
 
@@ -214,8 +193,8 @@ fn version_message(pf: u32, ps: u8, sa: u8) -> u32 {
     identifier::build(parts).expect("the parts of table 4 or 5")
 }
 
-fn flat_parts(parts: Parts) -> FlatParts {
-    FlatParts {
+fn flat_parts(parts: Parts) -> FlatIdentifierParts {
+    FlatIdentifierParts {
         p: parts.p,
         edp: parts.edp,
         dp: parts.dp,
@@ -225,12 +204,12 @@ fn flat_parts(parts: Parts) -> FlatParts {
     }
 }
 
-fn flat_row(row: compare::reference::groups::Row) -> FlatRow {
+fn flat_row(row: compare::reference::groups::Row) -> FlatGroupRow {
     let [first, second, third, fourth] = KINDS[usize::from(row.code - 0x71)];
-    FlatRow {
+    FlatGroupRow {
         code: row.code,
         length: row.length,
-        sender: row.from_vehicle.into(),
+        side: row.from_vehicle.into(),
         reliable: row.reliable,
         first,
         second,
@@ -362,7 +341,7 @@ pub fn flat_talker(end: &Talker) -> FlatTalker {
 fn called(
     talker: FlatTalker,
     call: impl Fn(&mut Talker) -> Result<Option<[u8; 8]>, Refused>,
-) -> FlatAnswer {
+) -> FlatTalkerAnswer {
     let mut end = talker_of(talker);
     let (before, ns) = (end.state, end.ns);
     let (said, refused) = match call(&mut end) {
@@ -372,13 +351,13 @@ fn called(
     let (outcome, version) = match end.state {
         _ if refused.is_some() => (1, 0),
         after if after == before => (0, 0),
-        State::S2 | State::S3 => (2, number(end.at_ns())),
+        State::S2 | State::S3 => (6, number(end.at_ns())),
         State::S4 => (3, 0),
-        State::S5 => (4, 0),
+        State::S5 => (7, 0),
         State::S0 | State::S1 => (0, 0),
     };
     let next = flat_talker(&end);
-    FlatAnswer {
+    FlatTalkerAnswer {
         next: FlatTalker {
             versions: talker.versions,
             place: if end.ns == ns {
@@ -389,7 +368,9 @@ fn called(
             ..next
         },
         emits: said.is_some(),
-        bytes: said.unwrap_or_default(),
+        bytes: FlatVersionBytes {
+            bytes: said.unwrap_or_default(),
+        },
         outcome,
         refusal: refused.unwrap_or(0),
         version,

@@ -39,49 +39,49 @@ mod called {
 
     // A pointer must have as many bytes behind it as the length says.
     boundary! {
-        fn kospelna_sender_make(gap: u16, timeout: u16, limit: u16) -> SenderMade {
+        fn kospelna_sender_make(gap: u16, timeout: u16, limit: u16) -> FlatSenderMade {
             Reference.sender_make(gap, timeout, limit)
         }
 
-        fn kospelna_sender_begin(s: FlatSender, message: *const u8, length: usize) -> SenderAnswer {
-            Reference.sender_begin(s, unsafe { from_raw_parts(message, length) })
+        fn kospelna_sender_begin(sender: FlatSender, message: *const u8, length: usize) -> FlatSenderAnswer {
+            Reference.sender_begin(sender, unsafe { from_raw_parts(message, length) })
         }
 
-        fn kospelna_sender_post(s: FlatSender, message: *const u8, length: usize) -> SenderAnswer {
-            Reference.sender_post(s, unsafe { from_raw_parts(message, length) })
+        fn kospelna_sender_post(sender: FlatSender, message: *const u8, length: usize) -> FlatSenderAnswer {
+            Reference.sender_post(sender, unsafe { from_raw_parts(message, length) })
         }
 
-        fn kospelna_sender_tick(s: FlatSender, message: *const u8, length: usize) -> SenderAnswer {
-            Reference.sender_tick(s, unsafe { from_raw_parts(message, length) })
+        fn kospelna_sender_tick(sender: FlatSender, message: *const u8, length: usize) -> FlatSenderAnswer {
+            Reference.sender_tick(sender, unsafe { from_raw_parts(message, length) })
         }
 
-        fn kospelna_sender_hear(s: FlatSender, f: FlatFrame) -> SenderAnswer {
-            Reference.sender_hear(s, f)
+        fn kospelna_sender_hear(sender: FlatSender, frame: FlatFrame) -> FlatSenderAnswer {
+            Reference.sender_hear(sender, frame)
         }
 
-        fn kospelna_receiver_make(timeout: u16, window: u16, capacity: u16) -> ReceiverMade {
+        fn kospelna_receiver_make(timeout: u16, window: u16, capacity: u16) -> FlatReceiverMade {
             Reference.receiver_make(timeout, window, capacity)
         }
 
-        fn kospelna_receiver_tick(r: FlatReceiver) -> ReceiverAnswer {
-            Reference.receiver_tick(r)
+        fn kospelna_receiver_tick(receiver: FlatReceiver) -> FlatReceiverAnswer {
+            Reference.receiver_tick(receiver)
         }
 
         fn kospelna_receiver_hear(
-            r: FlatReceiver,
-            f: FlatFrame,
+            receiver: FlatReceiver,
+            frame: FlatFrame,
             buffer: *mut u8,
             length: usize,
-        ) -> ReceiverAnswer {
-            Reference.receiver_hear(r, f, unsafe { from_raw_parts_mut(buffer, length) })
+        ) -> FlatReceiverAnswer {
+            Reference.receiver_hear(receiver, frame, unsafe { from_raw_parts_mut(buffer, length) })
         }
 
-        fn kospelna_identifier_join(parts: FlatParts) -> FlatJoined {
+        fn kospelna_identifier_join(parts: FlatIdentifierParts) -> FlatIdentifierJoining {
             Reference.identifier_join(parts)
         }
 
-        fn kospelna_identifier_part(identifier: u32) -> FlatParted {
-            Reference.identifier_part(identifier)
+        fn kospelna_identifier_split(identifier: u32) -> FlatIdentifierSplitting {
+            Reference.identifier_split(identifier)
         }
 
         fn kospelna_charger_address() -> u32 {
@@ -92,51 +92,51 @@ mod called {
             Reference.vehicle_address()
         }
 
-        fn kospelna_charger_version() -> u32 {
-            Reference.charger_version()
+        fn kospelna_charger_version_identifier() -> u32 {
+            Reference.charger_version_identifier()
         }
 
-        fn kospelna_vehicle_version() -> u32 {
-            Reference.vehicle_version()
+        fn kospelna_vehicle_version_identifier() -> u32 {
+            Reference.vehicle_version_identifier()
         }
 
-        fn kospelna_version_list(bytes: *const u8, length: usize) -> FlatListing {
+        fn kospelna_version_list(bytes: *const u8, length: usize) -> FlatVersionListing {
             Reference.version_list(unsafe { from_raw_parts(bytes, length) })
         }
 
-        fn kospelna_version_message_write(message: FlatMessage) -> FlatBytes {
+        fn kospelna_version_message_write(message: FlatVersionMessage) -> FlatVersionWriting {
             Reference.version_message_write(message)
         }
 
-        fn kospelna_version_message_read(bytes: FlatBytes) -> FlatMessageReading {
+        fn kospelna_version_message_read(bytes: FlatVersionBytes) -> FlatVersionReading {
             Reference.version_message_read(bytes)
         }
 
-        fn kospelna_talker_make(side: u8, versions: FlatVersions, control: u8) -> FlatTalker {
+        fn kospelna_talker_make(side: u8, versions: FlatVersions, control: u8) -> FlatTalkerMade {
             Reference.talker_make(side, versions, control)
         }
 
-        fn kospelna_talker_connect(talker: FlatTalker) -> FlatAnswer {
+        fn kospelna_talker_connect(talker: FlatTalker) -> FlatTalkerAnswer {
             Reference.talker_connect(talker)
         }
 
-        fn kospelna_talker_tick(talker: FlatTalker) -> FlatAnswer {
+        fn kospelna_talker_tick(talker: FlatTalker) -> FlatTalkerAnswer {
             Reference.talker_tick(talker)
         }
 
-        fn kospelna_talker_hear(talker: FlatTalker, bytes: FlatBytes) -> FlatAnswer {
+        fn kospelna_talker_hear(talker: FlatTalker, bytes: FlatVersionBytes) -> FlatTalkerAnswer {
             Reference.talker_hear(talker, bytes)
         }
 
-        fn kospelna_talker_stop(talker: FlatTalker) -> FlatAnswer {
+        fn kospelna_talker_stop(talker: FlatTalker) -> FlatTalkerAnswer {
             Reference.talker_stop(talker)
         }
 
-        fn kospelna_talker_greet(talker: FlatTalker) -> FlatAnswer {
+        fn kospelna_talker_greet(talker: FlatTalker) -> FlatTalkerAnswer {
             Reference.talker_greet(talker)
         }
 
-        fn kospelna_talker_functions_heard(talker: FlatTalker) -> FlatAnswer {
+        fn kospelna_talker_functions_heard(talker: FlatTalker) -> FlatTalkerAnswer {
             Reference.talker_functions_heard(talker)
         }
 
@@ -148,7 +148,7 @@ mod called {
             Reference.group_write(group, unsafe { from_raw_parts_mut(bytes, length) })
         }
 
-        fn kospelna_group_find(code: u8) -> FlatFinding {
+        fn kospelna_group_find(code: u8) -> FlatGroupFinding {
             Reference.group_find(code)
         }
     }

@@ -53,19 +53,19 @@ pub enum Call {
     ReceiverTick(FlatReceiver),
     /// With the length of the lent buffer.
     ReceiverHear(FlatReceiver, FlatFrame, usize),
-    Join(FlatParts),
-    Part(u32),
+    Join(FlatIdentifierParts),
+    Split(u32),
     ChargerAddress,
     VehicleAddress,
     ChargerVersion,
     VehicleVersion,
     List(Vec<u8>),
-    MessageWrite(FlatMessage),
-    MessageRead(FlatBytes),
+    MessageWrite(FlatVersionMessage),
+    MessageRead(FlatVersionBytes),
     TalkerMake(u8, FlatVersions, u8),
     TalkerConnect(FlatTalker),
     TalkerTick(FlatTalker),
-    TalkerHear(FlatTalker, FlatBytes),
+    TalkerHear(FlatTalker, FlatVersionBytes),
     TalkerStop(FlatTalker),
     TalkerGreet(FlatTalker),
     TalkerFunctionsHeard(FlatTalker),
@@ -78,22 +78,22 @@ pub enum Call {
 /// What a call answers.
 #[derive(Clone, Debug, PartialEq, Eq)]
 pub enum Answer {
-    SenderMade(SenderMade),
-    Sender(SenderAnswer),
-    ReceiverMade(ReceiverMade),
-    Receiver(ReceiverAnswer),
-    Joined(FlatJoined),
-    Parted(FlatParted),
+    SenderMade(FlatSenderMade),
+    Sender(FlatSenderAnswer),
+    ReceiverMade(FlatReceiverMade),
+    Receiver(FlatReceiverAnswer),
+    Joining(FlatIdentifierJoining),
+    Splitting(FlatIdentifierSplitting),
     Number(u32),
-    Listing(FlatListing),
-    Bytes(FlatBytes),
-    Message(FlatMessageReading),
-    Talker(FlatTalker),
-    Talk(FlatAnswer),
+    Listing(FlatVersionListing),
+    Bytes(FlatVersionWriting),
+    Message(FlatVersionReading),
+    TalkerMade(FlatTalkerMade),
+    Talk(FlatTalkerAnswer),
     Group(FlatGroupReading),
     /// With the lent bytes afterwards.
     Written(FlatGroupWriting, Vec<u8>),
-    Finding(FlatFinding),
+    Finding(FlatGroupFinding),
 }
 
 /// Makes the call; a hearing is lent the first bytes of `buffer`.
@@ -119,17 +119,17 @@ pub fn answer(face: &impl Face, call: &Call, buffer: &mut [u8]) -> Answer {
 
 fn answer_around(face: &impl Face, call: &Call) -> Answer {
     match call {
-        Call::Join(parts) => Answer::Joined(face.identifier_join(*parts)),
-        Call::Part(identifier) => Answer::Parted(face.identifier_part(*identifier)),
+        Call::Join(parts) => Answer::Joining(face.identifier_join(*parts)),
+        Call::Split(identifier) => Answer::Splitting(face.identifier_split(*identifier)),
         Call::ChargerAddress => Answer::Number(face.charger_address()),
         Call::VehicleAddress => Answer::Number(face.vehicle_address()),
-        Call::ChargerVersion => Answer::Number(face.charger_version()),
-        Call::VehicleVersion => Answer::Number(face.vehicle_version()),
+        Call::ChargerVersion => Answer::Number(face.charger_version_identifier()),
+        Call::VehicleVersion => Answer::Number(face.vehicle_version_identifier()),
         Call::List(bytes) => Answer::Listing(face.version_list(bytes)),
         Call::MessageWrite(message) => Answer::Bytes(face.version_message_write(*message)),
         Call::MessageRead(bytes) => Answer::Message(face.version_message_read(*bytes)),
         Call::TalkerMake(side, versions, control) => {
-            Answer::Talker(face.talker_make(*side, *versions, *control))
+            Answer::TalkerMade(face.talker_make(*side, *versions, *control))
         }
         Call::TalkerConnect(talker) => Answer::Talk(face.talker_connect(*talker)),
         Call::TalkerTick(talker) => Answer::Talk(face.talker_tick(*talker)),
@@ -159,11 +159,11 @@ pub const NAMES: [&str; 27] = [
     "receiver_tick",
     "receiver_hear",
     "identifier_join",
-    "identifier_part",
+    "identifier_split",
     "charger_address",
     "vehicle_address",
-    "charger_version",
-    "vehicle_version",
+    "charger_version_identifier",
+    "vehicle_version_identifier",
     "version_list",
     "version_message_write",
     "version_message_read",
@@ -192,7 +192,7 @@ impl Call {
             Call::ReceiverTick(_) => 6,
             Call::ReceiverHear(..) => 7,
             Call::Join(_) => 8,
-            Call::Part(_) => 9,
+            Call::Split(_) => 9,
             Call::ChargerAddress => 10,
             Call::VehicleAddress => 11,
             Call::ChargerVersion => 12,
@@ -251,12 +251,15 @@ pub struct Pair<'a, L, R> {
     pub tally: Tally,
 }
 
+/// The outcomes of the ends and of talkers: 0 to 7.
+pub const OUTCOMES: usize = 8;
+
 /// Calls by function, and answers by function and outcome.
 #[derive(Clone, Debug, Default)]
 pub struct Tally {
     pub calls: [u64; NAMES.len()],
-    /// At each function: outcome 0 to 4, made or not at the makes.
-    pub outcomes: [[u64; 5]; NAMES.len()],
+    /// At each function: outcome 0 to 7; where it answers none, 1 is refused.
+    pub outcomes: [[u64; OUTCOMES]; NAMES.len()],
 }
 
 impl Tally {
@@ -266,25 +269,27 @@ impl Tally {
 
     fn add(&mut self, place: usize, answer: &Answer) {
         self.calls[place] += 1;
-        self.outcomes[place][usize::from(outcome(answer)).min(4)] += 1;
+        self.outcomes[place][usize::from(outcome(answer)).min(OUTCOMES - 1)] += 1;
     }
 }
 
 fn outcome(answer: &Answer) -> u8 {
     match answer {
-        Answer::SenderMade(made) => u8::from(!made.made),
+        Answer::SenderMade(made) => u8::from(made.refusal != 0),
         Answer::Sender(answer) => answer.outcome,
-        Answer::ReceiverMade(made) => u8::from(!made.made),
+        Answer::ReceiverMade(made) => u8::from(made.refusal != 0),
         Answer::Receiver(answer) => answer.outcome,
-        Answer::Joined(joined) => joined.outcome,
-        Answer::Parted(parted) => parted.outcome,
-        Answer::Listing(listing) => listing.outcome,
-        Answer::Message(reading) => reading.outcome,
+        Answer::Joining(joined) => u8::from(joined.refusal != 0),
+        Answer::Splitting(parted) => u8::from(parted.refusal != 0),
+        Answer::Listing(listing) => u8::from(listing.refusal != 0),
+        Answer::Message(reading) => u8::from(reading.refusal != 0),
         Answer::Talk(answer) => answer.outcome,
-        Answer::Group(reading) => reading.outcome,
-        Answer::Written(writing, _) => writing.outcome,
-        Answer::Finding(finding) => finding.outcome,
-        Answer::Number(_) | Answer::Bytes(_) | Answer::Talker(_) => 0,
+        Answer::Group(reading) => u8::from(reading.refusal != 0),
+        Answer::Written(writing, _) => u8::from(writing.refusal != 0),
+        Answer::Finding(finding) => u8::from(finding.refusal != 0),
+        Answer::Bytes(writing) => u8::from(writing.refusal != 0),
+        Answer::TalkerMade(made) => u8::from(made.refusal != 0),
+        Answer::Number(_) => 0,
     }
 }
 

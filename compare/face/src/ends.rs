@@ -14,71 +14,67 @@ use crate::values::*;
 use crate::Reference;
 
 impl Ends for Reference {
-    fn sender_make(&self, gap: u16, timeout: u16, limit: u16) -> SenderMade {
+    fn sender_make(&self, gap: u16, timeout: u16, limit: u16) -> FlatSenderMade {
         // A gap over 255 is over 10.
         let made = match u8::try_from(gap) {
             Ok(gap) => Sender::make(gap, timeout, limit),
             Err(_) => Err(refusal::SETTING),
         };
         match made {
-            Ok(sender) => SenderMade {
-                made: true,
-                number: 0,
-                end: flat_sender(&sender),
+            Ok(sender) => FlatSenderMade {
+                refusal: 0,
+                sender: flat_sender(&sender),
             },
-            Err(Refused(number)) => SenderMade {
-                made: false,
-                number,
-                end: FlatSender::default(),
+            Err(Refused(refusal)) => FlatSenderMade {
+                refusal,
+                sender: FlatSender::default(),
             },
         }
     }
 
-    fn sender_begin(&self, sender: FlatSender, message: &[u8]) -> SenderAnswer {
+    fn sender_begin(&self, sender: FlatSender, message: &[u8]) -> FlatSenderAnswer {
         let mut end = sender_of(sender);
         let answer = end.begin(message);
         sender_answer(&end, answer)
     }
 
-    fn sender_post(&self, sender: FlatSender, message: &[u8]) -> SenderAnswer {
+    fn sender_post(&self, sender: FlatSender, message: &[u8]) -> FlatSenderAnswer {
         let end = sender_of(sender);
         let answer = end.post(message);
         sender_answer(&end, answer)
     }
 
-    fn sender_tick(&self, sender: FlatSender, message: &[u8]) -> SenderAnswer {
+    fn sender_tick(&self, sender: FlatSender, message: &[u8]) -> FlatSenderAnswer {
         let mut end = sender_of(sender);
         let answer = end.tick(message);
         sender_answer(&end, answer)
     }
 
-    fn sender_hear(&self, sender: FlatSender, frame: FlatFrame) -> SenderAnswer {
+    fn sender_hear(&self, sender: FlatSender, frame: FlatFrame) -> FlatSenderAnswer {
         let mut end = sender_of(sender);
         let answer = end.hear(frame_of(frame));
         sender_answer(&end, answer)
     }
 
-    fn receiver_make(&self, timeout: u16, window: u16, capacity: u16) -> ReceiverMade {
+    fn receiver_make(&self, timeout: u16, window: u16, capacity: u16) -> FlatReceiverMade {
         // "window C 1 to 255"
         let made = match u8::try_from(window) {
             Ok(window) => Receiver::make(timeout, window, capacity),
             Err(_) => Err(refusal::SETTING),
         };
         match made {
-            Ok(receiver) => ReceiverMade {
-                made: true,
-                number: 0,
-                end: flat_receiver(&receiver),
+            Ok(receiver) => FlatReceiverMade {
+                refusal: 0,
+                receiver: flat_receiver(&receiver),
             },
-            Err(Refused(number)) => ReceiverMade {
-                made: false,
-                number,
-                end: FlatReceiver::default(),
+            Err(Refused(refusal)) => FlatReceiverMade {
+                refusal,
+                receiver: FlatReceiver::default(),
             },
         }
     }
 
-    fn receiver_tick(&self, receiver: FlatReceiver) -> ReceiverAnswer {
+    fn receiver_tick(&self, receiver: FlatReceiver) -> FlatReceiverAnswer {
         let mut end = receiver_of(receiver);
         let answer = end.tick();
         receiver_answer(&end, Ok(answer))
@@ -89,7 +85,7 @@ impl Ends for Reference {
         receiver: FlatReceiver,
         frame: FlatFrame,
         buffer: &mut [u8],
-    ) -> ReceiverAnswer {
+    ) -> FlatReceiverAnswer {
         let mut end = receiver_of(receiver);
         let answer = end.hear(frame_of(frame), buffer);
         receiver_answer(&end, answer)
@@ -120,7 +116,7 @@ pub fn sender_of(flat: FlatSender) -> Sender {
     let phase = match flat.phase {
         1 => Phase::Opening,
         2 => Phase::Sending {
-            next: flat.next,
+            next: flat.due,
             last: flat.last,
         },
         3 => Phase::Waiting { last: flat.last },
@@ -185,7 +181,7 @@ pub fn flat_sender(end: &Sender) -> FlatSender {
         Phase::Sending { next, last } => FlatSender {
             misses,
             start,
-            next,
+            due: next,
             last,
             count: end.gap_count,
             ..flat_transfer(end, 2)
@@ -204,29 +200,30 @@ pub fn flat_sender(end: &Sender) -> FlatSender {
     }
 }
 
-fn sender_answer(end: &Sender, answer: Result<sender::Answer, Refused>) -> SenderAnswer {
-    let (frame, (outcome, number, ticks, frames)) = match answer {
-        Err(Refused(number)) => (None, (1, number, 0, 0)),
+fn sender_answer(end: &Sender, answer: Result<sender::Answer, Refused>) -> FlatSenderAnswer {
+    let (frame, (outcome, refusal, cause, ticks, frames)) = match answer {
+        Err(Refused(number)) => (None, (1, number, 0, 0, 0)),
         Ok(sender::Answer { frame, report }) => {
             let numbers = match report {
-                None => (0, 0, 0, 0),
-                Some(sender::Report::Sent { ticks, frames }) => (2, 0, ticks, frames),
+                None => (0, 0, 0, 0, 0),
+                Some(sender::Report::Sent { ticks, frames }) => (5, 0, 0, ticks, frames),
                 Some(sender::Report::Failed {
                     cause,
                     ticks,
                     frames,
-                }) => (3, cause, ticks, frames),
+                }) => (3, 0, cause, ticks, frames),
             };
             (frame, numbers)
         }
     };
     let (emits, frame) = emitted(frame);
-    SenderAnswer {
+    FlatSenderAnswer {
         next: flat_sender(end),
         emits,
         frame,
         outcome,
-        number,
+        refusal,
+        cause,
         ticks,
         frames,
     }
@@ -286,26 +283,30 @@ pub fn flat_receiver(end: &Receiver) -> FlatReceiver {
     }
 }
 
-fn receiver_answer(end: &Receiver, answer: Result<receiver::Answer, Refused>) -> ReceiverAnswer {
-    let (frame, (outcome, number, length, bytes)) = match answer {
-        Err(Refused(number)) => (None, (1, number, 0, [0; 8])),
+fn receiver_answer(
+    end: &Receiver,
+    answer: Result<receiver::Answer, Refused>,
+) -> FlatReceiverAnswer {
+    let (frame, (outcome, refusal, cause, length, bytes)) = match answer {
+        Err(Refused(number)) => (None, (1, number, 0, 0, [0; 8])),
         Ok(receiver::Answer { frame, report }) => {
             let numbers = match report {
-                None => (0, 0, 0, [0; 8]),
-                Some(receiver::Report::Delivered { l }) => (2, 0, l, [0; 8]),
-                Some(receiver::Report::Failed { cause }) => (3, cause, 0, [0; 8]),
-                Some(receiver::Report::Short(bytes)) => (4, 0, 0, bytes),
+                None => (0, 0, 0, 0, [0; 8]),
+                Some(receiver::Report::Delivered { l }) => (2, 0, 0, l, [0; 8]),
+                Some(receiver::Report::Failed { cause }) => (3, 0, cause, 0, [0; 8]),
+                Some(receiver::Report::Short(bytes)) => (4, 0, 0, 0, bytes),
             };
             (frame, numbers)
         }
     };
     let (emits, frame) = emitted(frame);
-    ReceiverAnswer {
+    FlatReceiverAnswer {
         next: flat_receiver(end),
         emits,
         frame,
         outcome,
-        number,
+        refusal,
+        cause,
         length,
         bytes,
     }

@@ -7,55 +7,63 @@ mod linked {
     use super::*;
 
     extern "C" {
-        pub fn kospelna_sender_make(gap: u16, timeout: u16, limit: u16) -> SenderMade;
+        pub fn kospelna_sender_make(gap: u16, timeout: u16, limit: u16) -> FlatSenderMade;
         pub fn kospelna_sender_begin(
-            s: FlatSender,
+            sender: FlatSender,
             message: *const u8,
             length: usize,
-        ) -> SenderAnswer;
+        ) -> FlatSenderAnswer;
         pub fn kospelna_sender_post(
-            s: FlatSender,
+            sender: FlatSender,
             message: *const u8,
             length: usize,
-        ) -> SenderAnswer;
+        ) -> FlatSenderAnswer;
         pub fn kospelna_sender_tick(
-            s: FlatSender,
+            sender: FlatSender,
             message: *const u8,
             length: usize,
-        ) -> SenderAnswer;
-        pub fn kospelna_sender_hear(s: FlatSender, f: FlatFrame) -> SenderAnswer;
-        pub fn kospelna_receiver_make(timeout: u16, window: u16, capacity: u16) -> ReceiverMade;
-        pub fn kospelna_receiver_tick(r: FlatReceiver) -> ReceiverAnswer;
+        ) -> FlatSenderAnswer;
+        pub fn kospelna_sender_hear(sender: FlatSender, frame: FlatFrame) -> FlatSenderAnswer;
+        pub fn kospelna_receiver_make(timeout: u16, window: u16, capacity: u16)
+            -> FlatReceiverMade;
+        pub fn kospelna_receiver_tick(receiver: FlatReceiver) -> FlatReceiverAnswer;
         pub fn kospelna_receiver_hear(
-            r: FlatReceiver,
-            f: FlatFrame,
+            receiver: FlatReceiver,
+            frame: FlatFrame,
             buffer: *mut u8,
             length: usize,
-        ) -> ReceiverAnswer;
+        ) -> FlatReceiverAnswer;
 
-        pub fn kospelna_identifier_join(parts: FlatParts) -> FlatJoined;
-        pub fn kospelna_identifier_part(identifier: u32) -> FlatParted;
+        pub fn kospelna_identifier_join(parts: FlatIdentifierParts) -> FlatIdentifierJoining;
+        pub fn kospelna_identifier_split(identifier: u32) -> FlatIdentifierSplitting;
         pub fn kospelna_charger_address() -> u32;
         pub fn kospelna_vehicle_address() -> u32;
-        pub fn kospelna_charger_version() -> u32;
-        pub fn kospelna_vehicle_version() -> u32;
-        pub fn kospelna_version_list(bytes: *const u8, length: usize) -> FlatListing;
-        pub fn kospelna_version_message_write(message: FlatMessage) -> FlatBytes;
-        pub fn kospelna_version_message_read(bytes: FlatBytes) -> FlatMessageReading;
-        pub fn kospelna_talker_make(side: u8, versions: FlatVersions, control: u8) -> FlatTalker;
-        pub fn kospelna_talker_connect(talker: FlatTalker) -> FlatAnswer;
-        pub fn kospelna_talker_tick(talker: FlatTalker) -> FlatAnswer;
-        pub fn kospelna_talker_hear(talker: FlatTalker, bytes: FlatBytes) -> FlatAnswer;
-        pub fn kospelna_talker_stop(talker: FlatTalker) -> FlatAnswer;
-        pub fn kospelna_talker_greet(talker: FlatTalker) -> FlatAnswer;
-        pub fn kospelna_talker_functions_heard(talker: FlatTalker) -> FlatAnswer;
+        pub fn kospelna_charger_version_identifier() -> u32;
+        pub fn kospelna_vehicle_version_identifier() -> u32;
+        pub fn kospelna_version_list(bytes: *const u8, length: usize) -> FlatVersionListing;
+        pub fn kospelna_version_message_write(message: FlatVersionMessage) -> FlatVersionWriting;
+        pub fn kospelna_version_message_read(bytes: FlatVersionBytes) -> FlatVersionReading;
+        pub fn kospelna_talker_make(
+            side: u8,
+            versions: FlatVersions,
+            control: u8,
+        ) -> FlatTalkerMade;
+        pub fn kospelna_talker_connect(talker: FlatTalker) -> FlatTalkerAnswer;
+        pub fn kospelna_talker_tick(talker: FlatTalker) -> FlatTalkerAnswer;
+        pub fn kospelna_talker_hear(
+            talker: FlatTalker,
+            bytes: FlatVersionBytes,
+        ) -> FlatTalkerAnswer;
+        pub fn kospelna_talker_stop(talker: FlatTalker) -> FlatTalkerAnswer;
+        pub fn kospelna_talker_greet(talker: FlatTalker) -> FlatTalkerAnswer;
+        pub fn kospelna_talker_functions_heard(talker: FlatTalker) -> FlatTalkerAnswer;
         pub fn kospelna_group_read(bytes: *const u8, length: usize) -> FlatGroupReading;
         pub fn kospelna_group_write(
             group: FlatGroup,
             bytes: *mut u8,
             length: usize,
         ) -> FlatGroupWriting;
-        pub fn kospelna_group_find(code: u8) -> FlatFinding;
+        pub fn kospelna_group_find(code: u8) -> FlatGroupFinding;
     }
 }
 

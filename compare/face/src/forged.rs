@@ -130,7 +130,7 @@ fn sender(random: &mut Random) -> FlatSender {
         wait: below(random, timeout),
         misses: random.between(0, 2) as u16,
         start: number(random),
-        next: number(random),
+        due: number(random),
         last: number(random),
         count: below(random, gap),
     }
@@ -183,7 +183,7 @@ pub fn talker_call(random: &mut Random) -> Call {
 }
 
 /// A message, at times with the version at Ns, which is no continue where the list has not that version.
-fn heard(random: &mut Random, talker: &FlatTalker) -> FlatBytes {
+fn heard(random: &mut Random, talker: &FlatTalker) -> FlatVersionBytes {
     let own = version_at(&talker.versions, talker.place);
     let mut heard = message(random, &talker.versions);
     let [_, result, version @ .., _, _, _] = &mut heard.bytes;

@@ -5,42 +5,42 @@ use crate::values::*;
 
 /// The two transport ends.
 pub trait Ends {
-    fn sender_make(&self, gap: u16, timeout: u16, limit: u16) -> SenderMade;
-    fn sender_begin(&self, sender: FlatSender, message: &[u8]) -> SenderAnswer;
-    fn sender_post(&self, sender: FlatSender, message: &[u8]) -> SenderAnswer;
-    fn sender_tick(&self, sender: FlatSender, message: &[u8]) -> SenderAnswer;
-    fn sender_hear(&self, sender: FlatSender, frame: FlatFrame) -> SenderAnswer;
-    fn receiver_make(&self, timeout: u16, window: u16, capacity: u16) -> ReceiverMade;
-    fn receiver_tick(&self, receiver: FlatReceiver) -> ReceiverAnswer;
+    fn sender_make(&self, gap: u16, timeout: u16, limit: u16) -> FlatSenderMade;
+    fn sender_begin(&self, sender: FlatSender, message: &[u8]) -> FlatSenderAnswer;
+    fn sender_post(&self, sender: FlatSender, message: &[u8]) -> FlatSenderAnswer;
+    fn sender_tick(&self, sender: FlatSender, message: &[u8]) -> FlatSenderAnswer;
+    fn sender_hear(&self, sender: FlatSender, frame: FlatFrame) -> FlatSenderAnswer;
+    fn receiver_make(&self, timeout: u16, window: u16, capacity: u16) -> FlatReceiverMade;
+    fn receiver_tick(&self, receiver: FlatReceiver) -> FlatReceiverAnswer;
     fn receiver_hear(
         &self,
         receiver: FlatReceiver,
         frame: FlatFrame,
         buffer: &mut [u8],
-    ) -> ReceiverAnswer;
+    ) -> FlatReceiverAnswer;
 }
 
 /// Identifiers, version talk and parameter groups.
 pub trait Around {
-    fn identifier_join(&self, parts: FlatParts) -> FlatJoined;
-    fn identifier_part(&self, identifier: u32) -> FlatParted;
+    fn identifier_join(&self, parts: FlatIdentifierParts) -> FlatIdentifierJoining;
+    fn identifier_split(&self, identifier: u32) -> FlatIdentifierSplitting;
     fn charger_address(&self) -> u32;
     fn vehicle_address(&self) -> u32;
-    fn charger_version(&self) -> u32;
-    fn vehicle_version(&self) -> u32;
-    fn version_list(&self, bytes: &[u8]) -> FlatListing;
-    fn version_message_write(&self, message: FlatMessage) -> FlatBytes;
-    fn version_message_read(&self, bytes: FlatBytes) -> FlatMessageReading;
-    fn talker_make(&self, side: u8, versions: FlatVersions, control: u8) -> FlatTalker;
-    fn talker_connect(&self, talker: FlatTalker) -> FlatAnswer;
-    fn talker_tick(&self, talker: FlatTalker) -> FlatAnswer;
-    fn talker_hear(&self, talker: FlatTalker, bytes: FlatBytes) -> FlatAnswer;
-    fn talker_stop(&self, talker: FlatTalker) -> FlatAnswer;
-    fn talker_greet(&self, talker: FlatTalker) -> FlatAnswer;
-    fn talker_functions_heard(&self, talker: FlatTalker) -> FlatAnswer;
+    fn charger_version_identifier(&self) -> u32;
+    fn vehicle_version_identifier(&self) -> u32;
+    fn version_list(&self, bytes: &[u8]) -> FlatVersionListing;
+    fn version_message_write(&self, message: FlatVersionMessage) -> FlatVersionWriting;
+    fn version_message_read(&self, bytes: FlatVersionBytes) -> FlatVersionReading;
+    fn talker_make(&self, side: u8, versions: FlatVersions, control: u8) -> FlatTalkerMade;
+    fn talker_connect(&self, talker: FlatTalker) -> FlatTalkerAnswer;
+    fn talker_tick(&self, talker: FlatTalker) -> FlatTalkerAnswer;
+    fn talker_hear(&self, talker: FlatTalker, bytes: FlatVersionBytes) -> FlatTalkerAnswer;
+    fn talker_stop(&self, talker: FlatTalker) -> FlatTalkerAnswer;
+    fn talker_greet(&self, talker: FlatTalker) -> FlatTalkerAnswer;
+    fn talker_functions_heard(&self, talker: FlatTalker) -> FlatTalkerAnswer;
     fn group_read(&self, bytes: &[u8]) -> FlatGroupReading;
     fn group_write(&self, group: FlatGroup, bytes: &mut [u8]) -> FlatGroupWriting;
-    fn group_find(&self, code: u8) -> FlatFinding;
+    fn group_find(&self, code: u8) -> FlatGroupFinding;
 }
 
 /// The whole of it.
@@ -55,37 +55,37 @@ macro_rules! through {
     ($face:ident, $module:ident) => {
         impl Ends for $face {
             #[inline]
-            fn sender_make(&self, gap: u16, timeout: u16, limit: u16) -> SenderMade {
+            fn sender_make(&self, gap: u16, timeout: u16, limit: u16) -> FlatSenderMade {
                 unsafe { $module::kospelna_sender_make(gap, timeout, limit) }
             }
 
             #[inline]
-            fn sender_begin(&self, sender: FlatSender, message: &[u8]) -> SenderAnswer {
+            fn sender_begin(&self, sender: FlatSender, message: &[u8]) -> FlatSenderAnswer {
                 unsafe { $module::kospelna_sender_begin(sender, message.as_ptr(), message.len()) }
             }
 
             #[inline]
-            fn sender_post(&self, sender: FlatSender, message: &[u8]) -> SenderAnswer {
+            fn sender_post(&self, sender: FlatSender, message: &[u8]) -> FlatSenderAnswer {
                 unsafe { $module::kospelna_sender_post(sender, message.as_ptr(), message.len()) }
             }
 
             #[inline]
-            fn sender_tick(&self, sender: FlatSender, message: &[u8]) -> SenderAnswer {
+            fn sender_tick(&self, sender: FlatSender, message: &[u8]) -> FlatSenderAnswer {
                 unsafe { $module::kospelna_sender_tick(sender, message.as_ptr(), message.len()) }
             }
 
             #[inline]
-            fn sender_hear(&self, sender: FlatSender, frame: FlatFrame) -> SenderAnswer {
+            fn sender_hear(&self, sender: FlatSender, frame: FlatFrame) -> FlatSenderAnswer {
                 unsafe { $module::kospelna_sender_hear(sender, frame) }
             }
 
             #[inline]
-            fn receiver_make(&self, timeout: u16, window: u16, capacity: u16) -> ReceiverMade {
+            fn receiver_make(&self, timeout: u16, window: u16, capacity: u16) -> FlatReceiverMade {
                 unsafe { $module::kospelna_receiver_make(timeout, window, capacity) }
             }
 
             #[inline]
-            fn receiver_tick(&self, receiver: FlatReceiver) -> ReceiverAnswer {
+            fn receiver_tick(&self, receiver: FlatReceiver) -> FlatReceiverAnswer {
                 unsafe { $module::kospelna_receiver_tick(receiver) }
             }
 
@@ -95,7 +95,7 @@ macro_rules! through {
                 receiver: FlatReceiver,
                 frame: FlatFrame,
                 buffer: &mut [u8],
-            ) -> ReceiverAnswer {
+            ) -> FlatReceiverAnswer {
                 unsafe {
                     $module::kospelna_receiver_hear(
                         receiver,
@@ -109,13 +109,13 @@ macro_rules! through {
 
         impl Around for $face {
             #[inline]
-            fn identifier_join(&self, parts: FlatParts) -> FlatJoined {
+            fn identifier_join(&self, parts: FlatIdentifierParts) -> FlatIdentifierJoining {
                 unsafe { $module::kospelna_identifier_join(parts) }
             }
 
             #[inline]
-            fn identifier_part(&self, identifier: u32) -> FlatParted {
-                unsafe { $module::kospelna_identifier_part(identifier) }
+            fn identifier_split(&self, identifier: u32) -> FlatIdentifierSplitting {
+                unsafe { $module::kospelna_identifier_split(identifier) }
             }
 
             #[inline]
@@ -129,62 +129,62 @@ macro_rules! through {
             }
 
             #[inline]
-            fn charger_version(&self) -> u32 {
-                unsafe { $module::kospelna_charger_version() }
+            fn charger_version_identifier(&self) -> u32 {
+                unsafe { $module::kospelna_charger_version_identifier() }
             }
 
             #[inline]
-            fn vehicle_version(&self) -> u32 {
-                unsafe { $module::kospelna_vehicle_version() }
+            fn vehicle_version_identifier(&self) -> u32 {
+                unsafe { $module::kospelna_vehicle_version_identifier() }
             }
 
             #[inline]
-            fn version_list(&self, bytes: &[u8]) -> FlatListing {
+            fn version_list(&self, bytes: &[u8]) -> FlatVersionListing {
                 unsafe { $module::kospelna_version_list(bytes.as_ptr(), bytes.len()) }
             }
 
             #[inline]
-            fn version_message_write(&self, message: FlatMessage) -> FlatBytes {
+            fn version_message_write(&self, message: FlatVersionMessage) -> FlatVersionWriting {
                 unsafe { $module::kospelna_version_message_write(message) }
             }
 
             #[inline]
-            fn version_message_read(&self, bytes: FlatBytes) -> FlatMessageReading {
+            fn version_message_read(&self, bytes: FlatVersionBytes) -> FlatVersionReading {
                 unsafe { $module::kospelna_version_message_read(bytes) }
             }
 
             #[inline]
-            fn talker_make(&self, side: u8, versions: FlatVersions, control: u8) -> FlatTalker {
+            fn talker_make(&self, side: u8, versions: FlatVersions, control: u8) -> FlatTalkerMade {
                 unsafe { $module::kospelna_talker_make(side, versions, control) }
             }
 
             #[inline]
-            fn talker_connect(&self, talker: FlatTalker) -> FlatAnswer {
+            fn talker_connect(&self, talker: FlatTalker) -> FlatTalkerAnswer {
                 unsafe { $module::kospelna_talker_connect(talker) }
             }
 
             #[inline]
-            fn talker_tick(&self, talker: FlatTalker) -> FlatAnswer {
+            fn talker_tick(&self, talker: FlatTalker) -> FlatTalkerAnswer {
                 unsafe { $module::kospelna_talker_tick(talker) }
             }
 
             #[inline]
-            fn talker_hear(&self, talker: FlatTalker, bytes: FlatBytes) -> FlatAnswer {
+            fn talker_hear(&self, talker: FlatTalker, bytes: FlatVersionBytes) -> FlatTalkerAnswer {
                 unsafe { $module::kospelna_talker_hear(talker, bytes) }
             }
 
             #[inline]
-            fn talker_stop(&self, talker: FlatTalker) -> FlatAnswer {
+            fn talker_stop(&self, talker: FlatTalker) -> FlatTalkerAnswer {
                 unsafe { $module::kospelna_talker_stop(talker) }
             }
 
             #[inline]
-            fn talker_greet(&self, talker: FlatTalker) -> FlatAnswer {
+            fn talker_greet(&self, talker: FlatTalker) -> FlatTalkerAnswer {
                 unsafe { $module::kospelna_talker_greet(talker) }
             }
 
             #[inline]
-            fn talker_functions_heard(&self, talker: FlatTalker) -> FlatAnswer {
+            fn talker_functions_heard(&self, talker: FlatTalker) -> FlatTalkerAnswer {
                 unsafe { $module::kospelna_talker_functions_heard(talker) }
             }
 
@@ -199,7 +199,7 @@ macro_rules! through {
             }
 
             #[inline]
-            fn group_find(&self, code: u8) -> FlatFinding {
+            fn group_find(&self, code: u8) -> FlatGroupFinding {
                 unsafe { $module::kospelna_group_find(code) }
             }
         }

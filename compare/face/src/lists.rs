@@ -52,7 +52,7 @@ const WIDE: [u32; 10] = [
     u32::MAX,
 ];
 
-/// A count or a place, which nobody judges.
+/// A count or a place of any size.
 pub fn unjudged(random: &mut Random) -> u32 {
     match random.weighted(&[30, 60, 10]) {
         0 => random.between(0, 8) as u32,
@@ -71,6 +71,26 @@ pub fn forged(random: &mut Random) -> FlatVersions {
             ..list
         },
     }
+}
+
+/// What a talker may be made of: a list as listing answers it, or one with another count, with two versions equal or
+/// exchanged, with a number of four bytes, or with another number at any place, past its count too.
+pub fn offered(random: &mut Random) -> FlatVersions {
+    let mut list = accepted(random);
+    let count = list.count as usize;
+    let later = random.between(1, count.max(2) - 1);
+    match random.weighted(&[30, 30, 10, 10, 10, 10]) {
+        0 => {}
+        1 => {
+            list.numbers.copy_from_slice(&rising(random, 8));
+            list.count = unjudged(random);
+        }
+        2 => list.numbers[later] = list.numbers[later - 1],
+        3 => list.numbers.swap(later - 1, later),
+        4 => list.numbers[random.between(0, count - 1)] |= random.pick(&[1 << 24, 1 << 31]),
+        _ => list.numbers[random.between(0, 7)] = u32::from_be_bytes(random_bytes(random)),
+    }
+    list
 }
 
 /// The versions that stand in a list: as many as it counts, eight at most.
@@ -117,7 +137,7 @@ pub fn three(version: u32) -> [u8; 3] {
 }
 
 /// A message with a version of the list or another, seldom one that cannot be read.
-pub fn message(random: &mut Random, versions: &FlatVersions) -> FlatBytes {
+pub fn message(random: &mut Random, versions: &FlatVersions) -> FlatVersionBytes {
     let version = match random.weighted(&[60, 30, 10]) {
         0 => versions.numbers[random.between(0, standing(versions).len().max(1) - 1)],
         1 => random.pick(&VERSIONS),
@@ -133,7 +153,7 @@ pub fn message(random: &mut Random, versions: &FlatVersions) -> FlatBytes {
         false => random.pick(&[3, 4, 128, 255]),
     };
     let [control, transport, reserved] = random_bytes(random);
-    FlatBytes {
+    FlatVersionBytes {
         bytes: [
             can, result, main, minor, temporary, control, transport, reserved,
         ],

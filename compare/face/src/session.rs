@@ -71,11 +71,11 @@ impl World {
         let receiver = pair.compare(Call::ReceiverMake(session.receiver))?;
         Ok(match (sender, receiver) {
             (Answer::SenderMade(sender), Answer::ReceiverMade(receiver))
-                if sender.made && receiver.made =>
+                if sender.refusal == 0 && receiver.refusal == 0 =>
             {
                 Some(World {
-                    sender: sender.end,
-                    receiver: receiver.end,
+                    sender: sender.sender,
+                    receiver: receiver.receiver,
                     forward: VecDeque::new(),
                     back: VecDeque::new(),
                 })

@@ -5,13 +5,13 @@ use compare::reference::groups::ROWS;
 
 use crate::call::Call;
 use crate::frames::random_bytes;
-use crate::lists::{accepted, forged, lent, message};
+use crate::lists::{accepted, lent, message, offered};
 use crate::values::*;
 
 pub fn identifier_call(random: &mut Random) -> Call {
     match random.weighted(&[48, 48, 1, 1, 1, 1]) {
         0 => Call::Join(parts(random)),
-        1 => Call::Part(identifier(random)),
+        1 => Call::Split(identifier(random)),
         2 => Call::ChargerAddress,
         3 => Call::VehicleAddress,
         4 => Call::ChargerVersion,
@@ -20,7 +20,7 @@ pub fn identifier_call(random: &mut Random) -> Call {
 }
 
 /// Mostly within their widths; EDP and DP mostly 0.
-fn parts(random: &mut Random) -> FlatParts {
+fn parts(random: &mut Random) -> FlatIdentifierParts {
     let part = |random: &mut Random, most: usize| match random.percent(92) {
         true => random.between(0, most) as u32,
         false => {
@@ -28,7 +28,7 @@ fn parts(random: &mut Random) -> FlatParts {
             random.pick(&[most, most + 1, 255, 256, 65536, 1 << 31, u32::MAX])
         }
     };
-    FlatParts {
+    FlatIdentifierParts {
         p: part(random, 7),
         edp: part(random, 0),
         dp: part(random, 0),
@@ -59,12 +59,12 @@ fn identifier(random: &mut Random) -> u32 {
 }
 
 pub fn version_call(random: &mut Random) -> Call {
-    match random.weighted(&[35, 25, 30, 10]) {
+    match random.weighted(&[30, 25, 25, 20]) {
         0 => Call::List(lent(random)),
-        1 => Call::MessageWrite(FlatMessage {
-            verdict: match random.percent(90) {
+        1 => Call::MessageWrite(FlatVersionMessage {
+            verdict: match random.percent(75) {
                 true => random.between(0, 2) as u8,
-                false => random.byte(),
+                false => random.pick(&[3, 4, 128, 255]),
             },
             version: u32::from_le_bytes(random_bytes(random)) & 0x00FF_FFFF,
             control: random.byte(),
@@ -73,7 +73,7 @@ pub fn version_call(random: &mut Random) -> Call {
             let versions = accepted(random);
             Call::MessageRead(message(random, &versions))
         }
-        _ => Call::TalkerMake(random.pick(&[0, 1, 2, 255]), forged(random), random.byte()),
+        _ => Call::TalkerMake(random.pick(&[0, 1, 2, 255]), offered(random), random.byte()),
     }
 }
 

@@ -14,7 +14,7 @@ pub enum TalkStep {
     Connect(usize),
     /// It hears what the other side said last, if anything.
     Hear(usize),
-    HearBytes(usize, FlatBytes),
+    HearBytes(usize, FlatVersionBytes),
     Stop(usize),
     Greet(usize),
     Functions(usize),
@@ -32,7 +32,7 @@ pub struct Talk {
 
 struct Sides {
     talkers: [FlatTalker; 2],
-    said: [Option<FlatBytes>; 2],
+    said: [Option<FlatVersionBytes>; 2],
 }
 
 impl Talk {
@@ -44,14 +44,14 @@ impl Talk {
             else {
                 unreachable!("a list is answered by a listing");
             };
-            if listing.outcome != 0 {
+            if listing.refusal != 0 {
                 return Ok(());
             }
             let make = Call::TalkerMake(side as u8, listing.versions, self.controls[side]);
-            let Answer::Talker(made) = pair.compare(make)? else {
-                unreachable!("making is answered by a talker");
+            let Answer::TalkerMade(made) = pair.compare(make)? else {
+                unreachable!("making is answered by a talker or its refusal");
             };
-            *talker = made;
+            *talker = made.talker;
         }
         let said = [None; 2];
         let mut sides = Sides { talkers, said };
@@ -97,9 +97,7 @@ impl Sides {
         if let Answer::Talk(answer) = pair.compare(call)? {
             self.talkers[side] = answer.next;
             if answer.emits {
-                self.said[side] = Some(FlatBytes {
-                    bytes: answer.bytes,
-                });
+                self.said[side] = Some(answer.bytes);
             }
         }
         Ok(())

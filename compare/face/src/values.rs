@@ -26,28 +26,28 @@ pub struct FlatSender {
     pub wait: u16,
     pub misses: u16,
     pub start: u8,
-    pub next: u8,
+    pub due: u8,
     pub last: u8,
     pub count: u16,
 }
 
 #[repr(C)]
 #[derive(Clone, Copy, Debug, PartialEq, Eq)]
-pub struct SenderMade {
-    pub made: bool,
-    pub number: u8,
-    pub end: FlatSender,
+pub struct FlatSenderMade {
+    pub refusal: u8,
+    pub sender: FlatSender,
 }
 
-/// Outcome 0 is quiet, 1 refused, 2 sent, 3 failed; number is the refusal's or the cause.
+/// Outcome 0 is quiet, 1 refused, 3 failed, 5 sent.
 #[repr(C)]
 #[derive(Clone, Copy, Debug, PartialEq, Eq)]
-pub struct SenderAnswer {
+pub struct FlatSenderAnswer {
     pub next: FlatSender,
     pub emits: bool,
     pub frame: FlatFrame,
     pub outcome: u8,
-    pub number: u8,
+    pub refusal: u8,
+    pub cause: u8,
     pub ticks: u16,
     pub frames: u16,
 }
@@ -71,28 +71,28 @@ pub struct FlatReceiver {
 
 #[repr(C)]
 #[derive(Clone, Copy, Debug, PartialEq, Eq)]
-pub struct ReceiverMade {
-    pub made: bool,
-    pub number: u8,
-    pub end: FlatReceiver,
+pub struct FlatReceiverMade {
+    pub refusal: u8,
+    pub receiver: FlatReceiver,
 }
 
-/// Outcome 0 is quiet, 1 refused, 2 delivered, 3 failed, 4 short; number is the refusal's or the cause.
+/// Outcome 0 is quiet, 1 refused, 2 delivered, 3 failed, 4 short.
 #[repr(C)]
 #[derive(Clone, Copy, Debug, PartialEq, Eq)]
-pub struct ReceiverAnswer {
+pub struct FlatReceiverAnswer {
     pub next: FlatReceiver,
     pub emits: bool,
     pub frame: FlatFrame,
     pub outcome: u8,
-    pub number: u8,
+    pub refusal: u8,
+    pub cause: u8,
     pub length: u16,
     pub bytes: [u8; 8],
 }
 
 #[repr(C)]
 #[derive(Clone, Copy, Debug, Default, PartialEq, Eq)]
-pub struct FlatParts {
+pub struct FlatIdentifierParts {
     pub p: u32,
     pub edp: u32,
     pub dp: u32,
@@ -101,21 +101,19 @@ pub struct FlatParts {
     pub sa: u32,
 }
 
-/// In this and what follows outcome 0 is the value asked for, 1 refused.
+/// In this and what follows refusal 0 says that there is none.
 #[repr(C)]
 #[derive(Clone, Copy, Debug, PartialEq, Eq)]
-pub struct FlatJoined {
-    pub outcome: u8,
+pub struct FlatIdentifierJoining {
     pub refusal: u8,
     pub identifier: u32,
 }
 
 #[repr(C)]
 #[derive(Clone, Copy, Debug, PartialEq, Eq)]
-pub struct FlatParted {
-    pub outcome: u8,
+pub struct FlatIdentifierSplitting {
     pub refusal: u8,
-    pub parts: FlatParts,
+    pub parts: FlatIdentifierParts,
 }
 
 /// The first `count` numbers stand; the others are 0.
@@ -128,33 +126,38 @@ pub struct FlatVersions {
 
 #[repr(C)]
 #[derive(Clone, Copy, Debug, PartialEq, Eq)]
-pub struct FlatListing {
-    pub outcome: u8,
+pub struct FlatVersionListing {
     pub refusal: u8,
     pub versions: FlatVersions,
 }
 
-/// Verdict 0 is continue, 1 success, 2 failure, any other is read as continue.
+/// Verdict 0 is continue, 1 success, 2 failure.
 #[repr(C)]
 #[derive(Clone, Copy, Debug, Default, PartialEq, Eq)]
-pub struct FlatMessage {
+pub struct FlatVersionMessage {
     pub verdict: u8,
     pub version: u32,
     pub control: u8,
 }
 
 #[repr(C)]
-#[derive(Clone, Copy, Debug, PartialEq, Eq)]
-pub struct FlatBytes {
+#[derive(Clone, Copy, Debug, Default, PartialEq, Eq)]
+pub struct FlatVersionBytes {
     pub bytes: [u8; 8],
 }
 
 #[repr(C)]
 #[derive(Clone, Copy, Debug, PartialEq, Eq)]
-pub struct FlatMessageReading {
-    pub outcome: u8,
+pub struct FlatVersionWriting {
     pub refusal: u8,
-    pub message: FlatMessage,
+    pub bytes: FlatVersionBytes,
+}
+
+#[repr(C)]
+#[derive(Clone, Copy, Debug, PartialEq, Eq)]
+pub struct FlatVersionReading {
+    pub refusal: u8,
+    pub message: FlatVersionMessage,
 }
 
 /// Side 0 is the charger, 1 the vehicle; state 0 to 5 is S0 to S5; any other number is read as 0.
@@ -172,13 +175,20 @@ pub struct FlatTalker {
     pub timing: bool,
 }
 
-/// Outcome 0 is quiet, 1 refused, 2 agreed on the version, 3 failed, 4 left.
 #[repr(C)]
 #[derive(Clone, Copy, Debug, PartialEq, Eq)]
-pub struct FlatAnswer {
+pub struct FlatTalkerMade {
+    pub refusal: u8,
+    pub talker: FlatTalker,
+}
+
+/// Outcome 0 is quiet, 1 refused, 3 failed, 6 agreed on the version, 7 left.
+#[repr(C)]
+#[derive(Clone, Copy, Debug, PartialEq, Eq)]
+pub struct FlatTalkerAnswer {
     pub next: FlatTalker,
     pub emits: bool,
-    pub bytes: [u8; 8],
+    pub bytes: FlatVersionBytes,
     pub outcome: u8,
     pub refusal: u8,
     pub version: u32,
@@ -197,7 +207,6 @@ pub struct FlatGroup {
 #[repr(C)]
 #[derive(Clone, Copy, Debug, PartialEq, Eq)]
 pub struct FlatGroupReading {
-    pub outcome: u8,
     pub refusal: u8,
     pub group: FlatGroup,
 }
@@ -205,17 +214,16 @@ pub struct FlatGroupReading {
 #[repr(C)]
 #[derive(Clone, Copy, Debug, PartialEq, Eq)]
 pub struct FlatGroupWriting {
-    pub outcome: u8,
     pub refusal: u8,
 }
 
-/// Sender 0 is the charger, 1 the vehicle; the four fields are kinds, 0 where there is no field.
+/// Side 0 is the charger, 1 the vehicle; the four fields are kinds, 0 where there is no field.
 #[repr(C)]
 #[derive(Clone, Copy, Debug, Default, PartialEq, Eq)]
-pub struct FlatRow {
+pub struct FlatGroupRow {
     pub code: u8,
     pub length: usize,
-    pub sender: u8,
+    pub side: u8,
     pub reliable: bool,
     pub first: usize,
     pub second: usize,
@@ -225,8 +233,7 @@ pub struct FlatRow {
 
 #[repr(C)]
 #[derive(Clone, Copy, Debug, PartialEq, Eq)]
-pub struct FlatFinding {
-    pub outcome: u8,
+pub struct FlatGroupFinding {
     pub refusal: u8,
-    pub row: FlatRow,
+    pub row: FlatGroupRow,
 }

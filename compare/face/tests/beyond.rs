@@ -29,7 +29,7 @@ fn sender(phase: u8) -> FlatSender {
         frames: 3,
         emitted: 1,
         start: 1,
-        next: 1,
+        due: 1,
         last: 2,
         ..FlatSender::default()
     }
@@ -133,7 +133,7 @@ fn a_place_past_the_list() {
         place: 8,
         ..talker(1)
     };
-    let zero = FlatBytes { bytes: [0; 8] };
+    let zero = FlatVersionBytes { bytes: [0; 8] };
     differs(Call::TalkerHear(past, zero));
 }
 

@@ -1,11 +1,14 @@
-//! The declarations in `src/ffi.rs` and `src/values.rs` are those of `crates/kospelna/src/`: the same functions, with the
-//! same parameters and results, down to the names, types and order of every struct's fields.
+//! The declarations in `src/ffi.rs`, `src/values.rs` and `include/kospelna.h` are those of `crates/kospelna/src/`: the same
+//! structs with the same fields and the same functions with the same parameters and results, by name, type and order.
 
 use std::collections::BTreeMap;
 use std::path::Path;
 
-type Structs = BTreeMap<String, Vec<(String, String)>>;
-type Functions = BTreeMap<String, (Vec<String>, String)>;
+/// Names with their types, in order.
+type Named = Vec<(String, String)>;
+type Structs = BTreeMap<String, Named>;
+/// Parameters and result.
+type Functions = BTreeMap<String, (Named, String)>;
 
 fn text(folder: &str, ending: &str) -> String {
     let folder = Path::new(env!("CARGO_MANIFEST_DIR")).join(folder);
@@ -34,8 +37,8 @@ fn words(text: &str) -> String {
     text.split_whitespace().collect::<Vec<_>>().join(" ")
 }
 
-/// `name: type` parts, divided by commas outside of brackets.
-fn parts(text: &str) -> Vec<(String, String)> {
+/// `name: type` parts, divided by commas.
+fn parts(text: &str) -> Named {
     text.split(',')
         .map(words)
         .filter(|part| !part.is_empty())
@@ -59,20 +62,8 @@ fn structs(text: &str) -> Structs {
         .collect()
 }
 
-/// A type with its fields in place of its name.
-fn spelled(kind: &str, structs: &Structs) -> String {
-    let Some(fields) = structs.get(kind) else {
-        return kind.to_string();
-    };
-    let fields: Vec<String> = fields
-        .iter()
-        .map(|(name, kind)| format!("{name}: {}", spelled(kind, structs)))
-        .collect();
-    format!("{{{}}}", fields.join(", "))
-}
-
-/// The exported functions: parameters and result by what they are; a slice is a pointer and a length.
-fn functions(text: &str, before: &str, structs: &Structs) -> Functions {
+/// The exported functions. A slice is a pointer of that name and a length.
+fn functions(text: &str, before: &str) -> Functions {
     after(text, before, '{')
         .into_iter()
         .filter(|declared| declared.starts_with("kospelna_"))
@@ -80,36 +71,183 @@ fn functions(text: &str, before: &str, structs: &Structs) -> Functions {
             let (name, rest) = declared.split_once('(').expect("parameters");
             let (given, rest) = rest.split_once(')').expect("the parameters' end");
             let (_, result) = rest.split_once("->").expect("a result");
-            let result = result
-                .trim()
-                .split([';', '\n', ' '])
-                .next()
-                .expect("a type");
+            let result = result.trim().split([';', '\n', ' ']).next();
             let given = parts(given)
                 .into_iter()
-                .flat_map(|(_, kind)| match kind.as_str() {
-                    "&[u8]" => vec!["*const u8".to_string(), "usize".to_string()],
-                    "&mut [u8]" => vec!["*mut u8".to_string(), "usize".to_string()],
-                    kind => vec![spelled(kind, structs)],
+                .flat_map(|(name, kind)| match kind.as_str() {
+                    "&[u8]" => lent(name, "*const u8"),
+                    "&mut [u8]" => lent(name, "*mut u8"),
+                    _ => vec![(name, kind)],
                 })
                 .collect();
-            (name.to_string(), (given, spelled(result, structs)))
+            (
+                name.to_string(),
+                (given, result.expect("a type").to_string()),
+            )
         })
         .collect()
 }
 
+fn lent(name: String, pointer: &str) -> Named {
+    vec![
+        (name, pointer.to_string()),
+        ("length".to_string(), "usize".to_string()),
+    ]
+}
+
+/// What the crate declares.
+fn declared_by_the_crate() -> (Structs, Functions) {
+    let text = text("../../crates/kospelna/src", "rt");
+    (structs(&text), functions(&text, "pub extern \"C\" fn "))
+}
+
 #[test]
 fn declarations_are_those_of_the_crate() {
-    let crate_text = text("../../crates/kospelna/src", "rt");
-    let exported = functions(&crate_text, "pub extern \"C\" fn ", &structs(&crate_text));
+    let (structs_there, functions_there) = declared_by_the_crate();
+    assert_eq!((structs_there.len(), functions_there.len()), (24, 27));
     let here = text("src", "rs");
+    assert_eq!(structs(&here), structs_there);
     let block = after(&here, "extern \"C\" {", '}')[0];
     // Each declaration ends in a semicolon: make it end as a function's head does.
     let heads = block.replace(';', " {");
-    let declared = functions(&heads, "fn ", &structs(&here));
-    assert_eq!(exported.len(), 27);
-    for (name, signature) in &exported {
-        assert_eq!(Some(signature), declared.get(name), "{name}");
+    assert_eq!(functions(&heads, "fn "), functions_there);
+}
+
+fn header() -> String {
+    let file = "../../include/kospelna.h";
+    std::fs::read_to_string(Path::new(env!("CARGO_MANIFEST_DIR")).join(file)).unwrap()
+}
+
+/// A header without its comments and its lines for the preprocessor.
+fn code(header: &str) -> String {
+    let mut code = String::new();
+    let mut rest = header;
+    while let Some((before, comment)) = rest.split_once("/*") {
+        code += before;
+        rest = comment.split_once("*/").expect("a comment's end").1;
     }
-    assert_eq!(declared.len(), exported.len());
+    code += rest;
+    code.lines()
+        .filter(|line| !line.starts_with('#') && !line.starts_with("    ((uint32_t)"))
+        .flat_map(|line| [line, "\n"])
+        .collect()
+}
+
+/// What a type of the header is called in the crate: `kospelna_sender_made` is `FlatSenderMade`.
+fn kind_of(word: &str) -> String {
+    match word {
+        "bool" => "bool".to_string(),
+        "size_t" => "usize".to_string(),
+        "uint8_t" => "u8".to_string(),
+        "uint16_t" => "u16".to_string(),
+        "uint32_t" => "u32".to_string(),
+        other => {
+            let name = other
+                .strip_prefix("kospelna_")
+                .unwrap_or_else(|| panic!("a type: {other}"));
+            let capital = |part: &str| part[..1].to_uppercase() + &part[1..];
+            name.split('_')
+                .fold("Flat".to_string(), |flat, part| flat + &capital(part))
+        }
+    }
+}
+
+/// `type name`, `type name[8]`, `type *name` or `const type *name`.
+fn declared_in_c(text: &str) -> (String, String) {
+    let text = words(text);
+    let (kind, name) = text.rsplit_once(' ').expect("a type and a name");
+    if let Some(name) = name.strip_prefix('*') {
+        let (constant, kind) = match kind.strip_prefix("const ") {
+            Some(kind) => ("const", kind),
+            None => ("mut", kind),
+        };
+        return (name.to_string(), format!("*{constant} {}", kind_of(kind)));
+    }
+    match name.trim_end_matches(']').split_once('[') {
+        Some((name, count)) => (name.to_string(), format!("[{}; {count}]", kind_of(kind))),
+        None => (name.to_string(), kind_of(kind)),
+    }
+}
+
+fn structs_in_c(code: &str) -> Structs {
+    code.split("typedef struct ")
+        .skip(1)
+        .map(|declared| {
+            let (tag, rest) = declared.split_once('{').expect("fields in braces");
+            let (fields, rest) = rest.split_once('}').expect("the fields' end");
+            let name = rest.split(';').next().expect("a name").trim();
+            assert_eq!(tag.trim(), name, "a struct and its type have one name");
+            let fields = fields.split(';').filter(|field| !field.trim().is_empty());
+            (kind_of(name), fields.map(declared_in_c).collect())
+        })
+        .collect()
+}
+
+fn functions_in_c(code: &str) -> Functions {
+    code.split(';')
+        .filter(|declared| declared.contains('('))
+        .map(|declared| {
+            let (head, rest) = declared.split_once('(').expect("parameters");
+            let given = rest.split_once(')').expect("the parameters' end").0;
+            let (name, result) = declared_in_c(head);
+            let given = match given.trim() {
+                "void" => Vec::new(),
+                given => given.split(',').map(declared_in_c).collect(),
+            };
+            (name, (given, result))
+        })
+        .collect()
+}
+
+/// What differs between a header and the crate.
+fn differences(header: &str) -> Vec<String> {
+    let (structs, functions) = declared_by_the_crate();
+    let code = code(header);
+    let mut found = Vec::new();
+    let (structs_here, functions_here) = (structs_in_c(&code), functions_in_c(&code));
+    let names = structs.keys().chain(structs_here.keys());
+    found.extend(names.filter(|&name| structs.get(name) != structs_here.get(name)));
+    let names = functions.keys().chain(functions_here.keys());
+    found.extend(names.filter(|&name| functions.get(name) != functions_here.get(name)));
+    found.into_iter().cloned().collect()
+}
+
+#[test]
+fn the_header_is_that_of_the_crate() {
+    assert_eq!(differences(&header()), Vec::<String>::new());
+}
+
+/// A field or parameter of another name, type or place, and one left out or added.
+#[test]
+fn another_header_is_found() {
+    let header = header();
+    for (old, new) in [
+        ("uint8_t due;", "uint8_t next;"),
+        ("uint16_t ticks;", "uint32_t ticks;"),
+        ("    uint8_t p", "    uint8_t q"),
+        (
+            "uint16_t timeout, uint16_t window",
+            "uint16_t window, uint16_t timeout",
+        ),
+        ("uint8_t *buffer,", "const uint8_t *buffer,"),
+        ("uint8_t *buffer,", "uint8_t *bytes,"),
+        ("uint8_t bytes[8]; /* d0", "uint8_t bytes[7]; /* d0"),
+        ("    bool timing;", "    "),
+        (
+            "kospelna_group_row row;",
+            "kospelna_group_row row; bool reliable;",
+        ),
+        (
+            "kospelna_talker_answer kospelna_talker_stop(",
+            "kospelna_talker kospelna_talker_stop(",
+        ),
+        (
+            "uint32_t kospelna_charger_address(void);",
+            "uint32_t kospelna_charger_addresses(void);",
+        ),
+    ] {
+        assert!(header.contains(old), "{old}");
+        let altered = header.replacen(old, new, 1);
+        assert_ne!(differences(&altered), Vec::<String>::new(), "{new}");
+    }
 }

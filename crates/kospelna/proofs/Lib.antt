@@ -1,4 +1,5 @@
 pub mod Numbers
+pub mod Refusals
 pub mod SendPaths
 pub mod SendInverse
 pub mod ReceivePaths

@@ -3,10 +3,14 @@
 -- Assumes nothing.
 use Prim.Native.Nat.{ℕ}
 use mathlib.Core.Path.{_≡_, refl, sym, ap, _∙_}
-use Rattle.frame.specs.Result as result
+use native.Mathlib.Omega.{arith}
+use Rattle.frame.proofs.Choice.{pick-elim}
+use Rattle.frame.specs.Result.{Result}
 use Rattle.frame.specs.Choice.{pick}
-use Rattle.kospelna.specs.Receive.{connectionFrom, phaseFrom, receiverFrom, flatOf, flatPhase, flatReceiver, Written, idle, done, opened, flatOutcome, flatAnswer, flatMade, outcomeFrom, answerFrom, madeFrom}
+use Rattle.kospelna.specs.Receive.{connectionFrom, phaseFrom, receiverFrom, flatOf, flatPhase, flatReceiver, Written, idle, done, opened, flatOutcome, flatAnswer, noReceiver, flatMade, outcomeFrom, answerFrom, madeFrom, ReceiverWhole}
+use Rattle.kospelna.specs.Refusals.{Numbered}
 use Rattle.kospelna.specs.declared.receive.FlatReceiver.{FlatReceiver}
+use Rattle.receiver.specs.Make.{makeOf}
 use Rattle.receiver.specs.Told.{Outcome, quiet, refused, delivered, failed, short, Told}
 use Rattle.kospelna.proofs.ReceivePaths.{reads-done, reads-open, reads-idle}
 use Rattle.receiver.specs.declared.Connection.{Connection}
@@ -15,6 +19,7 @@ use Rattle.receiver.specs.declared.Phase.the-variants.{Idle, Done, Open}
 use Rattle.receiver.specs.declared.Receiver.{Receiver}
 use Rattle.receiver.specs.declared.Settings.{Settings}
 use Rattle.kospelna.proofs.Numbers.{other}
+use Rattle.kospelna.proofs.Refusals.{result-back}
 
 phase-back : (s : Settings) (p : Phase) → receiverFrom (flatPhase s p) ≡ record { settings = s; phase = p }
 unfolding flatPhase phaseFrom pick
@@ -67,7 +72,18 @@ answer-back t =
     ∙ ap (λ (o : Outcome). record { next = t .next; emits = t .emits; frame = t .frame; outcome = o; bytes = t .bytes })
     (outcome-back (t .outcome))
 
-pub made-back : (m : result.Result Receiver) → madeFrom (flatMade m) ≡ m
-unfolding madeFrom flatMade pick
-made-back (result.accepted r) = ap result.accepted (receiver-back r)
-made-back (result.refused number) = refl
+pub made-back : (m : Result Receiver) → Numbered m → madeFrom (flatMade m) ≡ m
+unfolding flatMade
+made-back m numbered = result-back flatReceiver receiverFrom noReceiver receiver-back m numbered
+
+-- no refusal is numbered 0
+pub made-numbered : (timeout window capacity : ℕ) → Numbered (makeOf timeout window capacity)
+unfolding makeOf
+made-numbered timeout window capacity = pick-elim Numbered _ (λ e. tt) (λ e. omega arith)
+
+pub receiver-whole : ReceiverWhole
+receiver-whole = (
+  receiver-back,
+  answer-back,
+  λ timeout window capacity. made-back (makeOf timeout window capacity) (made-numbered timeout window capacity),
+)

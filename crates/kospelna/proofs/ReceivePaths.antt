@@ -2,18 +2,17 @@
 -- Assumes nothing.
 use Prim.Native.Nat.{ℕ}
 use mathlib.Core.Path.{_≡_}
-use mathlib.Core.Bool.{true, false}
 use mathlib.Core.List.{List}
 use borrow.Author.Tests.{ne-eqb}
 use Rattle.frame.specs.Result.{Result}
 use Rattle.frame.specs.Choice.{pick}
 use Rattle.frame.specs.declared.Frame.{Frame}
 use Rattle.kospelna.specs.Frames.{frameFrom, flatFrame}
-use Rattle.kospelna.specs.Receive.{connectionFrom, phaseFrom, receiverFrom, remembering, flatOf, flatPhase, flatReceiver, flatOutcome, flatAnswer, noReceiver, flatMade, hearing, flatHeard}
+use Rattle.kospelna.specs.Receive.{connectionFrom, phaseFrom, receiverFrom, remembering, flatOf, flatPhase, flatReceiver, report, flatOutcome, flatAnswer, noReceiver, flatMade, hearing, flatHeard}
 use Rattle.kospelna.specs.declared.frames.FlatFrame.{FlatFrame}
 use Rattle.kospelna.specs.declared.receive.FlatReceiver.{FlatReceiver}
-use Rattle.kospelna.specs.declared.receive.ReceiverAnswer.{ReceiverAnswer}
-use Rattle.kospelna.specs.declared.receive.ReceiverMade.{ReceiverMade}
+use Rattle.kospelna.specs.declared.receive.FlatReceiverAnswer.{FlatReceiverAnswer}
+use Rattle.kospelna.specs.declared.receive.FlatReceiverMade.{FlatReceiverMade}
 use Rattle.kospelna.specs.declared.receive.Report.{Report}
 use Rattle.receiver.specs.Hear.{hearOf}
 use Rattle.receiver.specs.Make.{makeOf}
@@ -79,27 +78,27 @@ pub ruleset writes = (writes-idle, writes-done, writes-open)
 -- ---- answers
 
 module _ (r : Report) (o : outcome-enum.Outcome) where
-  pub tells-quiet : r ≡ record { outcome = 0; number = 0; length = 0 } → o ≡ outcome-variants.Quiet
+  pub tells-quiet : r ≡ report 0 0 0 0 → o ≡ outcome-variants.Quiet
       → r ≡ flatOutcome (toldOutcome o)
   unfolding flatOutcome
   tells-quiet e p = cc
 
-  pub tells-refused : (n : ℕ) → r ≡ record { outcome = 1; number = n; length = 0 } → o ≡ outcome-variants.Refused n
+  pub tells-refused : (n : ℕ) → r ≡ report 1 n 0 0 → o ≡ outcome-variants.Refused n
       → r ≡ flatOutcome (toldOutcome o)
   unfolding flatOutcome
   tells-refused n e p = cc
 
-  pub tells-delivered : (n : ℕ) → r ≡ record { outcome = 2; number = 0; length = n } → o ≡ outcome-variants.Delivered n
+  pub tells-delivered : (n : ℕ) → r ≡ report 2 0 0 n → o ≡ outcome-variants.Delivered n
       → r ≡ flatOutcome (toldOutcome o)
   unfolding flatOutcome
   tells-delivered n e p = cc
 
-  pub tells-failed : (n : ℕ) → r ≡ record { outcome = 3; number = n; length = 0 } → o ≡ outcome-variants.Failed n
+  pub tells-failed : (n : ℕ) → r ≡ report 3 0 n 0 → o ≡ outcome-variants.Failed n
       → r ≡ flatOutcome (toldOutcome o)
   unfolding flatOutcome
   tells-failed n e p = cc
 
-  pub tells-short : r ≡ record { outcome = 4; number = 0; length = 0 } → o ≡ outcome-variants.Short
+  pub tells-short : r ≡ report 4 0 0 0 → o ≡ outcome-variants.Short
       → r ≡ flatOutcome (toldOutcome o)
   unfolding flatOutcome
   tells-short e p = cc
@@ -108,8 +107,17 @@ pub ruleset tells = (tells-quiet, tells-refused, tells-delivered, tells-failed, 
 
 pub writes-answer : (a : Answer) (next : FlatReceiver) (f : FlatFrame) (r : Report) → next ≡ flatReceiver (a .next)
     → f ≡ flatFrame (a .frame) → r ≡ flatOutcome (toldOutcome (a .outcome))
-    → _≡_ {A = ReceiverAnswer}
-    (record { next = next; emits = a .emits; frame = f; outcome = r .outcome; number = r .number; length = r .length; bytes = a .bytes })
+    → _≡_ {A = FlatReceiverAnswer}
+    (record {
+      next = next;
+      emits = a .emits;
+      frame = f;
+      outcome = r .outcome;
+      refusal = r .refusal;
+      cause = r .cause;
+      length = r .length;
+      bytes = a .bytes;
+    })
     (flatAnswer (told a))
 unfolding flatAnswer
 writes-answer a next f r n k o = cc
@@ -120,12 +128,12 @@ zeros a k known e = cc
 
 module _ (a : FlatReceiver) (m : made-enum.Made) where
   pub makes : (r : Receiver) → a ≡ flatReceiver r → m ≡ made-variants.End r
-      → _≡_ {A = ReceiverMade} (record { made = true; number = 0; end = a }) (flatMade (toldMade m))
+      → _≡_ {A = FlatReceiverMade} (record { refusal = 0; receiver = a }) (flatMade (toldMade m))
   unfolding flatMade
   makes r e p = cc
 
   pub makes-none : (n : ℕ) → a ≡ noReceiver → m ≡ made-variants.Refused n
-      → _≡_ {A = ReceiverMade} (record { made = false; number = n; end = a }) (flatMade (toldMade m))
+      → _≡_ {A = FlatReceiverMade} (record { refusal = n; receiver = a }) (flatMade (toldMade m))
   unfolding flatMade
   makes-none n e p = cc
 
@@ -133,11 +141,11 @@ pub ruleset makings = (makes, makes-none)
 
 -- ---- the calls: read, called, written
 
-pub made-so : (a : ReceiverMade) (m : Result Receiver) (timeout window capacity : ℕ) → a ≡ flatMade m
+pub made-so : (a : FlatReceiverMade) (m : Result Receiver) (timeout window capacity : ℕ) → a ≡ flatMade m
     → m ≡ makeOf timeout window capacity → a ≡ flatMade (makeOf timeout window capacity)
 made-so a m timeout window capacity e k = cc
 
-module _ (a : ReceiverAnswer) (t : Told) (r : FlatReceiver) (q : Receiver) (answered : a ≡ flatAnswer t)
+module _ (a : FlatReceiverAnswer) (t : Told) (r : FlatReceiver) (q : Receiver) (answered : a ≡ flatAnswer t)
     (read : q ≡ receiverFrom r) where
   pub ticked : t ≡ tickOf q → a ≡ flatAnswer (tickOf (receiverFrom r))
   ticked e = cc

@@ -3,10 +3,14 @@
 -- Assumes nothing.
 use Prim.Native.Nat.{ℕ}
 use mathlib.Core.Path.{_≡_, refl, sym, ap, _∙_}
-use Rattle.frame.specs.Result as result
+use native.Mathlib.Omega.{arith}
+use Rattle.frame.proofs.Choice.{pick-elim}
+use Rattle.frame.specs.Result.{Result}
 use Rattle.frame.specs.Choice.{pick}
-use Rattle.kospelna.specs.Send.{transferFrom, phaseFrom, senderFrom, flatOf, flatPhase, flatSender, windowFrom, Written, idle, opening, sending, waiting, short, flatOutcome, flatAnswer, flatMade, outcomeFrom, answerFrom, madeFrom}
+use Rattle.kospelna.specs.Send.{transferFrom, phaseFrom, senderFrom, flatOf, flatPhase, flatSender, windowFrom, Written, idle, opening, sending, waiting, short, flatOutcome, flatAnswer, noSender, flatMade, outcomeFrom, answerFrom, madeFrom, SenderWhole}
+use Rattle.kospelna.specs.Refusals.{Numbered}
 use Rattle.kospelna.specs.declared.send.FlatSender.{FlatSender}
+use Rattle.sender.specs.Make.{makeOf}
 use Rattle.sender.specs.Told.{Outcome, quiet, refused, sent, failed, Told}
 use Rattle.kospelna.proofs.SendPaths.{reads-opening, reads-sending, reads-waiting, reads-short, reads-idle}
 use Rattle.kospelna.specs.declared.send.Window.{Window}
@@ -16,6 +20,7 @@ use Rattle.sender.specs.declared.Phase.the-variants.{Idle, Opening, Sending, Wa
 use Rattle.sender.specs.declared.Sender.{Sender}
 use Rattle.sender.specs.declared.Settings.{Settings}
 use Rattle.kospelna.proofs.Numbers.{other}
+use Rattle.kospelna.proofs.Refusals.{result-back}
 
 phase-back : (r : Settings) (p : Phase) → senderFrom (flatPhase r p) ≡ record { settings = r; phase = p }
 unfolding flatPhase phaseFrom pick
@@ -76,7 +81,18 @@ answer-back t =
     (sender-back (t .next))
     ∙ ap (λ (o : Outcome). record { next = t .next; emits = t .emits; frame = t .frame; outcome = o }) (outcome-back (t .outcome))
 
-pub made-back : (m : result.Result Sender) → madeFrom (flatMade m) ≡ m
-unfolding madeFrom flatMade pick
-made-back (result.accepted s) = ap result.accepted (sender-back s)
-made-back (result.refused number) = refl
+pub made-back : (m : Result Sender) → Numbered m → madeFrom (flatMade m) ≡ m
+unfolding flatMade
+made-back m numbered = result-back flatSender senderFrom noSender sender-back m numbered
+
+-- no refusal is numbered 0
+pub made-numbered : (gap timeout limit : ℕ) → Numbered (makeOf gap timeout limit)
+unfolding makeOf
+made-numbered gap timeout limit = pick-elim Numbered _ (λ e. tt) (λ e. omega arith)
+
+pub sender-whole : SenderWhole
+sender-whole = (
+  sender-back,
+  answer-back,
+  λ gap timeout limit. made-back (makeOf gap timeout limit) (made-numbered gap timeout limit),
+)

@@ -1,20 +1,19 @@
--- The sender over C's layouts: a law for each path through the code, and the translations undo each other.
+-- The sender over C's layouts: a law for each path through the code.
 -- Assumes nothing.
 use Prim.Native.Nat.{ℕ}
 use mathlib.Core.Path.{_≡_}
-use mathlib.Core.Bool.{true, false}
 use mathlib.Core.List.{List}
 use borrow.Author.Tests.{ne-eqb}
 use Rattle.frame.specs.Result.{Result}
 use Rattle.frame.specs.Choice.{pick}
 use Rattle.frame.specs.declared.Frame.{Frame}
 use Rattle.kospelna.specs.Frames.{frameFrom, flatFrame}
-use Rattle.kospelna.specs.Send.{transferFrom, openingFrom, sendingFrom, waitingFrom, shortFrom, phaseFrom, senderFrom, window, noTransfer, flatOf, flatPhase, flatSender, flatOutcome, flatAnswer, noSender, flatMade}
+use Rattle.kospelna.specs.Send.{transferFrom, openingFrom, sendingFrom, waitingFrom, shortFrom, phaseFrom, senderFrom, window, noTransfer, flatOf, flatPhase, flatSender, report, flatOutcome, flatAnswer, noSender, flatMade}
 use Rattle.kospelna.specs.declared.frames.FlatFrame.{FlatFrame}
 use Rattle.kospelna.specs.declared.send.FlatSender.{FlatSender}
 use Rattle.kospelna.specs.declared.send.Report.{Report}
-use Rattle.kospelna.specs.declared.send.SenderAnswer.{SenderAnswer}
-use Rattle.kospelna.specs.declared.send.SenderMade.{SenderMade}
+use Rattle.kospelna.specs.declared.send.FlatSenderAnswer.{FlatSenderAnswer}
+use Rattle.kospelna.specs.declared.send.FlatSenderMade.{FlatSenderMade}
 use Rattle.kospelna.specs.declared.send.Window.{Window}
 use Rattle.sender.specs.Begin.{beginOf, postOf}
 use Rattle.sender.specs.Hear.{hearOf}
@@ -64,7 +63,9 @@ reads-idle s n1 n2 n3 n4 = cc (ne-eqb _ _ n1, ne-eqb _ _ n2, ne-eqb _ _ n3, ne-e
 pub ruleset reads = (reads-opening, reads-sending, reads-waiting, reads-short, reads-idle)
 
 pub reads-sender : (s : FlatSender) (p : Phase) → p ≡ phaseFrom s
-    → _≡_ {A = Sender} (record { settings = record { gap = s .gap; timeout = s .timeout; limit = s .limit }; phase = p }) (senderFrom s)
+    → _≡_ {A = Sender}
+    (record { settings = record { gap = s .gap; timeout = s .timeout; limit = s .limit }; phase = p })
+    (senderFrom s)
 reads-sender s p e = cc
 
 -- ---- writing, by the phase
@@ -103,22 +104,22 @@ pub ruleset writes = (writes-idle, writes-opening, writes-sending, writes-waitin
 -- ---- answers
 
 module _ (r : Report) (o : outcome-enum.Outcome) where
-  pub tells-quiet : r ≡ record { outcome = 0; number = 0; ticks = 0; frames = 0 } → o ≡ outcome-variants.Quiet
+  pub tells-quiet : r ≡ report 0 0 0 0 0 → o ≡ outcome-variants.Quiet
       → r ≡ flatOutcome (toldOutcome o)
   unfolding flatOutcome
   tells-quiet e p = cc
 
-  pub tells-refused : (n : ℕ) → r ≡ record { outcome = 1; number = n; ticks = 0; frames = 0 }
+  pub tells-refused : (n : ℕ) → r ≡ report 1 n 0 0 0
       → o ≡ outcome-variants.Refused n → r ≡ flatOutcome (toldOutcome o)
   unfolding flatOutcome
   tells-refused n e p = cc
 
-  pub tells-sent : (t f : ℕ) → r ≡ record { outcome = 2; number = 0; ticks = t; frames = f }
+  pub tells-sent : (t f : ℕ) → r ≡ report 5 0 0 t f
       → o ≡ outcome-variants.Sent t f → r ≡ flatOutcome (toldOutcome o)
   unfolding flatOutcome
   tells-sent t f e p = cc
 
-  pub tells-failed : (n t f : ℕ) → r ≡ record { outcome = 3; number = n; ticks = t; frames = f }
+  pub tells-failed : (n t f : ℕ) → r ≡ report 3 0 n t f
       → o ≡ outcome-variants.Failed n t f → r ≡ flatOutcome (toldOutcome o)
   unfolding flatOutcome
   tells-failed n t f e p = cc
@@ -127,8 +128,17 @@ pub ruleset tells = (tells-quiet, tells-refused, tells-sent, tells-failed)
 
 pub writes-answer : (a : Answer) (next : FlatSender) (f : FlatFrame) (r : Report) → next ≡ flatSender (a .next)
     → f ≡ flatFrame (a .frame) → r ≡ flatOutcome (toldOutcome (a .outcome))
-    → _≡_ {A = SenderAnswer}
-    (record { next = next; emits = a .emits; frame = f; outcome = r .outcome; number = r .number; ticks = r .ticks; frames = r .frames })
+    → _≡_ {A = FlatSenderAnswer}
+    (record {
+      next = next;
+      emits = a .emits;
+      frame = f;
+      outcome = r .outcome;
+      refusal = r .refusal;
+      cause = r .cause;
+      ticks = r .ticks;
+      frames = r .frames;
+    })
     (flatAnswer (told a))
 unfolding flatAnswer
 writes-answer a next f r n k o = cc
@@ -139,12 +149,12 @@ zeros a t w none shut e = cc
 
 module _ (a : FlatSender) (m : made-enum.Made) where
   pub makes : (s : Sender) → a ≡ flatSender s → m ≡ made-variants.End s
-      → _≡_ {A = SenderMade} (record { made = true; number = 0; end = a }) (flatMade (toldMade m))
+      → _≡_ {A = FlatSenderMade} (record { refusal = 0; sender = a }) (flatMade (toldMade m))
   unfolding flatMade
   makes s e p = cc
 
   pub makes-none : (n : ℕ) → a ≡ noSender → m ≡ made-variants.Refused n
-      → _≡_ {A = SenderMade} (record { made = false; number = n; end = a }) (flatMade (toldMade m))
+      → _≡_ {A = FlatSenderMade} (record { refusal = n; sender = a }) (flatMade (toldMade m))
   unfolding flatMade
   makes-none n e p = cc
 
@@ -152,11 +162,11 @@ pub ruleset makings = (makes, makes-none)
 
 -- ---- the calls: read, called, written
 
-pub made-so : (a : SenderMade) (m : Result Sender) (gap timeout limit : ℕ) → a ≡ flatMade m → m ≡ makeOf gap timeout limit
+pub made-so : (a : FlatSenderMade) (m : Result Sender) (gap timeout limit : ℕ) → a ≡ flatMade m → m ≡ makeOf gap timeout limit
     → a ≡ flatMade (makeOf gap timeout limit)
 made-so a m gap timeout limit e k = cc
 
-module _ (a : SenderAnswer) (t : Told) (s : FlatSender) (r : Sender) (m : List ℕ) (answered : a ≡ flatAnswer t)
+module _ (a : FlatSenderAnswer) (t : Told) (s : FlatSender) (r : Sender) (m : List ℕ) (answered : a ≡ flatAnswer t)
     (read : r ≡ senderFrom s) where
   pub begun : t ≡ beginOf r m → a ≡ flatAnswer (beginOf (senderFrom s) m)
   begun e = cc
@@ -167,7 +177,7 @@ module _ (a : SenderAnswer) (t : Told) (s : FlatSender) (r : Sender) (m : List �
   pub ticked : t ≡ tickOf r m → a ≡ flatAnswer (tickOf (senderFrom s) m)
   ticked e = cc
 
-pub heard : (a : SenderAnswer) (t : Told) (s : FlatSender) (r : Sender) (f : FlatFrame) (g : Frame) → a ≡ flatAnswer t
+pub heard : (a : FlatSenderAnswer) (t : Told) (s : FlatSender) (r : Sender) (f : FlatFrame) (g : Frame) → a ≡ flatAnswer t
     → r ≡ senderFrom s → g ≡ frameFrom f → t ≡ hearOf r g → a ≡ flatAnswer (hearOf (senderFrom s) (frameFrom f))
 heard a t s r f g answered read frame e = cc
 

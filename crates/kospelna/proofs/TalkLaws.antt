@@ -1,22 +1,23 @@
 -- A law for each path through the functions of version talk; what is written flat is read back, and the other way round.
 -- Assumes nothing.
-use Prim.Native.Nat.{ℕ, zero, suc, _≤_}
+use Prim.Native.Nat.{ℕ, zero, suc, _≤_, _<_}
 use mathlib.Core.List.{List}
-use mathlib.Core.Logic.{inl, inr}
 use mathlib.Core.Path.{_≡_, refl, ap, _∙_}
 use native.Mathlib.Omega.{arith}
-use borrow.Author.Tests.{ne-eqb}
+use borrow.Author.Tests.{ne-eqb, le-leb, lt-leb}
 use Rattle.frame.specs.Choice.{pick}
 use Rattle.frame.specs.Result as result
+use Rattle.frame.proofs.Choice.{pick-elim}
 use Rattle.frame.specs.Result.{Result, accepted}
+use Rattle.kospelna.specs.Refusals.{Numbered}
+use Rattle.kospelna.proofs.Refusals.{result-back, result-made, number-again, value-again}
 use Rattle.version.specs.List.{listOf, listedOf}
 use Rattle.version.specs.Message.{verdictByte, toldReading, writeOf, readOf}
-use Rattle.version.specs.Talk.{makeOf, connectOf, tickOf, hearOf, stopOf, greetOf, functionsHeardOf}
+use Rattle.version.specs.Talk.{makeOf, madeOf, connectOf, tickOf, hearOf, stopOf, greetOf, functionsHeardOf}
 use Rattle.version.specs.Told.{Told, Outcome, quiet, refused, agreed, failed, left, toldOutcome, told}
 use Rattle.version.specs.declared.Answer.{Answer}
-use Rattle.version.specs.declared.ListOutcome.{ListOutcome}
-use Rattle.version.specs.declared.ListOutcome.the-variants.{Accepted, Refused}
 use Rattle.version.specs.declared.Listed.{Listed}
+use Rattle.version.specs.declared.Made as made
 use Rattle.version.specs.declared.Message.{Message}
 use Rattle.version.specs.declared.MessageReading.{MessageReading}
 use Rattle.version.specs.declared.MessageReading.the-variants as readings
@@ -28,14 +29,16 @@ use Rattle.version.specs.declared.Talker.{Talker}
 use Rattle.version.specs.declared.Verdict.{Verdict}
 use Rattle.version.specs.declared.Verdict.the-variants.{Continue, Success, Failure}
 use Rattle.version.specs.declared.Versions.{Versions}
-use Rattle.kospelna.specs.Talk.{sideNumber, sideIn, stateNumber, stateIn, verdictIn, versionsIn, versionsOut, listOutcome, listRefusal, listOutcomeIn, listingOut, listingIn, ListingMade, messageIn, messageOut, MessageMade, bytesIn, bytesOut, noMessage, readingOut, readingIn, ReadingMade, talkerIn, talkerOut, TalkerMade, outcomeNumber, outcomeRefusal, outcomeVersion, outcomeIn, answerOut, answerIn, AnswerMade}
+use Rattle.kospelna.specs.Talk.{sideNumber, sideIn, stateNumber, stateIn, verdictIn, versionsIn, versionsOut, noVersions, listRefusal, listedOut, listingOut, listingIn, ListingMade, messageIn, messageOut, MessageMade, bytesIn, bytesOut, noBytes, messageBytes, writingOut, writingIn, WritingMade, noMessage, readingOut, readingIn, ReadingMade, talkerIn, talkerOut, TalkerMade, noTalker, makingOut, makingIn, MakingMade, madeOut, outcomeNumber, outcomeRefusal, outcomeVersion, outcomeIn, OutcomeMade, made-quiet, made-refused, made-failed, made-agreed, made-left, answerOut, answerIn, AnswerMade, TalkWhole}
 use Rattle.kospelna.specs.declared.talk.FlatVersions.{FlatVersions}
-use Rattle.kospelna.specs.declared.talk.FlatListing.{FlatListing}
-use Rattle.kospelna.specs.declared.talk.FlatMessage.{FlatMessage}
-use Rattle.kospelna.specs.declared.talk.FlatBytes.{FlatBytes}
-use Rattle.kospelna.specs.declared.talk.FlatMessageReading.{FlatMessageReading}
+use Rattle.kospelna.specs.declared.talk.FlatVersionListing.{FlatVersionListing}
+use Rattle.kospelna.specs.declared.talk.FlatVersionMessage.{FlatVersionMessage}
+use Rattle.kospelna.specs.declared.talk.FlatVersionBytes.{FlatVersionBytes}
+use Rattle.kospelna.specs.declared.talk.FlatVersionReading.{FlatVersionReading}
+use Rattle.kospelna.specs.declared.talk.FlatVersionWriting.{FlatVersionWriting}
 use Rattle.kospelna.specs.declared.talk.FlatTalker.{FlatTalker}
-use Rattle.kospelna.specs.declared.talk.FlatAnswer.{FlatAnswer}
+use Rattle.kospelna.specs.declared.talk.FlatTalkerMade.{FlatTalkerMade}
+use Rattle.kospelna.specs.declared.talk.FlatTalkerAnswer.{FlatTalkerAnswer}
 
 -- ---- paths: numbers
 
@@ -99,18 +102,21 @@ pub ruleset number-paths = (
 
 -- ---- paths: the list and the message
 
-pub listing-out : (l : Listed) {o r : ℕ} {v : FlatVersions} → v ≡ versionsOut (l .versions)
-    → o ≡ listOutcome (l .outcome)
-    → r ≡ listRefusal (l .outcome)
-    → record { outcome = o; refusal = r; versions = v } ≡ listingOut l
-unfolding listingOut
-listing-out l v o r = rw (v, o, r)
+pub listed-out : (l : Listed) {r : ℕ} {v : FlatVersions} → v ≡ versionsOut (l .versions) → r ≡ listRefusal (l .outcome)
+    → record { refusal = r; versions = v } ≡ listedOut l
+unfolding listedOut
+listed-out l v r = rw (v, r)
 
-pub list-through : (s : List ℕ) {l : Listed} {r : FlatListing} → r ≡ listingOut l → l ≡ listedOf (listOf s)
-    → r ≡ listingOut (listedOf (listOf s))
-list-through s w e = w ∙ ap listingOut e
+pub list-through : (s : List ℕ) {l : Listed} {r : FlatVersionListing} → r ≡ listedOut l → l ≡ listedOf (listOf s)
+    → r ≡ listingOut (listOf s)
+unfolding listedOut
+list-through s w e = w ∙ ap listedOut e ∙ go (listOf s)
+  where
+    go : (a : Result Versions) → listedOut (listedOf a) ≡ listingOut a
+    go (accepted v) = refl
+    go (result.refused n) = refl
 
-pub message-in : (f : FlatMessage) {v : Verdict} → v ≡ verdictIn (f .verdict)
+pub message-in : (f : FlatVersionMessage) {v : Verdict} → v ≡ verdictIn (f .verdict)
     → record { verdict = v; version = f .version; control = f .control } ≡ messageIn f
 unfolding messageIn
 message-in f v = rw v
@@ -120,29 +126,36 @@ pub message-out : (m : Message) {v : ℕ} → v ≡ verdictByte (m .verdict)
 unfolding messageOut
 message-out m v = rw v
 
-pub write-through : {b : List ℕ} {m n : Message} → b ≡ writeOf m → m ≡ n
-    → record { bytes = b } ≡ bytesOut (writeOf n)
-write-through e m = ap bytesOut (e ∙ ap writeOf m)
+module _ (f : FlatVersionMessage) {r : FlatVersionBytes} where
+  pub write-message : {b : List ℕ} {m : Message} → f .verdict ≤ 2 → r ≡ bytesOut b → b ≡ writeOf m → m ≡ messageIn f
+      → record { refusal = 0; bytes = r } ≡ writingOut (messageBytes f)
+  unfolding messageBytes pick
+  write-message h w e m = rw (le-leb (f .verdict) 2 h, w, e, m)
+
+  pub write-refused : 2 < f .verdict → r ≡ noBytes → record { refusal = 10; bytes = r } ≡ writingOut (messageBytes f)
+  unfolding messageBytes pick
+  write-refused h w = rw (lt-leb (f .verdict) 2 h, w)
 
 module _ {r : MessageReading} where
-  pub read-message : {m : Message} {f : FlatMessage} → f ≡ messageOut m → r ≡ readings.Message m
-      → record { outcome = 0; refusal = 0; message = f } ≡ readingOut (toldReading r)
+  pub read-message : {m : Message} {f : FlatVersionMessage} → f ≡ messageOut m → r ≡ readings.Message m
+      → record { refusal = 0; message = f } ≡ readingOut (toldReading r)
   read-message w e = rw (e, w)
 
   pub read-refused : {n : ℕ} → r ≡ readings.Refused n
-      → record { outcome = 1; refusal = n; message = noMessage } ≡ readingOut (toldReading r)
+      → record { refusal = n; message = noMessage } ≡ readingOut (toldReading r)
   read-refused e = rw e
 
-pub read-through : (s : List ℕ) {f : FlatMessageReading} {j : Result Message} → f ≡ readingOut j → j ≡ readOf s
+pub read-through : (s : List ℕ) {f : FlatVersionReading} {j : Result Message} → f ≡ readingOut j → j ≡ readOf s
     → f ≡ readingOut (readOf s)
 read-through s w e = w ∙ ap readingOut e
 
 pub ruleset message-paths = (
-  listing-out,
+  listed-out,
   list-through,
   message-in,
   message-out,
-  write-through,
+  write-message,
+  write-refused,
   read-message,
   read-refused,
   read-through,
@@ -185,18 +198,30 @@ pub talker-out : (t : Talker) {side state verdict : ℕ} {versions : FlatVersion
 unfolding talkerOut
 talker-out t a b c d = rw (a, b, c, d)
 
-pub answer-out : (a : Answer) {next : FlatTalker} {o r v : ℕ} → next ≡ talkerOut (a .next)
+pub answer-out : (a : Answer) {next : FlatTalker} {b : FlatVersionBytes} {o r v : ℕ} → next ≡ talkerOut (a .next)
+    → b ≡ bytesOut (a .bytes)
     → o ≡ outcomeNumber (toldOutcome (a .outcome)) → r ≡ outcomeRefusal (toldOutcome (a .outcome))
     → v ≡ outcomeVersion (toldOutcome (a .outcome))
-    → record { next = next; emits = a .emits; bytes = a .bytes; outcome = o; refusal = r; version = v } ≡ answerOut (told a)
+    → record { next = next; emits = a .emits; bytes = b; outcome = o; refusal = r; version = v } ≡ answerOut (told a)
 unfolding answerOut
-answer-out a n o r v = rw (n, o, r, v)
+answer-out a n b o r v = rw (n, b, o, r, v)
 
-pub make-through : (control : ℕ) {f : FlatTalker} {t : Talker} {side a : Side} {versions b : Versions} → f ≡ talkerOut t
-    → t ≡ makeOf side versions control → side ≡ a → versions ≡ b → f ≡ talkerOut (makeOf a b control)
-make-through control w e a b = w ∙ ap talkerOut (rw (← a, ← b) e)
+pub made-out : (m : made.Made) {r : ℕ} {t : FlatTalker} → t ≡ talkerOut (m .talker) → r ≡ listRefusal (m .outcome)
+    → record { refusal = r; talker = t } ≡ madeOut m
+unfolding madeOut
+made-out m t r = rw (t, r)
 
-module _ {a : Told} {f : FlatAnswer} {t u : Talker} (w : f ≡ answerOut a) where
+pub make-through : (control : ℕ) {f : FlatTalkerMade} {m : made.Made} {side a : Side} {versions b : Versions} → f ≡ madeOut m
+    → m ≡ madeOf (makeOf side versions control) → side ≡ a → versions ≡ b → f ≡ makingOut (makeOf a b control)
+unfolding madeOut talkerOut
+make-through control {side = side} {versions = versions} w e x y =
+    rw (← x, ← y) (w ∙ ap madeOut e ∙ go (makeOf side versions control))
+  where
+    go : (r : Result Talker) → madeOut (madeOf r) ≡ makingOut r
+    go (accepted t) = refl
+    go (result.refused n) = refl
+
+module _ {a : Told} {f : FlatTalkerAnswer} {t u : Talker} (w : f ≡ answerOut a) where
   through : (call : Talker → Told) → a ≡ call t → t ≡ u → f ≡ answerOut (call u)
   through call e x = w ∙ ap answerOut (e ∙ ap call x)
 
@@ -221,6 +246,7 @@ module _ {a : Told} {f : FlatAnswer} {t u : Talker} (w : f ≡ answerOut a) wher
 pub ruleset talker-paths = (
   talker-in,
   talker-out,
+  made-out,
   answer-out,
   make-through,
   connect-through,
@@ -302,30 +328,18 @@ versions-read v = refl
 pub versions-written : (f : FlatVersions) → versionsOut (versionsIn f) ≡ f
 versions-written f = refl
 
-pub listing-read : (l : Listed) → listingIn (listingOut l) ≡ l
-unfolding listingIn listingOut listOutcomeIn pick
-listing-read l = ap (λ (o : ListOutcome). record { versions = l .versions; outcome = o }) (go (l .outcome))
-  where
-    go : (o : ListOutcome) → listOutcomeIn (listOutcome o) (listRefusal o) ≡ o
-    go Accepted = refl
-    go (Refused n) = refl
+pub listing-read : (r : Result Versions) → Numbered r → listingIn (listingOut r) ≡ r
+listing-read = result-back versionsOut versionsIn noVersions versions-read
 
-pub listing-made : (l : Listed) → ListingMade (listingOut l)
-unfolding listingOut
-listing-made l = go (l .outcome)
-  where
-    go : (o : ListOutcome) → ListingMade (record { outcome = listOutcome o; refusal = listRefusal o; versions = versionsOut (l .versions) })
-    go Accepted = inl (refl, refl)
-    go (Refused n) = inr refl
+pub listing-made : (r : Result Versions) → Numbered r → ListingMade (listingOut r)
+listing-made = result-made versionsOut noVersions (λ (v : FlatVersions). Unit) (λ v. tt)
 
-pub listing-written : (f : FlatListing) → ListingMade f → listingOut (listingIn f) ≡ f
-unfolding listingIn listingOut listOutcomeIn pick
-listing-written f made = go (f .outcome) (f .refusal) (f .versions) made
-  where
-    go : (o r : ℕ) (v : FlatVersions) → ListingMade (record { outcome = o; refusal = r; versions = v })
-        → listingOut (listingIn (record { outcome = o; refusal = r; versions = v })) ≡ record { outcome = o; refusal = r; versions = v }
-    go o r v (inl h) = rw (h .0, h .1)
-    go o r v (inr h) = rw h
+pub listing-written : (f : FlatVersionListing) → ListingMade f → listingOut (listingIn f) ≡ f
+listing-written f made =
+    rw (
+      number-again versionsIn (f .refusal) (f .versions),
+      value-again versionsOut versionsIn noVersions (λ (v : FlatVersions). Unit) (λ v h. versions-written v) (f .refusal) (f .versions) made,
+    )
 
 pub message-read : (m : Message) → messageIn (messageOut m) ≡ m
 unfolding messageIn messageOut
@@ -335,34 +349,54 @@ pub message-made : (m : Message) → MessageMade (messageOut m)
 unfolding messageOut
 message-made m = verdict-made (m .verdict)
 
-pub message-written : (f : FlatMessage) → MessageMade f → messageOut (messageIn f) ≡ f
+pub message-written : (f : FlatVersionMessage) → MessageMade f → messageOut (messageIn f) ≡ f
 unfolding messageIn messageOut
 message-written f h = rw (verdict-written (f .verdict) h)
 
 pub bytes-read : (s : List ℕ) → bytesIn (bytesOut s) ≡ s
 bytes-read s = refl
 
-pub bytes-written : (f : FlatBytes) → bytesOut (bytesIn f) ≡ f
+pub bytes-written : (f : FlatVersionBytes) → bytesOut (bytesIn f) ≡ f
 bytes-written f = refl
 
-pub reading-read : (j : Result Message) → readingIn (readingOut j) ≡ j
-unfolding readingIn pick
-reading-read (accepted m) = ap accepted (message-read m)
-reading-read (result.refused n) = refl
+pub reading-read : (r : Result Message) → Numbered r → readingIn (readingOut r) ≡ r
+reading-read = result-back messageOut messageIn noMessage message-read
 
-pub reading-made : (j : Result Message) → ReadingMade (readingOut j)
-reading-made (accepted m) = inl (refl, refl, message-made m)
-reading-made (result.refused n) = inr (refl, refl)
+pub reading-made : (r : Result Message) → Numbered r → ReadingMade (readingOut r)
+reading-made = result-made messageOut noMessage MessageMade message-made
 
-pub reading-written : (f : FlatMessageReading) → ReadingMade f → readingOut (readingIn f) ≡ f
-unfolding readingIn pick
-reading-written f made = go (f .outcome) (f .refusal) (f .message) made
-  where
-    go : (o r : ℕ) (m : FlatMessage) → ReadingMade (record { outcome = o; refusal = r; message = m })
-        → readingOut (readingIn (record { outcome = o; refusal = r; message = m })) ≡ record { outcome = o; refusal = r; message = m }
-    go o r m (inl h) =
-        rw (h .0, h .1) (ap (λ (x : FlatMessage). record { outcome = 0; refusal = 0; message = x }) (message-written m (h .2)))
-    go o r m (inr h) = rw (h .0, h .1)
+pub reading-written : (f : FlatVersionReading) → ReadingMade f → readingOut (readingIn f) ≡ f
+reading-written f made =
+    rw (
+      number-again messageIn (f .refusal) (f .message),
+      value-again messageOut messageIn noMessage MessageMade message-written (f .refusal) (f .message) made,
+    )
+
+pub writing-read : (r : Result (List ℕ)) → Numbered r → writingIn (writingOut r) ≡ r
+writing-read = result-back bytesOut bytesIn noBytes bytes-read
+
+pub writing-made : (r : Result (List ℕ)) → Numbered r → WritingMade (writingOut r)
+writing-made = result-made bytesOut noBytes (λ (s : FlatVersionBytes). Unit) (λ s. tt)
+
+pub writing-written : (f : FlatVersionWriting) → WritingMade f → writingOut (writingIn f) ≡ f
+writing-written f made =
+    rw (
+      number-again bytesIn (f .refusal) (f .bytes),
+      value-again bytesOut bytesIn noBytes (λ (s : FlatVersionBytes). Unit) (λ s h. bytes-written s) (f .refusal) (f .bytes) made,
+    )
+
+-- no refusal is numbered 0
+pub list-numbered : (s : List ℕ) → Numbered (listOf s)
+unfolding listOf
+list-numbered s = pick-elim Numbered _ (λ e. tt) (λ e. omega arith)
+
+pub read-numbered : (s : List ℕ) → Numbered (readOf s)
+unfolding readOf
+read-numbered s = pick-elim Numbered _ (λ e. tt) (λ e. omega arith)
+
+pub bytes-numbered : (f : FlatVersionMessage) → Numbered (messageBytes f)
+unfolding messageBytes
+bytes-numbered f = pick-elim Numbered _ (λ e. tt) (λ e. omega arith)
 
 -- ---- back and forth: the talker and a call's answer
 
@@ -378,6 +412,23 @@ pub talker-written : (f : FlatTalker) → TalkerMade f → talkerOut (talkerIn f
 unfolding talkerIn talkerOut
 talker-written f h = rw (side-written (f .side) (h .0), state-written (f .state) (h .1), verdict-written (f .verdict) (h .2))
 
+pub making-read : (r : Result Talker) → Numbered r → makingIn (makingOut r) ≡ r
+making-read = result-back talkerOut talkerIn noTalker talker-read
+
+pub making-made : (r : Result Talker) → Numbered r → MakingMade (makingOut r)
+making-made = result-made talkerOut noTalker TalkerMade talker-made
+
+pub making-written : (f : FlatTalkerMade) → MakingMade f → makingOut (makingIn f) ≡ f
+making-written f made =
+    rw (
+      number-again talkerIn (f .refusal) (f .talker),
+      value-again talkerOut talkerIn noTalker TalkerMade talker-written (f .refusal) (f .talker) made,
+    )
+
+pub make-numbered : (side : Side) (versions : Versions) (control : ℕ) → Numbered (makeOf side versions control)
+unfolding makeOf
+make-numbered side versions control = pick-elim Numbered _ (λ e. tt) (λ e. omega arith)
+
 outcome-read : (o : Outcome) → outcomeIn (outcomeNumber o) (outcomeRefusal o) (outcomeVersion o) ≡ o
 unfolding outcomeIn pick
 outcome-read quiet = refl
@@ -390,32 +441,39 @@ pub answer-read : (a : Told) → answerIn (answerOut a) ≡ a
 unfolding answerIn answerOut
 answer-read a = rw (talker-read (a .next), outcome-read (a .outcome))
 
-outcome-made : (o : Outcome)
-    → (outcomeNumber o ≤ 4) × ((outcomeNumber o ≡ 1 → ⊥) → outcomeRefusal o ≡ 0) × ((outcomeNumber o ≡ 2 → ⊥) → outcomeVersion o ≡ 0)
-outcome-made quiet = (omega arith, λ h. refl, λ h. refl)
-outcome-made (refused n) = (omega arith, λ h. absurd (h refl), λ h. refl)
-outcome-made (agreed v) = (omega arith, λ h. refl, λ h. absurd (h refl))
-outcome-made failed = (omega arith, λ h. refl, λ h. refl)
-outcome-made left = (omega arith, λ h. refl, λ h. refl)
+outcome-made : (o : Outcome) → OutcomeMade (outcomeNumber o) (outcomeRefusal o) (outcomeVersion o)
+outcome-made quiet = made-quiet
+outcome-made (refused n) = made-refused n
+outcome-made (agreed v) = made-agreed v
+outcome-made failed = made-failed
+outcome-made left = made-left
 
 pub answer-made : (a : Told) → AnswerMade (answerOut a)
 unfolding answerOut
-answer-made a =
-    let o = outcome-made (a .outcome) in
-    record { next = talker-made (a .next); outcome = o .0; refusal = o .1; version = o .2 }
+answer-made a = (talker-made (a .next), outcome-made (a .outcome))
 
-outcome-written : (n r v : ℕ) → n ≤ 4 → ((n ≡ 1 → ⊥) → r ≡ 0) → ((n ≡ 2 → ⊥) → v ≡ 0)
+outcome-written : {n r v : ℕ} → OutcomeMade n r v
     → (outcomeNumber (outcomeIn n r v) ≡ n) × (outcomeRefusal (outcomeIn n r v) ≡ r) × (outcomeVersion (outcomeIn n r v) ≡ v)
 unfolding outcomeIn pick
-outcome-written zero r v h a b = rw (a (λ e. omega arith), b (λ e. omega arith)) (refl, refl, refl)
-outcome-written (suc zero) r v h a b = rw (b (λ e. omega arith)) (refl, refl, refl)
-outcome-written (suc (suc zero)) r v h a b = rw (a (λ e. omega arith)) (refl, refl, refl)
-outcome-written (suc (suc (suc zero))) r v h a b = rw (a (λ e. omega arith), b (λ e. omega arith)) (refl, refl, refl)
-outcome-written (suc (suc (suc (suc zero)))) r v h a b = rw (a (λ e. omega arith), b (λ e. omega arith)) (refl, refl, refl)
-outcome-written (suc (suc (suc (suc (suc n))))) r v h a b = absurd (omega arith)
+outcome-written made-quiet = (refl, refl, refl)
+outcome-written (made-refused n) = (refl, refl, refl)
+outcome-written made-failed = (refl, refl, refl)
+outcome-written (made-agreed v) = (refl, refl, refl)
+outcome-written made-left = (refl, refl, refl)
 
-pub answer-written : (f : FlatAnswer) → AnswerMade f → answerOut (answerIn f) ≡ f
+pub answer-written : (f : FlatTalkerAnswer) → AnswerMade f → answerOut (answerIn f) ≡ f
 unfolding answerIn answerOut
 answer-written f made =
-    let o = outcome-written (f .outcome) (f .refusal) (f .version) (made .outcome) (made .refusal) (made .version) in
-    rw (talker-written (f .next) (made .next), o .0, o .1, o .2)
+    let o = outcome-written (made .1) in
+    rw (talker-written (f .next) (made .0), o .0, o .1, o .2)
+
+pub talk-whole : TalkWhole
+talk-whole =
+    record {
+      lists = λ s. listing-read (listOf s) (list-numbered s);
+      writes = λ f. writing-read (messageBytes f) (bytes-numbered f);
+      reads = λ s. reading-read (readOf s) (read-numbered s);
+      talkers = talker-read;
+      makes = λ side v control. making-read (makeOf side v control) (make-numbered side v control);
+      answers = answer-read;
+    }

@@ -3,21 +3,23 @@
 use Prim.Native.Nat.{ℕ, _≤_}
 use mathlib.Core.Bool.{false}
 use mathlib.Core.List.{List}
-use mathlib.Core.Logic.{_⊎_}
 use mathlib.Core.Path.{_≡_}
 use lib.Dec.{eqb}
 use Rattle.frame.specs.Choice.{pick}
-use Rattle.frame.specs.Result.{Result, accepted, refused}
-use Rattle.groups.specs.Writing.{Outcome, outcome}
+use Rattle.frame.specs.Result.{Result, refusalOf}
+use Rattle.groups.specs.Reading.{readOf}
+use Rattle.groups.specs.Table.{findOf}
+use Rattle.groups.specs.Writing.{Outcome, outcome, writeOf}
 use Rattle.groups.specs.declared.Group.{Group}
 use Rattle.groups.specs.declared.Row.{Row}
 use Rattle.groups.specs.declared.Sender.{Sender}
 use Rattle.groups.specs.declared.Sender.the-variants.{Charger, Vehicle}
+use Rattle.kospelna.specs.Refusals.{resultFrom, valueOf, Made}
 use Rattle.kospelna.specs.declared.group.FlatGroup.{FlatGroup}
 use Rattle.kospelna.specs.declared.group.FlatGroupReading.{FlatGroupReading}
 use Rattle.kospelna.specs.declared.group.FlatGroupWriting.{FlatGroupWriting}
-use Rattle.kospelna.specs.declared.group.FlatRow.{FlatRow}
-use Rattle.kospelna.specs.declared.group.FlatFinding.{FlatFinding}
+use Rattle.kospelna.specs.declared.group.FlatGroupRow.{FlatGroupRow}
+use Rattle.kospelna.specs.declared.group.FlatGroupFinding.{FlatGroupFinding}
 
 -- a group, field by field
 abbrev pub groupIn : FlatGroup → Group
@@ -26,32 +28,26 @@ groupIn f = record { code = f .code; first = f .first; second = f .second; third
 abbrev pub groupOut : Group → FlatGroup
 groupOut g = record { code = g .code; first = g .first; second = g .second; third = g .third; fourth = g .fourth }
 
--- what reading answers: outcome 0 the group, 1 refused; what an outcome does not name is 0
+-- what reading answers: the refusal's number, 0 where there is none, and the group, zeros where refused
 abbrev pub noGroup : FlatGroup
 noGroup = record { code = 0; first = 0; second = 0; third = 0; fourth = 0 }
 
 abbrev pub readingOut : Result Group → FlatGroupReading
-readingOut (accepted g) = record { outcome = 0; refusal = 0; group = groupOut g }
-readingOut (refused n) = record { outcome = 1; refusal = n; group = noGroup }
+readingOut r = record { refusal = refusalOf r; group = valueOf groupOut noGroup r }
 
--- an outcome that is not 1 is read as 0
-unfoldable pub readingIn : FlatGroupReading → Result Group
-readingIn f = pick (eqb (f .outcome) 1) (refused (f .refusal)) (accepted (groupIn (f .group)))
+abbrev pub readingIn : FlatGroupReading → Result Group
+readingIn f = resultFrom groupIn (f .refusal) (f .group)
 
 -- the flat answers that writing makes
 abbrev pub ReadingMade : FlatGroupReading → Type 0
-ReadingMade f = ((f .outcome ≡ 0) × (f .refusal ≡ 0)) ⊎ ((f .outcome ≡ 1) × (f .group ≡ noGroup))
+ReadingMade f = Made (λ (g : FlatGroup). Unit) noGroup (f .refusal) (f .group)
 
--- what writing answers: outcome 0 done, 1 refused
+-- what writing answers: the refusal's number, 0 where there is none
 abbrev pub writingOut : Result Unit → FlatGroupWriting
-writingOut (accepted u) = record { outcome = 0; refusal = 0 }
-writingOut (refused n) = record { outcome = 1; refusal = n }
+writingOut r = record { refusal = refusalOf r }
 
-unfoldable pub writingIn : FlatGroupWriting → Result Unit
-writingIn f = pick (eqb (f .outcome) 1) (refused (f .refusal)) (accepted tt)
-
-abbrev pub WritingMade : FlatGroupWriting → Type 0
-WritingMade f = ((f .outcome ≡ 0) × (f .refusal ≡ 0)) ⊎ (f .outcome ≡ 1)
+abbrev pub writingIn : FlatGroupWriting → Result Unit
+writingIn f = resultFrom (λ (u : Unit). u) (f .refusal) tt
 
 -- that answer and the lent bytes together
 pub record Written : Type 0 where
@@ -67,21 +63,21 @@ writtenOut o = written (writingOut (o .answer)) (o .bytes)
 abbrev pub writtenIn : Written → Outcome
 writtenIn w = outcome (writingIn (w .answer)) (w .bytes)
 
--- "72, 73, 74, 77, 79 come from the vehicle": sender 0 the charger, 1 the vehicle; any other number is read as 0
-abbrev pub senderNumber : Sender → ℕ
-senderNumber Charger = 0
-senderNumber Vehicle = 1
+-- the side that sends a group: 0 the charger, 1 the vehicle; any other number is read as 0
+abbrev pub sideNumber : Sender → ℕ
+sideNumber Charger = 0
+sideNumber Vehicle = 1
 
-unfoldable pub senderIn : ℕ → Sender
-senderIn n = pick (eqb n 1) Vehicle Charger
+unfoldable pub sideIn : ℕ → Sender
+sideIn n = pick (eqb n 1) Vehicle Charger
 
 -- a row of the table of groups
-abbrev pub rowOut : Row → FlatRow
+abbrev pub rowOut : Row → FlatGroupRow
 rowOut x =
     record {
       code = x .code;
       length = x .length;
-      sender = senderNumber (x .sender);
+      side = sideNumber (x .sender);
       reliable = x .reliable;
       first = x .first;
       second = x .second;
@@ -89,12 +85,12 @@ rowOut x =
       fourth = x .fourth;
     }
 
-abbrev pub rowIn : FlatRow → Row
+abbrev pub rowIn : FlatGroupRow → Row
 rowIn f =
     record {
       code = f .code;
       length = f .length;
-      sender = senderIn (f .sender);
+      sender = sideIn (f .side);
       reliable = f .reliable;
       first = f .first;
       second = f .second;
@@ -102,17 +98,22 @@ rowIn f =
       fourth = f .fourth;
     }
 
--- what looking for a code answers: outcome 0 the row, 1 refused; what an outcome does not name is 0 and false
-abbrev pub noRow : FlatRow
-noRow = record { code = 0; length = 0; sender = 0; reliable = false; first = 0; second = 0; third = 0; fourth = 0 }
+-- what looking for a code answers: the refusal's number, 0 where there is none, and the row, zeros where refused
+abbrev pub noRow : FlatGroupRow
+noRow = record { code = 0; length = 0; side = 0; reliable = false; first = 0; second = 0; third = 0; fourth = 0 }
 
-abbrev pub findingOut : Result Row → FlatFinding
-findingOut (accepted x) = record { outcome = 0; refusal = 0; row = rowOut x }
-findingOut (refused n) = record { outcome = 1; refusal = n; row = noRow }
+abbrev pub findingOut : Result Row → FlatGroupFinding
+findingOut r = record { refusal = refusalOf r; row = valueOf rowOut noRow r }
 
-unfoldable pub findingIn : FlatFinding → Result Row
-findingIn f = pick (eqb (f .outcome) 1) (refused (f .refusal)) (accepted (rowIn (f .row)))
+abbrev pub findingIn : FlatGroupFinding → Result Row
+findingIn f = resultFrom rowIn (f .refusal) (f .row)
 
-abbrev pub FindingMade : FlatFinding → Type 0
-FindingMade f =
-    ((f .outcome ≡ 0) × (f .refusal ≡ 0) × (f .row .sender ≤ 1)) ⊎ ((f .outcome ≡ 1) × (f .row ≡ noRow))
+abbrev pub FindingMade : FlatGroupFinding → Type 0
+FindingMade f = Made (λ (x : FlatGroupRow). x .side ≤ 1) noRow (f .refusal) (f .row)
+
+-- Theorem: nothing is lost. A caller reads off each answer what document 01 has there.
+abbrev pub GroupWhole : Type 0
+GroupWhole =
+    ((s : List ℕ) → readingIn (readingOut (readOf s)) ≡ readOf s)
+    × ((g : Group) (s : List ℕ) → writtenIn (writtenOut (writeOf g s)) ≡ writeOf g s)
+    × ((code : ℕ) → findingIn (findingOut (findOf code)) ≡ findOf code)

@@ -1,46 +1,48 @@
 -- The identifier's flat structs: what each stands for, in both directions. Document 01, Around the transport, Identifier;
 -- Refusals, identifier.
 use Prim.Native.Nat.{ℕ}
-use mathlib.Core.Logic.{_⊎_}
 use mathlib.Core.Path.{_≡_}
-use lib.Dec.{eqb}
-use Rattle.frame.specs.Choice.{pick}
-use Rattle.frame.specs.Result.{Result, accepted, refused}
+use Rattle.frame.specs.Result.{Result, refusalOf}
+use Rattle.identifier.specs.Answer.{joinOf, partOf}
 use Rattle.identifier.specs.declared.Parts.{Parts}
-use Rattle.kospelna.specs.declared.identify.FlatParts.{FlatParts}
-use Rattle.kospelna.specs.declared.identify.FlatJoined.{FlatJoined}
-use Rattle.kospelna.specs.declared.identify.FlatParted.{FlatParted}
+use Rattle.kospelna.specs.Refusals.{valueOf, resultFrom, Made}
+use Rattle.kospelna.specs.declared.identify.FlatIdentifierParts.{FlatIdentifierParts}
+use Rattle.kospelna.specs.declared.identify.FlatIdentifierJoining.{FlatIdentifierJoining}
+use Rattle.kospelna.specs.declared.identify.FlatIdentifierSplitting.{FlatIdentifierSplitting}
 
 -- parts, field by field
-abbrev pub partsIn : FlatParts → Parts
+abbrev pub partsIn : FlatIdentifierParts → Parts
 partsIn f = record { p = f .p; edp = f .edp; dp = f .dp; pf = f .pf; ps = f .ps; sa = f .sa }
 
-abbrev pub partsOut : Parts → FlatParts
+abbrev pub partsOut : Parts → FlatIdentifierParts
 partsOut x = record { p = x .p; edp = x .edp; dp = x .dp; pf = x .pf; ps = x .ps; sa = x .sa }
 
--- what joining answers: outcome 0 the identifier, 1 refused; what an outcome does not name is 0
-abbrev pub joinedOut : Result ℕ → FlatJoined
-joinedOut (accepted n) = record { outcome = 0; refusal = 0; identifier = n }
-joinedOut (refused n) = record { outcome = 1; refusal = n; identifier = 0 }
+-- what joining answers: the refusal's number, 0 where there is none, and the identifier, 0 where refused
+abbrev pub joiningOut : Result ℕ → FlatIdentifierJoining
+joiningOut r = record { refusal = refusalOf r; identifier = valueOf (λ (n : ℕ). n) 0 r }
 
--- an outcome that is not 1 is read as 0
-unfoldable pub joinedIn : FlatJoined → Result ℕ
-joinedIn f = pick (eqb (f .outcome) 1) (refused (f .refusal)) (accepted (f .identifier))
+abbrev pub joiningIn : FlatIdentifierJoining → Result ℕ
+joiningIn f = resultFrom (λ (n : ℕ). n) (f .refusal) (f .identifier)
 
 -- the flat answers that writing makes
-abbrev pub JoinedMade : FlatJoined → Type 0
-JoinedMade f = ((f .outcome ≡ 0) × (f .refusal ≡ 0)) ⊎ ((f .outcome ≡ 1) × (f .identifier ≡ 0))
+abbrev pub JoiningMade : FlatIdentifierJoining → Type 0
+JoiningMade f = Made (λ (n : ℕ). Unit) 0 (f .refusal) (f .identifier)
 
--- what parting answers, in the same way
-abbrev pub noParts : FlatParts
+-- what splitting answers, in the same way
+abbrev pub noParts : FlatIdentifierParts
 noParts = record { p = 0; edp = 0; dp = 0; pf = 0; ps = 0; sa = 0 }
 
-abbrev pub partedOut : Result Parts → FlatParted
-partedOut (accepted x) = record { outcome = 0; refusal = 0; parts = partsOut x }
-partedOut (refused n) = record { outcome = 1; refusal = n; parts = noParts }
+abbrev pub splittingOut : Result Parts → FlatIdentifierSplitting
+splittingOut r = record { refusal = refusalOf r; parts = valueOf partsOut noParts r }
 
-unfoldable pub partedIn : FlatParted → Result Parts
-partedIn f = pick (eqb (f .outcome) 1) (refused (f .refusal)) (accepted (partsIn (f .parts)))
+abbrev pub splittingIn : FlatIdentifierSplitting → Result Parts
+splittingIn f = resultFrom partsIn (f .refusal) (f .parts)
 
-abbrev pub PartedMade : FlatParted → Type 0
-PartedMade f = ((f .outcome ≡ 0) × (f .refusal ≡ 0)) ⊎ ((f .outcome ≡ 1) × (f .parts ≡ noParts))
+abbrev pub SplittingMade : FlatIdentifierSplitting → Type 0
+SplittingMade f = Made (λ (x : FlatIdentifierParts). Unit) noParts (f .refusal) (f .parts)
+
+-- Theorem: nothing is lost. A caller reads off each answer what document 01 has there.
+abbrev pub IdentifierWhole : Type 0
+IdentifierWhole =
+    ((x : Parts) → joiningIn (joiningOut (joinOf x)) ≡ joinOf x)
+    × ((n : ℕ) → splittingIn (splittingOut (partOf n)) ≡ partOf n)

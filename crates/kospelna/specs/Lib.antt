@@ -1,4 +1,5 @@
 pub mod Frames
+pub mod Refusals
 pub mod Send
 pub mod Receive
 pub mod Identify

@@ -1,16 +1,17 @@
 -- The receiver in C's layouts: what a flat receiver is read as, and how the receiver and its answers are written.
 use Prim.Native.Nat.{ℕ}
 use mathlib.Core.Path.{_≡_}
-use mathlib.Core.Bool.{true, false}
 use mathlib.Core.List.{List}
 use lib.Dec.{eqb}
-use Rattle.frame.specs.Result as result
+use Rattle.frame.specs.Result.{Result, refusalOf}
 use Rattle.frame.specs.Choice.{pick}
 use Rattle.kospelna.specs.Frames.{frameFrom, flatFrame}
+use Rattle.kospelna.specs.Refusals.{valueOf, resultFrom}
 use Rattle.kospelna.specs.declared.receive.FlatReceiver.{FlatReceiver}
-use Rattle.kospelna.specs.declared.receive.ReceiverAnswer.{ReceiverAnswer}
-use Rattle.kospelna.specs.declared.receive.ReceiverMade.{ReceiverMade}
+use Rattle.kospelna.specs.declared.receive.FlatReceiverAnswer.{FlatReceiverAnswer}
+use Rattle.kospelna.specs.declared.receive.FlatReceiverMade.{FlatReceiverMade}
 use Rattle.kospelna.specs.declared.receive.Report.{Report}
+use Rattle.receiver.specs.Make.{makeOf}
 use Rattle.receiver.specs.Told.{Outcome, quiet, refused, delivered, failed, short, Told, Heard}
 use Rattle.receiver.specs.declared.Connection.{Connection}
 use Rattle.receiver.specs.declared.Phase.{Phase}
@@ -83,43 +84,46 @@ pub data Written (r : FlatReceiver) : Type 0 where
 
 -- ---- answers
 
--- 0 quiet, 1 refused, 2 delivered, 3 failed, 4 short; the refusal's number or the cause; the delivered length
-unfoldable pub flatOutcome : Outcome → Report
-flatOutcome quiet = record { outcome = 0; number = 0; length = 0 }
-flatOutcome (refused number) = record { outcome = 1; number = number; length = 0 }
-flatOutcome (delivered length) = record { outcome = 2; number = 0; length = length }
-flatOutcome (failed cause) = record { outcome = 3; number = cause; length = 0 }
-flatOutcome short = record { outcome = 4; number = 0; length = 0 }
+abbrev pub report : ℕ → ℕ → ℕ → ℕ → Report
+report outcome refusal cause length = record { outcome = outcome; refusal = refusal; cause = cause; length = length }
 
-abbrev pub answerOf : FlatReceiver → Told → Report → ReceiverAnswer
+-- 0 quiet, 1 refused with its number, 2 delivered with its length, 3 failed with its cause, 4 short; 0 for what is not there
+unfoldable pub flatOutcome : Outcome → Report
+flatOutcome quiet = report 0 0 0 0
+flatOutcome (refused number) = report 1 number 0 0
+flatOutcome (delivered length) = report 2 0 0 length
+flatOutcome (failed cause) = report 3 0 cause 0
+flatOutcome short = report 4 0 0 0
+
+abbrev pub answerOf : FlatReceiver → Told → Report → FlatReceiverAnswer
 answerOf next t r =
     record {
       next = next;
       emits = t .emits;
       frame = flatFrame (t .frame);
       outcome = r .outcome;
-      number = r .number;
+      refusal = r .refusal;
+      cause = r .cause;
       length = r .length;
       bytes = t .bytes;
     }
 
-unfoldable pub flatAnswer : Told → ReceiverAnswer
+unfoldable pub flatAnswer : Told → FlatReceiverAnswer
 flatAnswer t = answerOf (flatReceiver (t .next)) t (flatOutcome (t .outcome))
 
 -- all zeros, where no receiver was made
 abbrev pub noReceiver : FlatReceiver
 noReceiver = flatOf (record { timeout = 0; window = 0; capacity = 0 }) 0 (remembering 0 0)
 
-unfoldable pub flatMade : result.Result Receiver → ReceiverMade
-flatMade (result.accepted r) = record { made = true; number = 0; end = flatReceiver r }
-flatMade (result.refused number) = record { made = false; number = number; end = noReceiver }
+unfoldable pub flatMade : Result Receiver → FlatReceiverMade
+flatMade m = record { refusal = refusalOf m; receiver = valueOf flatReceiver noReceiver m }
 
 -- a hearing's answer, and the lent buffer as the hearing leaves it
 pub record FlatHeard : Type 0 where
-  pub answer : ReceiverAnswer
+  pub answer : FlatReceiverAnswer
   pub buffer : List ℕ
 
-abbrev pub hearing : ReceiverAnswer → List ℕ → FlatHeard
+abbrev pub hearing : FlatReceiverAnswer → List ℕ → FlatHeard
 hearing a buffer = record { answer = a; buffer = buffer }
 
 unfoldable pub flatHeard : Heard → FlatHeard
@@ -129,19 +133,26 @@ flatHeard h = hearing (flatAnswer (h .told)) (h .buffer)
 
 unfoldable pub outcomeFrom : Report → Outcome
 outcomeFrom r =
-    pick (eqb (r .outcome) 1) (refused (r .number))
+    pick (eqb (r .outcome) 1) (refused (r .refusal))
     (pick (eqb (r .outcome) 2) (delivered (r .length))
-    (pick (eqb (r .outcome) 3) (failed (r .number)) (pick (eqb (r .outcome) 4) short quiet)))
+    (pick (eqb (r .outcome) 3) (failed (r .cause)) (pick (eqb (r .outcome) 4) short quiet)))
 
-unfoldable pub answerFrom : ReceiverAnswer → Told
+unfoldable pub answerFrom : FlatReceiverAnswer → Told
 answerFrom a =
     record {
       next = receiverFrom (a .next);
       emits = a .emits;
       frame = frameFrom (a .frame);
-      outcome = outcomeFrom (record { outcome = a .outcome; number = a .number; length = a .length });
+      outcome = outcomeFrom (report (a .outcome) (a .refusal) (a .cause) (a .length));
       bytes = a .bytes;
     }
 
-unfoldable pub madeFrom : ReceiverMade → result.Result Receiver
-madeFrom m = pick (m .made) (result.accepted (receiverFrom (m .end))) (result.refused (m .number))
+abbrev pub madeFrom : FlatReceiverMade → Result Receiver
+madeFrom m = resultFrom receiverFrom (m .refusal) (m .receiver)
+
+-- Theorem: nothing is lost. A caller reads off every state, every answer and every making what document 01 has there.
+abbrev pub ReceiverWhole : Type 0
+ReceiverWhole =
+    ((r : Receiver) → receiverFrom (flatReceiver r) ≡ r)
+    × ((t : Told) → answerFrom (flatAnswer t) ≡ t)
+    × ((timeout window capacity : ℕ) → madeFrom (flatMade (makeOf timeout window capacity)) ≡ makeOf timeout window capacity)

@@ -1,16 +1,17 @@
 -- The sender in C's layouts: what a flat sender is read as, and how the sender and its answers are written.
 use Prim.Native.Nat.{ℕ}
 use mathlib.Core.Path.{_≡_}
-use mathlib.Core.Bool.{true, false}
 use lib.Dec.{eqb}
-use Rattle.frame.specs.Result as result
+use Rattle.frame.specs.Result.{Result, refusalOf}
 use Rattle.frame.specs.Choice.{pick}
 use Rattle.kospelna.specs.Frames.{frameFrom, flatFrame}
+use Rattle.kospelna.specs.Refusals.{valueOf, resultFrom}
 use Rattle.kospelna.specs.declared.send.FlatSender.{FlatSender}
 use Rattle.kospelna.specs.declared.send.Report.{Report}
-use Rattle.kospelna.specs.declared.send.SenderAnswer.{SenderAnswer}
-use Rattle.kospelna.specs.declared.send.SenderMade.{SenderMade}
+use Rattle.kospelna.specs.declared.send.FlatSenderAnswer.{FlatSenderAnswer}
+use Rattle.kospelna.specs.declared.send.FlatSenderMade.{FlatSenderMade}
 use Rattle.kospelna.specs.declared.send.Window.{Window}
+use Rattle.sender.specs.Make.{makeOf}
 use Rattle.sender.specs.Told.{Outcome, quiet, refused, sent, failed, Told}
 use Rattle.sender.specs.declared.Phase.{Phase}
 use Rattle.sender.specs.declared.Phase.the-variants.{Idle, Opening, Sending, Waiting, Short}
@@ -31,7 +32,7 @@ openingFrom s t = Opening (record { transfer = t; wait = s .wait; misses = s .mi
 abbrev pub sendingFrom : FlatSender → Transfer → Phase
 sendingFrom s t =
     Sending
-    (record { transfer = t; start = s .start; next = s .next; last = s .last; gap = s .count; misses = s .misses })
+    (record { transfer = t; start = s .start; next = s .due; last = s .last; gap = s .count; misses = s .misses })
 
 abbrev pub waitingFrom : FlatSender → Transfer → Phase
 waitingFrom s t =
@@ -55,7 +56,7 @@ senderFrom s =
 -- ---- writing
 
 abbrev pub window : ℕ → ℕ → ℕ → ℕ → Window
-window start next last count = record { start = start; next = next; last = last; count = count }
+window start due last count = record { start = start; due = due; last = last; count = count }
 
 -- what a phase has not is 0
 abbrev pub noTransfer : Transfer
@@ -79,7 +80,7 @@ flatOf settings phase t w wait misses =
       wait = wait;
       misses = misses;
       start = w .start;
-      next = w .next;
+      due = w .due;
       last = w .last;
       count = w .count;
     }
@@ -99,59 +100,63 @@ flatSender s = flatPhase (s .settings) (s .phase)
 
 -- The flat senders that writing makes: a known phase number, and 0 in what the phase has not.
 abbrev pub windowFrom : FlatSender → Window
-windowFrom s = window (s .start) (s .next) (s .last) (s .count)
+windowFrom s = window (s .start) (s .due) (s .last) (s .count)
 
 pub data Written (s : FlatSender) : Type 0 where
   idle : s .phase ≡ 0 → transferFrom s ≡ noTransfer → windowFrom s ≡ noWindow → s .wait ≡ 0 → s .misses ≡ 0 → Written s
   opening : s .phase ≡ 1 → windowFrom s ≡ noWindow → Written s
   sending : s .phase ≡ 2 → s .wait ≡ 0 → Written s
-  waiting : s .phase ≡ 3 → s .next ≡ 0 → s .count ≡ 0 → Written s
+  waiting : s .phase ≡ 3 → s .due ≡ 0 → s .count ≡ 0 → Written s
   short : s .phase ≡ 4 → windowFrom s ≡ noWindow → s .misses ≡ 0 → Written s
 
 -- ---- answers
 
--- 0 quiet, 1 refused, 2 sent, 3 failed; the refusal's number or the cause; a report's ticks and frames
-unfoldable pub flatOutcome : Outcome → Report
-flatOutcome quiet = record { outcome = 0; number = 0; ticks = 0; frames = 0 }
-flatOutcome (refused number) = record { outcome = 1; number = number; ticks = 0; frames = 0 }
-flatOutcome (sent ticks frames) = record { outcome = 2; number = 0; ticks = ticks; frames = frames }
-flatOutcome (failed cause ticks frames) = record { outcome = 3; number = cause; ticks = ticks; frames = frames }
+abbrev pub report : ℕ → ℕ → ℕ → ℕ → ℕ → Report
+report outcome refusal cause ticks frames =
+    record { outcome = outcome; refusal = refusal; cause = cause; ticks = ticks; frames = frames }
 
-abbrev pub answerOf : FlatSender → Told → Report → SenderAnswer
+-- 0 quiet, 1 refused with its number, 3 failed with its cause, 5 sent; a report's ticks and frames; 0 for what is not there
+unfoldable pub flatOutcome : Outcome → Report
+flatOutcome quiet = report 0 0 0 0 0
+flatOutcome (refused number) = report 1 number 0 0 0
+flatOutcome (sent ticks frames) = report 5 0 0 ticks frames
+flatOutcome (failed cause ticks frames) = report 3 0 cause ticks frames
+
+abbrev pub answerOf : FlatSender → Told → Report → FlatSenderAnswer
 answerOf next t r =
     record {
       next = next;
       emits = t .emits;
       frame = flatFrame (t .frame);
       outcome = r .outcome;
-      number = r .number;
+      refusal = r .refusal;
+      cause = r .cause;
       ticks = r .ticks;
       frames = r .frames;
     }
 
-unfoldable pub flatAnswer : Told → SenderAnswer
+unfoldable pub flatAnswer : Told → FlatSenderAnswer
 flatAnswer t = answerOf (flatSender (t .next)) t (flatOutcome (t .outcome))
 
 -- all zeros, where no sender was made
 abbrev pub noSender : FlatSender
 noSender = flatOf (record { gap = 0; timeout = 0; limit = 0 }) 0 noTransfer noWindow 0 0
 
-unfoldable pub flatMade : result.Result Sender → SenderMade
-flatMade (result.accepted s) = record { made = true; number = 0; end = flatSender s }
-flatMade (result.refused number) = record { made = false; number = number; end = noSender }
+unfoldable pub flatMade : Result Sender → FlatSenderMade
+flatMade m = record { refusal = refusalOf m; sender = valueOf flatSender noSender m }
 
 -- ---- what a caller reads off an answer
 
 unfoldable pub outcomeFrom : Report → Outcome
 outcomeFrom r =
-    pick (eqb (r .outcome) 1) (refused (r .number))
-    (pick (eqb (r .outcome) 2) (sent (r .ticks) (r .frames))
-    (pick (eqb (r .outcome) 3) (failed (r .number) (r .ticks) (r .frames)) quiet))
+    pick (eqb (r .outcome) 1) (refused (r .refusal))
+    (pick (eqb (r .outcome) 3) (failed (r .cause) (r .ticks) (r .frames))
+    (pick (eqb (r .outcome) 5) (sent (r .ticks) (r .frames)) quiet))
 
-abbrev pub reportFrom : SenderAnswer → Report
-reportFrom a = record { outcome = a .outcome; number = a .number; ticks = a .ticks; frames = a .frames }
+abbrev pub reportFrom : FlatSenderAnswer → Report
+reportFrom a = report (a .outcome) (a .refusal) (a .cause) (a .ticks) (a .frames)
 
-unfoldable pub answerFrom : SenderAnswer → Told
+unfoldable pub answerFrom : FlatSenderAnswer → Told
 answerFrom a =
     record {
       next = senderFrom (a .next);
@@ -160,5 +165,12 @@ answerFrom a =
       outcome = outcomeFrom (reportFrom a);
     }
 
-unfoldable pub madeFrom : SenderMade → result.Result Sender
-madeFrom m = pick (m .made) (result.accepted (senderFrom (m .end))) (result.refused (m .number))
+abbrev pub madeFrom : FlatSenderMade → Result Sender
+madeFrom m = resultFrom senderFrom (m .refusal) (m .sender)
+
+-- Theorem: nothing is lost. A caller reads off every state, every answer and every making what document 01 has there.
+abbrev pub SenderWhole : Type 0
+SenderWhole =
+    ((s : Sender) → senderFrom (flatSender s) ≡ s)
+    × ((t : Told) → answerFrom (flatAnswer t) ≡ t)
+    × ((gap timeout limit : ℕ) → madeFrom (flatMade (makeOf gap timeout limit)) ≡ makeOf gap timeout limit)

@@ -7,7 +7,7 @@ ghost use Rattle.kospelna.specs.Group.{
   writingOut,
   written,
   writtenOut,
-  senderNumber,
+  sideNumber,
   rowOut,
   findingOut,
 };
@@ -31,27 +31,25 @@ pub struct FlatGroup {
     pub fourth: u16,
 }
 
-// Outcome 0: the group; 1: refused, with the refusal's number. What an outcome does not name is 0.
+// The refusal's number, 0 where there is none, and the group, zeros where refused.
 #[repr(C)]
 pub struct FlatGroupReading {
-    pub outcome: u8,
     pub refusal: u8,
     pub group: FlatGroup,
 }
 
-// Outcome 0: done; 1: refused, with the refusal's number, else 0.
+// The refusal's number, 0 where there is none.
 #[repr(C)]
 pub struct FlatGroupWriting {
-    pub outcome: u8,
     pub refusal: u8,
 }
 
-// Sender 0 is the charger, 1 the vehicle.
+// Side 0 is the charger, 1 the vehicle; the fields are their kinds' numbers.
 #[repr(C)]
-pub struct FlatRow {
+pub struct FlatGroupRow {
     pub code: u8,
     pub length: usize,
-    pub sender: u8,
+    pub side: u8,
     pub reliable: bool,
     pub first: usize,
     pub second: usize,
@@ -59,12 +57,11 @@ pub struct FlatRow {
     pub fourth: usize,
 }
 
-// Outcome 0: the row; 1: refused, with the refusal's number. What an outcome does not name is 0 and false.
+// The refusal's number, 0 where there is none, and the row, zeros where refused.
 #[repr(C)]
-pub struct FlatFinding {
-    pub outcome: u8,
+pub struct FlatGroupFinding {
     pub refusal: u8,
-    pub row: FlatRow,
+    pub row: FlatGroupRow,
 }
 
 fn read_group(f: FlatGroup) -> Group
@@ -97,11 +94,7 @@ fn write_reading(reading: Reading) -> FlatGroupReading
     match reading {
         Reading::Group(g) => {
             let group = write_group(g);
-            FlatGroupReading {
-                outcome: 0,
-                refusal: 0,
-                group,
-            }
+            FlatGroupReading { refusal: 0, group }
         }
         Reading::Refused(refusal) => {
             let group = FlatGroup {
@@ -111,11 +104,7 @@ fn write_reading(reading: Reading) -> FlatGroupReading
                 third: 0,
                 fourth: 0,
             };
-            FlatGroupReading {
-                outcome: 1,
-                refusal,
-                group,
-            }
+            FlatGroupReading { refusal, group }
         }
     }
 }
@@ -124,19 +113,13 @@ fn write_writing(writing: Writing) -> FlatGroupWriting
     ensures { λ r. ⌜ r ≡ writingOut (toldWriting writing) ⌝ }
 {
     match writing {
-        Writing::Done => FlatGroupWriting {
-            outcome: 0,
-            refusal: 0,
-        },
-        Writing::Refused(refusal) => FlatGroupWriting {
-            outcome: 1,
-            refusal,
-        },
+        Writing::Done => FlatGroupWriting { refusal: 0 },
+        Writing::Refused(refusal) => FlatGroupWriting { refusal },
     }
 }
 
-fn sender_number(sender: Sender) -> u8
-    ensures { λ r. ⌜ r ≡ senderNumber sender ⌝ }
+fn side_number(sender: Sender) -> u8
+    ensures { λ r. ⌜ r ≡ sideNumber sender ⌝ }
 {
     match sender {
         Sender::Charger => 0,
@@ -144,15 +127,15 @@ fn sender_number(sender: Sender) -> u8
     }
 }
 
-fn write_row(row: Row) -> FlatRow
+fn write_row(row: Row) -> FlatGroupRow
     ensures { λ r. ⌜ r ≡ rowOut row ⌝ }
 {
     let from = row.sender;
-    let sender = sender_number(from);
-    FlatRow {
+    let side = side_number(from);
+    FlatGroupRow {
         code: row.code,
         length: row.length,
-        sender,
+        side,
         reliable: row.reliable,
         first: row.first,
         second: row.second,
@@ -161,39 +144,32 @@ fn write_row(row: Row) -> FlatRow
     }
 }
 
-fn write_finding(finding: Finding) -> FlatFinding
+fn write_finding(finding: Finding) -> FlatGroupFinding
     ensures { λ r. ⌜ r ≡ findingOut (toldFinding finding) ⌝ }
 {
     match finding {
         Finding::Row(x) => {
             let row = write_row(x);
-            FlatFinding {
-                outcome: 0,
-                refusal: 0,
-                row,
-            }
+            FlatGroupFinding { refusal: 0, row }
         }
         Finding::Refused(refusal) => {
-            let row = FlatRow {
+            let row = FlatGroupRow {
                 code: 0,
                 length: 0,
-                sender: 0,
+                side: 0,
                 reliable: false,
                 first: 0,
                 second: 0,
                 third: 0,
                 fourth: 0,
             };
-            FlatFinding {
-                outcome: 1,
-                refusal,
-                row,
-            }
+            FlatGroupFinding { refusal, row }
         }
     }
 }
 
-// The group in eight lent bytes: refusal 9 for the length, the code and the filler, then 10 for a value.
+// The group in eight lent bytes: refusal 9 for the length, the code and the filler, then 10 for a
+// value.
 #[no_mangle]
 pub extern "C" fn kospelna_group_read(bytes: &[u8]) -> FlatGroupReading
     ensures { λ r. ⌜ r ≡ readingOut (readOf (now (bytes .entry))) ⌝ }
@@ -201,7 +177,8 @@ pub extern "C" fn kospelna_group_read(bytes: &[u8]) -> FlatGroupReading
     write_reading(groups::read::read(bytes))
 }
 
-// A group into eight lent bytes: refusal 9 for the length and the code, then 10 for a value; a refusal leaves the bytes.
+// A group into eight lent bytes: refusal 9 for the length and the code, then 10 for a value; a
+// refusal leaves the bytes.
 #[no_mangle]
 pub extern "C" fn kospelna_group_write(group: FlatGroup, bytes: &mut [u8]) -> FlatGroupWriting
     ensures { λ r. ⌜ written r (now (bytes .exit)) ≡ writtenOut (writeOf (groupIn group) (now (bytes .entry))) ⌝ }
@@ -213,7 +190,7 @@ pub extern "C" fn kospelna_group_write(group: FlatGroup, bytes: &mut [u8]) -> Fl
 
 // The row of a code in the table of groups, or refusal 9.
 #[no_mangle]
-pub extern "C" fn kospelna_group_find(code: u8) -> FlatFinding
+pub extern "C" fn kospelna_group_find(code: u8) -> FlatGroupFinding
     ensures { λ r. ⌜ r ≡ findingOut (findOf code) ⌝ }
 {
     write_finding(groups::find(code))

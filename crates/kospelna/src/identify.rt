@@ -1,6 +1,6 @@
 // The identifier, both ways, and the named numbers.
 ghost use mathlib.Core.Path.{_≡_};
-ghost use Rattle.kospelna.specs.Identify.{partsIn, partsOut, joinedOut, partedOut};
+ghost use Rattle.kospelna.specs.Identify.{partsIn, partsOut, joiningOut, splittingOut};
 ghost use Rattle.identifier.specs.Answer.{toldJoined, toldParted, joinOf, partOf};
 ghost use Rattle.identifier.specs.Named.{chargerAddress, vehicleAddress, chargerVersion, vehicleVersion};
 use identifier::Joined;
@@ -8,7 +8,7 @@ use identifier::Parted;
 use identifier::Parts;
 
 #[repr(C)]
-pub struct FlatParts {
+pub struct FlatIdentifierParts {
     pub p: u32,
     pub edp: u32,
     pub dp: u32,
@@ -17,23 +17,21 @@ pub struct FlatParts {
     pub sa: u32,
 }
 
-// Outcome 0: the identifier; 1: refused, with the refusal's number. What an outcome does not name is 0.
+// The refusal's number, 0 where there is none, and the identifier, 0 where refused.
 #[repr(C)]
-pub struct FlatJoined {
-    pub outcome: u8,
+pub struct FlatIdentifierJoining {
     pub refusal: u8,
     pub identifier: u32,
 }
 
-// Outcome 0: the parts; 1: refused, with the refusal's number. What an outcome does not name is 0.
+// The refusal's number, 0 where there is none, and the parts, zeros where refused.
 #[repr(C)]
-pub struct FlatParted {
-    pub outcome: u8,
+pub struct FlatIdentifierSplitting {
     pub refusal: u8,
-    pub parts: FlatParts,
+    pub parts: FlatIdentifierParts,
 }
 
-fn read_parts(f: FlatParts) -> Parts
+fn read_parts(f: FlatIdentifierParts) -> Parts
     ensures { λ r. ⌜ r ≡ partsIn f ⌝ }
 {
     Parts {
@@ -46,10 +44,10 @@ fn read_parts(f: FlatParts) -> Parts
     }
 }
 
-fn write_parts(parts: Parts) -> FlatParts
+fn write_parts(parts: Parts) -> FlatIdentifierParts
     ensures { λ r. ⌜ r ≡ partsOut parts ⌝ }
 {
-    FlatParts {
+    FlatIdentifierParts {
         p: parts.p,
         edp: parts.edp,
         dp: parts.dp,
@@ -59,37 +57,31 @@ fn write_parts(parts: Parts) -> FlatParts
     }
 }
 
-fn write_joined(joined: Joined) -> FlatJoined
-    ensures { λ r. ⌜ r ≡ joinedOut (toldJoined joined) ⌝ }
+fn write_joining(joined: Joined) -> FlatIdentifierJoining
+    ensures { λ r. ⌜ r ≡ joiningOut (toldJoined joined) ⌝ }
 {
     match joined {
-        Joined::Identifier(identifier) => FlatJoined {
-            outcome: 0,
+        Joined::Identifier(identifier) => FlatIdentifierJoining {
             refusal: 0,
             identifier,
         },
-        Joined::Refused(refusal) => FlatJoined {
-            outcome: 1,
+        Joined::Refused(refusal) => FlatIdentifierJoining {
             refusal,
             identifier: 0,
         },
     }
 }
 
-fn write_parted(parted: Parted) -> FlatParted
-    ensures { λ r. ⌜ r ≡ partedOut (toldParted parted) ⌝ }
+fn write_splitting(parted: Parted) -> FlatIdentifierSplitting
+    ensures { λ r. ⌜ r ≡ splittingOut (toldParted parted) ⌝ }
 {
     match parted {
         Parted::Into(x) => {
             let parts = write_parts(x);
-            FlatParted {
-                outcome: 0,
-                refusal: 0,
-                parts,
-            }
+            FlatIdentifierSplitting { refusal: 0, parts }
         }
         Parted::Refused(refusal) => {
-            let parts = FlatParts {
+            let parts = FlatIdentifierParts {
                 p: 0,
                 edp: 0,
                 dp: 0,
@@ -97,30 +89,26 @@ fn write_parted(parted: Parted) -> FlatParted
                 ps: 0,
                 sa: 0,
             };
-            FlatParted {
-                outcome: 1,
-                refusal,
-                parts,
-            }
+            FlatIdentifierSplitting { refusal, parts }
         }
     }
 }
 
 // The identifier of parts, or refusal 8.
 #[no_mangle]
-pub extern "C" fn kospelna_identifier_join(parts: FlatParts) -> FlatJoined
-    ensures { λ r. ⌜ r ≡ joinedOut (joinOf (partsIn parts)) ⌝ }
+pub extern "C" fn kospelna_identifier_join(parts: FlatIdentifierParts) -> FlatIdentifierJoining
+    ensures { λ r. ⌜ r ≡ joiningOut (joinOf (partsIn parts)) ⌝ }
 {
     let x = read_parts(parts);
-    write_joined(identifier::join(x))
+    write_joining(identifier::join(x))
 }
 
 // The parts of an identifier, or refusal 8.
 #[no_mangle]
-pub extern "C" fn kospelna_identifier_part(identifier: u32) -> FlatParted
-    ensures { λ r. ⌜ r ≡ partedOut (partOf identifier) ⌝ }
+pub extern "C" fn kospelna_identifier_split(identifier: u32) -> FlatIdentifierSplitting
+    ensures { λ r. ⌜ r ≡ splittingOut (partOf identifier) ⌝ }
 {
-    write_parted(identifier::part(identifier))
+    write_splitting(identifier::part(identifier))
 }
 
 // The charger's address.
@@ -141,7 +129,7 @@ pub extern "C" fn kospelna_vehicle_address() -> u32
 
 // The identifier of the charger's version message.
 #[no_mangle]
-pub extern "C" fn kospelna_charger_version() -> u32
+pub extern "C" fn kospelna_charger_version_identifier() -> u32
     ensures { λ r. ⌜ r ≡ chargerVersion ⌝ }
 {
     identifier::charger_version()
@@ -149,7 +137,7 @@ pub extern "C" fn kospelna_charger_version() -> u32
 
 // The identifier of the vehicle's version message.
 #[no_mangle]
-pub extern "C" fn kospelna_vehicle_version() -> u32
+pub extern "C" fn kospelna_vehicle_version_identifier() -> u32
     ensures { λ r. ⌜ r ≡ vehicleVersion ⌝ }
 {
     identifier::vehicle_version()

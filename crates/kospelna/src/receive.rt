@@ -1,4 +1,5 @@
-// The receiver over C's layouts: each call reads the flat receiver, calls the receiver and writes its answer.
+// The receiver over C's layouts: each call reads the flat receiver, calls the receiver and writes
+// its answer.
 ghost use mathlib.Core.Path.{_≡_};
 ghost use Rattle.kospelna.specs.Frames.{frameFrom};
 ghost use Rattle.kospelna.specs.Receive.{
@@ -8,6 +9,7 @@ ghost use Rattle.kospelna.specs.Receive.{
   flatOf,
   remembering,
   flatReceiver,
+  report,
   flatOutcome,
   flatAnswer,
   noReceiver,
@@ -31,9 +33,9 @@ use receiver::Phase;
 use receiver::Receiver;
 use receiver::Settings;
 
-// A receiver: timeout T, window C and capacity K; the phase's number (0 Idle, 1 Idle with a delivery remembered, 2 Open;
-// any other is read as Idle); N and L; the frame expected, the window's last, wait and misses. What a phase has not is
-// written as 0 and not read.
+// A receiver: timeout T, window C and capacity K; the phase's number (0 Idle, 1 Idle with a
+// delivery remembered, 2 Open; any other is read as Idle); N and L; the frame expected, the
+// window's last, wait and misses. What a phase has not is written as 0 and not read.
 #[repr(C)]
 pub struct FlatReceiver {
     pub timeout: u16,
@@ -48,24 +50,26 @@ pub struct FlatReceiver {
     pub misses: u16,
 }
 
-// What making answers: a receiver, or the refusal's number and zeros for the receiver.
+// What making answers: the refusal's number, 0 where there is none, and the receiver, zeros where
+// refused.
 #[repr(C)]
-pub struct ReceiverMade {
-    pub made: bool,
-    pub number: u8,
-    pub end: FlatReceiver,
+pub struct FlatReceiverMade {
+    pub refusal: u8,
+    pub receiver: FlatReceiver,
 }
 
-// What a call answers: the next state; whether a frame goes out, and which (zeros where none does); the outcome's number
-// (0 quiet, 1 refused, 2 delivered, 3 failed, 4 short); the refusal's number or the cause; the delivered length; the bytes
-// of a short delivery (zeros where there is none).
+// What a call answers: the next state; whether a frame goes out, and which (zeros where none does);
+// the outcome's number (0 quiet, 1 refused, 2 delivered, 3 failed, 4 short); the refusal's number;
+// a failure's cause; the delivered length; the bytes of a short delivery. What an outcome has not
+// is 0.
 #[repr(C)]
-pub struct ReceiverAnswer {
+pub struct FlatReceiverAnswer {
     pub next: FlatReceiver,
     pub emits: bool,
     pub frame: FlatFrame,
     pub outcome: u8,
-    pub number: u8,
+    pub refusal: u8,
+    pub cause: u8,
     pub length: u16,
     pub bytes: [u8; 8],
 }
@@ -73,7 +77,8 @@ pub struct ReceiverAnswer {
 // An outcome's numbers.
 pub(crate) struct Report {
     pub outcome: u8,
-    pub number: u8,
+    pub refusal: u8,
+    pub cause: u8,
     pub length: u16,
 }
 
@@ -162,12 +167,13 @@ fn write_receiver(r: Receiver) -> FlatReceiver
     }
 }
 
-fn reported(outcome: u8, number: u8, length: u16) -> Report
-    ensures { λ r. ⌜ r ≡ record { outcome = outcome; number = number; length = length } ⌝ }
+fn reported(outcome: u8, refusal: u8, cause: u8, length: u16) -> Report
+    ensures { λ r. ⌜ r ≡ report outcome refusal cause length ⌝ }
 {
     Report {
         outcome,
-        number,
+        refusal,
+        cause,
         length,
     }
 }
@@ -176,15 +182,15 @@ fn write_outcome(outcome: Outcome) -> Report
     ensures { λ r. ⌜ r ≡ flatOutcome (toldOutcome outcome) ⌝ }
 {
     match outcome {
-        Outcome::Quiet => reported(0, 0, 0),
-        Outcome::Refused(number) => reported(1, number, 0),
-        Outcome::Delivered(length) => reported(2, 0, length),
-        Outcome::Failed(cause) => reported(3, cause, 0),
-        Outcome::Short => reported(4, 0, 0),
+        Outcome::Quiet => reported(0, 0, 0, 0),
+        Outcome::Refused(number) => reported(1, number, 0, 0),
+        Outcome::Delivered(length) => reported(2, 0, 0, length),
+        Outcome::Failed(cause) => reported(3, 0, cause, 0),
+        Outcome::Short => reported(4, 0, 0, 0),
     }
 }
 
-fn write_answer(a: Answer) -> ReceiverAnswer
+fn write_answer(a: Answer) -> FlatReceiverAnswer
     ensures { λ r. ⌜ r ≡ flatAnswer (told a) ⌝ }
 {
     let next = write_receiver(a.next);
@@ -192,12 +198,13 @@ fn write_answer(a: Answer) -> ReceiverAnswer
     let outcome = a.outcome;
     let report = write_outcome(outcome);
     let bytes = a.bytes;
-    ReceiverAnswer {
+    FlatReceiverAnswer {
         next,
         emits: a.emits,
         frame,
         outcome: report.outcome,
-        number: report.number,
+        refusal: report.refusal,
+        cause: report.cause,
         length: report.length,
         bytes,
     }
@@ -215,26 +222,28 @@ fn no_receiver() -> FlatReceiver
     flat(settings, 0, remembering(0, 0))
 }
 
-fn write_made(m: Made) -> ReceiverMade
+fn write_made(m: Made) -> FlatReceiverMade
     ensures { λ r. ⌜ r ≡ flatMade (toldMade m) ⌝ }
 {
     match m {
-        Made::End(r) => ReceiverMade {
-            made: true,
-            number: 0,
-            end: write_receiver(r),
+        Made::End(r) => FlatReceiverMade {
+            refusal: 0,
+            receiver: write_receiver(r),
         },
-        Made::Refused(number) => ReceiverMade {
-            made: false,
-            number,
-            end: no_receiver(),
+        Made::Refused(number) => FlatReceiverMade {
+            refusal: number,
+            receiver: no_receiver(),
         },
     }
 }
 
 // An idle receiver with these settings, nothing delivered.
 #[no_mangle]
-pub extern "C" fn kospelna_receiver_make(timeout: u16, window: u16, capacity: u16) -> ReceiverMade
+pub extern "C" fn kospelna_receiver_make(
+    timeout: u16,
+    window: u16,
+    capacity: u16,
+) -> FlatReceiverMade
     ensures { λ r. ⌜ r ≡ flatMade (makeOf timeout window capacity) ⌝ }
 {
     write_made(Receiver::make(timeout, window, capacity))
@@ -242,21 +251,21 @@ pub extern "C" fn kospelna_receiver_make(timeout: u16, window: u16, capacity: u1
 
 // A tick.
 #[no_mangle]
-pub extern "C" fn kospelna_receiver_tick(r: FlatReceiver) -> ReceiverAnswer
-    ensures { λ a. ⌜ a ≡ flatAnswer (tickOf (receiverFrom r)) ⌝ }
+pub extern "C" fn kospelna_receiver_tick(receiver: FlatReceiver) -> FlatReceiverAnswer
+    ensures { λ a. ⌜ a ≡ flatAnswer (tickOf (receiverFrom receiver)) ⌝ }
 {
-    write_answer(read_receiver(r).tick())
+    write_answer(read_receiver(receiver).tick())
 }
 
 // A frame is heard, with the buffer lent.
 #[no_mangle]
 pub extern "C" fn kospelna_receiver_hear(
-    r: FlatReceiver,
-    f: FlatFrame,
+    receiver: FlatReceiver,
+    frame: FlatFrame,
     buffer: &mut [u8],
-) -> ReceiverAnswer
+) -> FlatReceiverAnswer
     ensures { λ a. ⌜ hearing a (now (buffer .exit))
-        ≡ flatHeard (hearOf (receiverFrom r) (frameFrom f) (now (buffer .entry))) ⌝ }
+        ≡ flatHeard (hearOf (receiverFrom receiver) (frameFrom frame) (now (buffer .entry))) ⌝ }
 {
-    write_answer(read_receiver(r).hear(read_frame(f), buffer))
+    write_answer(read_receiver(receiver).hear(read_frame(frame), buffer))
 }

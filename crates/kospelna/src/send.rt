@@ -1,4 +1,5 @@
-// The sender over C's layouts: each call reads the flat sender, calls the sender and writes its answer.
+// The sender over C's layouts: each call reads the flat sender, calls the sender and writes its
+// answer.
 ghost use mathlib.Core.Path.{_≡_};
 ghost use Rattle.kospelna.specs.Frames.{frameFrom};
 ghost use Rattle.kospelna.specs.Send.{
@@ -9,6 +10,7 @@ ghost use Rattle.kospelna.specs.Send.{
   noTransfer,
   window,
   flatSender,
+  report,
   flatOutcome,
   flatAnswer,
   noSender,
@@ -34,10 +36,10 @@ use sender::Single;
 use sender::Streamed;
 use sender::Transfer;
 
-// A sender: gap G, timeout T and sending time M; the phase's number (0 Idle, 1 Opening, 2 Sending, 3 Waiting, 4 Short; any
-// other is read as Idle); L, N and the message's first byte; the ticks and the frames emitted since begin; wait and
-// misses; the last start taken, the next frame's number, the window's last, and the gap count. What a phase has not is
-// written as 0 and not read.
+// A sender: gap G, timeout T and sending time M; the phase's number (0 Idle, 1 Opening, 2 Sending,
+// 3 Waiting, 4 Short; any other is read as Idle); L, N and the message's first byte; the ticks and
+// the frames emitted since begin; wait and misses; the last start taken, the number of the frame
+// due, the window's last, and the gap count. What a phase has not is written as 0 and not read.
 #[repr(C)]
 pub struct FlatSender {
     pub gap: u16,
@@ -52,28 +54,30 @@ pub struct FlatSender {
     pub wait: u16,
     pub misses: u16,
     pub start: u8,
-    pub next: u8,
+    pub due: u8,
     pub last: u8,
     pub count: u16,
 }
 
-// What making answers: a sender, or the refusal's number and zeros for the sender.
+// What making answers: the refusal's number, 0 where there is none, and the sender, zeros where
+// refused.
 #[repr(C)]
-pub struct SenderMade {
-    pub made: bool,
-    pub number: u8,
-    pub end: FlatSender,
+pub struct FlatSenderMade {
+    pub refusal: u8,
+    pub sender: FlatSender,
 }
 
-// What a call answers: the next state; whether a frame goes out, and which (zeros where none does); the outcome's number
-// (0 quiet, 1 refused, 2 sent, 3 failed); the refusal's number or the cause; a report's ticks and frames.
+// What a call answers: the next state; whether a frame goes out, and which (zeros where none does);
+// the outcome's number (0 quiet, 1 refused, 3 failed, 5 sent); the refusal's number; a failure's
+// cause; a report's ticks and frames. What an outcome has not is 0.
 #[repr(C)]
-pub struct SenderAnswer {
+pub struct FlatSenderAnswer {
     pub next: FlatSender,
     pub emits: bool,
     pub frame: FlatFrame,
     pub outcome: u8,
-    pub number: u8,
+    pub refusal: u8,
+    pub cause: u8,
     pub ticks: u16,
     pub frames: u16,
 }
@@ -81,7 +85,7 @@ pub struct SenderAnswer {
 // A window of frames that is being sent, with the gap count.
 pub(crate) struct Window {
     pub start: u8,
-    pub next: u8,
+    pub due: u8,
     pub last: u8,
     pub count: u16,
 }
@@ -89,7 +93,8 @@ pub(crate) struct Window {
 // An outcome's numbers.
 pub(crate) struct Report {
     pub outcome: u8,
-    pub number: u8,
+    pub refusal: u8,
+    pub cause: u8,
     pub ticks: u16,
     pub frames: u16,
 }
@@ -121,7 +126,7 @@ fn read_phase(s: FlatSender) -> Phase
         2 => Phase::Sending(Streamed {
             transfer,
             start: s.start,
-            next: s.next,
+            next: s.due,
             last: s.last,
             gap: s.count,
             misses: s.misses,
@@ -171,7 +176,7 @@ fn flat(settings: Settings, phase: u8, t: Transfer, w: Window, wait: u16, misses
         wait,
         misses,
         start: w.start,
-        next: w.next,
+        due: w.due,
         last: w.last,
         count: w.count,
     }
@@ -190,12 +195,12 @@ fn no_transfer() -> Transfer
     }
 }
 
-fn window_of(start: u8, next: u8, last: u8, count: u16) -> Window
-    ensures { λ r. ⌜ r ≡ window start next last count ⌝ }
+fn window_of(start: u8, due: u8, last: u8, count: u16) -> Window
+    ensures { λ r. ⌜ r ≡ window start due last count ⌝ }
 {
     Window {
         start,
-        next,
+        due,
         last,
         count,
     }
@@ -226,41 +231,43 @@ fn write_outcome(outcome: Outcome) -> Report
     ensures { λ r. ⌜ r ≡ flatOutcome (toldOutcome outcome) ⌝ }
 {
     match outcome {
-        Outcome::Quiet => reported(0, 0, 0, 0),
-        Outcome::Refused(number) => reported(1, number, 0, 0),
-        Outcome::Sent { ticks, frames } => reported(2, 0, ticks, frames),
+        Outcome::Quiet => reported(0, 0, 0, 0, 0),
+        Outcome::Refused(number) => reported(1, number, 0, 0, 0),
+        Outcome::Sent { ticks, frames } => reported(5, 0, 0, ticks, frames),
         Outcome::Failed {
             cause,
             ticks,
             frames,
-        } => reported(3, cause, ticks, frames),
+        } => reported(3, 0, cause, ticks, frames),
     }
 }
 
-fn reported(outcome: u8, number: u8, ticks: u16, frames: u16) -> Report
-    ensures { λ r. ⌜ r ≡ record { outcome = outcome; number = number; ticks = ticks; frames = frames } ⌝ }
+fn reported(outcome: u8, refusal: u8, cause: u8, ticks: u16, frames: u16) -> Report
+    ensures { λ r. ⌜ r ≡ report outcome refusal cause ticks frames ⌝ }
 {
     Report {
         outcome,
-        number,
+        refusal,
+        cause,
         ticks,
         frames,
     }
 }
 
-fn write_answer(a: Answer) -> SenderAnswer
+fn write_answer(a: Answer) -> FlatSenderAnswer
     ensures { λ r. ⌜ r ≡ flatAnswer (told a) ⌝ }
 {
     let next = write_sender(a.next);
     let frame = write_frame(a.frame);
     let outcome = a.outcome;
     let report = write_outcome(outcome);
-    SenderAnswer {
+    FlatSenderAnswer {
         next,
         emits: a.emits,
         frame,
         outcome: report.outcome,
-        number: report.number,
+        refusal: report.refusal,
+        cause: report.cause,
         ticks: report.ticks,
         frames: report.frames,
     }
@@ -278,26 +285,24 @@ fn no_sender() -> FlatSender
     flat(settings, 0, no_transfer(), window_of(0, 0, 0, 0), 0, 0)
 }
 
-fn write_made(m: Made) -> SenderMade
+fn write_made(m: Made) -> FlatSenderMade
     ensures { λ r. ⌜ r ≡ flatMade (toldMade m) ⌝ }
 {
     match m {
-        Made::End(s) => SenderMade {
-            made: true,
-            number: 0,
-            end: write_sender(s),
+        Made::End(s) => FlatSenderMade {
+            refusal: 0,
+            sender: write_sender(s),
         },
-        Made::Refused(number) => SenderMade {
-            made: false,
-            number,
-            end: no_sender(),
+        Made::Refused(number) => FlatSenderMade {
+            refusal: number,
+            sender: no_sender(),
         },
     }
 }
 
 // An idle sender with these settings.
 #[no_mangle]
-pub extern "C" fn kospelna_sender_make(gap: u16, timeout: u16, limit: u16) -> SenderMade
+pub extern "C" fn kospelna_sender_make(gap: u16, timeout: u16, limit: u16) -> FlatSenderMade
     ensures { λ r. ⌜ r ≡ flatMade (makeOf gap timeout limit) ⌝ }
 {
     write_made(Sender::make(gap, timeout, limit))
@@ -305,32 +310,32 @@ pub extern "C" fn kospelna_sender_make(gap: u16, timeout: u16, limit: u16) -> Se
 
 // Begins a transfer of the lent message.
 #[no_mangle]
-pub extern "C" fn kospelna_sender_begin(s: FlatSender, message: &[u8]) -> SenderAnswer
-    ensures { λ r. ⌜ r ≡ flatAnswer (beginOf (senderFrom s) (now (message .entry))) ⌝ }
+pub extern "C" fn kospelna_sender_begin(sender: FlatSender, message: &[u8]) -> FlatSenderAnswer
+    ensures { λ r. ⌜ r ≡ flatAnswer (beginOf (senderFrom sender) (now (message .entry))) ⌝ }
 {
-    write_answer(read_sender(s).begin(message))
+    write_answer(read_sender(sender).begin(message))
 }
 
 // Emits the lent message as one SM_URM.
 #[no_mangle]
-pub extern "C" fn kospelna_sender_post(s: FlatSender, message: &[u8]) -> SenderAnswer
-    ensures { λ r. ⌜ r ≡ flatAnswer (postOf (senderFrom s) (now (message .entry))) ⌝ }
+pub extern "C" fn kospelna_sender_post(sender: FlatSender, message: &[u8]) -> FlatSenderAnswer
+    ensures { λ r. ⌜ r ≡ flatAnswer (postOf (senderFrom sender) (now (message .entry))) ⌝ }
 {
-    write_answer(read_sender(s).post(message))
+    write_answer(read_sender(sender).post(message))
 }
 
 // A tick, lent the message that was begun.
 #[no_mangle]
-pub extern "C" fn kospelna_sender_tick(s: FlatSender, message: &[u8]) -> SenderAnswer
-    ensures { λ r. ⌜ r ≡ flatAnswer (tickOf (senderFrom s) (now (message .entry))) ⌝ }
+pub extern "C" fn kospelna_sender_tick(sender: FlatSender, message: &[u8]) -> FlatSenderAnswer
+    ensures { λ r. ⌜ r ≡ flatAnswer (tickOf (senderFrom sender) (now (message .entry))) ⌝ }
 {
-    write_answer(read_sender(s).tick(message))
+    write_answer(read_sender(sender).tick(message))
 }
 
 // A frame is heard.
 #[no_mangle]
-pub extern "C" fn kospelna_sender_hear(s: FlatSender, f: FlatFrame) -> SenderAnswer
-    ensures { λ r. ⌜ r ≡ flatAnswer (hearOf (senderFrom s) (frameFrom f)) ⌝ }
+pub extern "C" fn kospelna_sender_hear(sender: FlatSender, frame: FlatFrame) -> FlatSenderAnswer
+    ensures { λ r. ⌜ r ≡ flatAnswer (hearOf (senderFrom sender) (frameFrom frame)) ⌝ }
 {
-    write_answer(read_sender(s).hear(read_frame(f)))
+    write_answer(read_sender(sender).hear(read_frame(frame)))
 }

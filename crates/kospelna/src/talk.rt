@@ -8,23 +8,28 @@ ghost use Rattle.kospelna.specs.Talk.{
   verdictIn,
   versionsIn,
   versionsOut,
-  listOutcome,
   listRefusal,
+  listedOut,
   listingOut,
   messageIn,
   messageOut,
   bytesIn,
   bytesOut,
+  noBytes,
+  messageBytes,
+  writingOut,
   readingOut,
   talkerIn,
   talkerOut,
+  madeOut,
+  makingOut,
   outcomeNumber,
   outcomeRefusal,
   outcomeVersion,
   answerOut,
 };
-ghost use Rattle.version.specs.List.{listOf, listedOf};
-ghost use Rattle.version.specs.Message.{verdictByte, toldReading, writeOf, readOf};
+ghost use Rattle.version.specs.List.{listOf};
+ghost use Rattle.version.specs.Message.{verdictByte, toldReading, readOf};
 ghost use Rattle.version.specs.Talk.{
   makeOf,
   connectOf,
@@ -38,6 +43,7 @@ ghost use Rattle.version.specs.Told.{toldOutcome, told};
 use version::Answer;
 use version::ListOutcome;
 use version::Listed;
+use version::Made;
 use version::Message;
 use version::MessageReading;
 use version::Outcome;
@@ -53,17 +59,16 @@ pub struct FlatVersions {
     pub numbers: [u32; 8],
 }
 
-// Outcome 0: the list; 1: refused, with the refusal's number and no versions.
+// The refusal's number, 0 where there is none, and the list, of no versions where refused.
 #[repr(C)]
-pub struct FlatListing {
-    pub outcome: u8,
+pub struct FlatVersionListing {
     pub refusal: u8,
     pub versions: FlatVersions,
 }
 
 // Verdict 0 is continue, 1 success, 2 failure.
 #[repr(C)]
-pub struct FlatMessage {
+pub struct FlatVersionMessage {
     pub verdict: u8,
     pub version: u32,
     pub control: u8,
@@ -71,19 +76,26 @@ pub struct FlatMessage {
 
 // The eight bytes of a message.
 #[repr(C)]
-pub struct FlatBytes {
+pub struct FlatVersionBytes {
     pub bytes: [u8; 8],
 }
 
-// Outcome 0: the message; 1: refused, with the refusal's number. What an outcome does not name is 0.
+// The refusal's number, 0 where there is none, and the bytes, zeros where refused.
 #[repr(C)]
-pub struct FlatMessageReading {
-    pub outcome: u8,
+pub struct FlatVersionWriting {
     pub refusal: u8,
-    pub message: FlatMessage,
+    pub bytes: FlatVersionBytes,
 }
 
-// Side 0 is the charger, 1 the vehicle; state 0 to 5 is S0 to S5; verdict as above. Any other number is read as 0.
+// The refusal's number, 0 where there is none, and the message, zeros where refused.
+#[repr(C)]
+pub struct FlatVersionReading {
+    pub refusal: u8,
+    pub message: FlatVersionMessage,
+}
+
+// Side 0 is the charger, 1 the vehicle; state 0 to 5 is S0 to S5; verdict as above. Any other
+// number is read as 0.
 #[repr(C)]
 pub struct FlatTalker {
     pub side: u8,
@@ -97,13 +109,21 @@ pub struct FlatTalker {
     pub timing: bool,
 }
 
-// Outcome 0: quiet; 1: refused, with the refusal's number; 2: agreed, with the version; 3: failed; 4: left. What an outcome
-// does not name is 0. Where emits is false, bytes are eight zeros.
+// What making answers: the refusal's number, 0 where there is none, and the talker, zeros where
+// refused.
 #[repr(C)]
-pub struct FlatAnswer {
+pub struct FlatTalkerMade {
+    pub refusal: u8,
+    pub talker: FlatTalker,
+}
+
+// Outcome 0: quiet; 1: refused, with the refusal's number; 3: failed; 6: agreed, with the version;
+// 7: left. What an outcome has not is 0. Where emits is false, bytes are eight zeros.
+#[repr(C)]
+pub struct FlatTalkerAnswer {
     pub next: FlatTalker,
     pub emits: bool,
-    pub bytes: [u8; 8],
+    pub bytes: FlatVersionBytes,
     pub outcome: u8,
     pub refusal: u8,
     pub version: u32,
@@ -193,15 +213,6 @@ fn write_versions(versions: Versions) -> FlatVersions
     }
 }
 
-fn list_outcome(outcome: ListOutcome) -> u8
-    ensures { λ r. ⌜ r ≡ listOutcome outcome ⌝ }
-{
-    match outcome {
-        ListOutcome::Accepted => 0,
-        ListOutcome::Refused(_) => 1,
-    }
-}
-
 fn list_refusal(outcome: ListOutcome) -> u8
     ensures { λ r. ⌜ r ≡ listRefusal outcome ⌝ }
 {
@@ -211,22 +222,17 @@ fn list_refusal(outcome: ListOutcome) -> u8
     }
 }
 
-fn write_listing(listed: Listed) -> FlatListing
-    ensures { λ r. ⌜ r ≡ listingOut listed ⌝ }
+fn write_listing(listed: Listed) -> FlatVersionListing
+    ensures { λ r. ⌜ r ≡ listedOut listed ⌝ }
 {
     let kept = listed.versions;
     let came = listed.outcome;
     let versions = write_versions(kept);
-    let outcome = list_outcome(came);
     let refusal = list_refusal(came);
-    FlatListing {
-        outcome,
-        refusal,
-        versions,
-    }
+    FlatVersionListing { refusal, versions }
 }
 
-fn read_message(f: FlatMessage) -> Message
+fn read_message(f: FlatVersionMessage) -> Message
     ensures { λ r. ⌜ r ≡ messageIn f ⌝ }
 {
     let verdict = read_verdict(f.verdict);
@@ -237,41 +243,49 @@ fn read_message(f: FlatMessage) -> Message
     }
 }
 
-fn write_message(m: Message) -> FlatMessage
+fn write_message(m: Message) -> FlatVersionMessage
     ensures { λ r. ⌜ r ≡ messageOut m ⌝ }
 {
     let result = m.verdict;
     let verdict = verdict_number(result);
-    FlatMessage {
+    FlatVersionMessage {
         verdict,
         version: m.version,
         control: m.control,
     }
 }
 
-fn write_reading(reading: MessageReading) -> FlatMessageReading
+fn write_bytes(bytes: [u8; 8]) -> FlatVersionBytes
+    ensures { λ r. ⌜ r ≡ bytesOut bytes ⌝ }
+{
+    FlatVersionBytes { bytes }
+}
+
+// Zeros, where no message was written.
+fn no_bytes() -> FlatVersionBytes
+    ensures { λ r. ⌜ r ≡ noBytes ⌝ }
+{
+    FlatVersionBytes { bytes: [0; 8] }
+}
+
+fn write_reading(reading: MessageReading) -> FlatVersionReading
     ensures { λ r. ⌜ r ≡ readingOut (toldReading reading) ⌝ }
 {
     match reading {
         MessageReading::Message(m) => {
             let message = write_message(m);
-            FlatMessageReading {
-                outcome: 0,
+            FlatVersionReading {
                 refusal: 0,
                 message,
             }
         }
         MessageReading::Refused(refusal) => {
-            let message = FlatMessage {
+            let message = FlatVersionMessage {
                 verdict: 0,
                 version: 0,
                 control: 0,
             };
-            FlatMessageReading {
-                outcome: 1,
-                refusal,
-                message,
-            }
+            FlatVersionReading { refusal, message }
         }
     }
 }
@@ -321,15 +335,25 @@ fn write_talker(t: Talker) -> FlatTalker
     }
 }
 
+fn write_made(made: Made) -> FlatTalkerMade
+    ensures { λ r. ⌜ r ≡ madeOut made ⌝ }
+{
+    let kept = made.talker;
+    let came = made.outcome;
+    let talker = write_talker(kept);
+    let refusal = list_refusal(came);
+    FlatTalkerMade { refusal, talker }
+}
+
 fn outcome_number(outcome: Outcome) -> u8
     ensures { λ r. ⌜ r ≡ outcomeNumber (toldOutcome outcome) ⌝ }
 {
     match outcome {
         Outcome::Quiet => 0,
         Outcome::Refused(_) => 1,
-        Outcome::Agreed(_) => 2,
+        Outcome::Agreed(_) => 6,
         Outcome::Failed => 3,
-        Outcome::Left => 4,
+        Outcome::Left => 7,
     }
 }
 
@@ -357,17 +381,18 @@ fn outcome_version(outcome: Outcome) -> u32
     }
 }
 
-fn write_answer(a: Answer) -> FlatAnswer
+fn write_answer(a: Answer) -> FlatTalkerAnswer
     ensures { λ r. ⌜ r ≡ answerOut (told a) ⌝ }
 {
     let talker = a.next;
-    let bytes = a.bytes;
+    let said = a.bytes;
     let came = a.outcome;
     let next = write_talker(talker);
+    let bytes = write_bytes(said);
     let outcome = outcome_number(came);
     let refusal = outcome_refusal(came);
     let version = outcome_version(came);
-    FlatAnswer {
+    FlatTalkerAnswer {
         next,
         emits: a.emits,
         bytes,
@@ -379,44 +404,54 @@ fn write_answer(a: Answer) -> FlatAnswer
 
 // A list of 1 to 8 strictly rising versions, three bytes for each, or refusal 11.
 #[no_mangle]
-pub extern "C" fn kospelna_version_list(bytes: &[u8]) -> FlatListing
-    ensures { λ r. ⌜ r ≡ listingOut (listedOf (listOf (now (bytes .entry)))) ⌝ }
+pub extern "C" fn kospelna_version_list(bytes: &[u8]) -> FlatVersionListing
+    ensures { λ r. ⌜ r ≡ listingOut (listOf (now (bytes .entry))) ⌝ }
 {
     write_listing(version::list::list(bytes))
 }
 
-// The bytes of a message.
+// The bytes of a message, or refusal 10.
 #[no_mangle]
-pub extern "C" fn kospelna_version_message_write(message: FlatMessage) -> FlatBytes
-    ensures { λ r. ⌜ r ≡ bytesOut (writeOf (messageIn message)) ⌝ }
+pub extern "C" fn kospelna_version_message_write(message: FlatVersionMessage) -> FlatVersionWriting
+    ensures { λ r. ⌜ r ≡ writingOut (messageBytes message) ⌝ }
 {
-    let m = read_message(message);
-    let bytes = version::wire::write(m);
-    FlatBytes { bytes }
+    if message.verdict <= 2 {
+        let m = read_message(message);
+        let said = version::wire::write(m);
+        let bytes = write_bytes(said);
+        FlatVersionWriting { refusal: 0, bytes }
+    } else {
+        let bytes = no_bytes();
+        FlatVersionWriting { refusal: 10, bytes }
+    }
 }
 
 // The message of eight bytes, or refusal 10.
 #[no_mangle]
-pub extern "C" fn kospelna_version_message_read(bytes: FlatBytes) -> FlatMessageReading
+pub extern "C" fn kospelna_version_message_read(bytes: FlatVersionBytes) -> FlatVersionReading
     ensures { λ r. ⌜ r ≡ readingOut (readOf (bytesIn bytes)) ⌝ }
 {
     let b = bytes.bytes;
     write_reading(version::wire::read(b))
 }
 
-// A talker in S0, Ns at the highest version, the result continue.
+// A talker in S0, Ns at the highest version, the result continue; or refusal 11.
 #[no_mangle]
-pub extern "C" fn kospelna_talker_make(side: u8, versions: FlatVersions, control: u8) -> FlatTalker
-    ensures { λ r. ⌜ r ≡ talkerOut (makeOf (sideIn side) (versionsIn versions) control) ⌝ }
+pub extern "C" fn kospelna_talker_make(
+    side: u8,
+    versions: FlatVersions,
+    control: u8,
+) -> FlatTalkerMade
+    ensures { λ r. ⌜ r ≡ makingOut (makeOf (sideIn side) (versionsIn versions) control) ⌝ }
 {
     let of = read_side(side);
     let kept = read_versions(versions);
-    write_talker(Talker::make(of, kept, control))
+    write_made(Talker::make(of, kept, control))
 }
 
 // The physical connection is complete.
 #[no_mangle]
-pub extern "C" fn kospelna_talker_connect(talker: FlatTalker) -> FlatAnswer
+pub extern "C" fn kospelna_talker_connect(talker: FlatTalker) -> FlatTalkerAnswer
     ensures { λ r. ⌜ r ≡ answerOut (connectOf (talkerIn talker)) ⌝ }
 {
     let t = read_talker(talker);
@@ -425,7 +460,7 @@ pub extern "C" fn kospelna_talker_connect(talker: FlatTalker) -> FlatAnswer
 
 // One millisecond passes.
 #[no_mangle]
-pub extern "C" fn kospelna_talker_tick(talker: FlatTalker) -> FlatAnswer
+pub extern "C" fn kospelna_talker_tick(talker: FlatTalker) -> FlatTalkerAnswer
     ensures { λ r. ⌜ r ≡ answerOut (tickOf (talkerIn talker)) ⌝ }
 {
     let t = read_talker(talker);
@@ -434,7 +469,10 @@ pub extern "C" fn kospelna_talker_tick(talker: FlatTalker) -> FlatAnswer
 
 // A message of the other side is heard.
 #[no_mangle]
-pub extern "C" fn kospelna_talker_hear(talker: FlatTalker, bytes: FlatBytes) -> FlatAnswer
+pub extern "C" fn kospelna_talker_hear(
+    talker: FlatTalker,
+    bytes: FlatVersionBytes,
+) -> FlatTalkerAnswer
     ensures { λ r. ⌜ r ≡ answerOut (hearOf (talkerIn talker) (bytesIn bytes)) ⌝ }
 {
     let t = read_talker(talker);
@@ -444,7 +482,7 @@ pub extern "C" fn kospelna_talker_hear(talker: FlatTalker, bytes: FlatBytes) -> 
 
 // A fault, or the other side opens its switch.
 #[no_mangle]
-pub extern "C" fn kospelna_talker_stop(talker: FlatTalker) -> FlatAnswer
+pub extern "C" fn kospelna_talker_stop(talker: FlatTalker) -> FlatTalkerAnswer
     ensures { λ r. ⌜ r ≡ answerOut (stopOf (talkerIn talker)) ⌝ }
 {
     let t = read_talker(talker);
@@ -453,7 +491,7 @@ pub extern "C" fn kospelna_talker_stop(talker: FlatTalker) -> FlatAnswer
 
 // The old protocol's greeting (CHM) is heard.
 #[no_mangle]
-pub extern "C" fn kospelna_talker_greet(talker: FlatTalker) -> FlatAnswer
+pub extern "C" fn kospelna_talker_greet(talker: FlatTalker) -> FlatTalkerAnswer
     ensures { λ r. ⌜ r ≡ answerOut (greetOf (talkerIn talker)) ⌝ }
 {
     let t = read_talker(talker);
@@ -462,7 +500,7 @@ pub extern "C" fn kospelna_talker_greet(talker: FlatTalker) -> FlatAnswer
 
 // The charger's supported functions are heard.
 #[no_mangle]
-pub extern "C" fn kospelna_talker_functions_heard(talker: FlatTalker) -> FlatAnswer
+pub extern "C" fn kospelna_talker_functions_heard(talker: FlatTalker) -> FlatTalkerAnswer
     ensures { λ r. ⌜ r ≡ answerOut (functionsHeardOf (talkerIn talker)) ⌝ }
 {
     let t = read_talker(talker);

@@ -53,7 +53,7 @@ fn print(tally: &Tally) {
             .map(|(outcome, count)| format!("{outcome}: {count}"))
             .collect();
         println!(
-            "calls: kospelna_{name:22} {:9}   by outcome {}",
+            "calls: kospelna_{name:27} {:9}   by outcome {}",
             tally.calls[place],
             outcomes.join(", ")
         );

@@ -9,11 +9,11 @@ pub const MISTAKES: &[(&str, Mistake)] = &[
     ("PF and PS swapped in joining", Mistake::Join(pf_ps_swapped)),
     ("P of four bits", Mistake::Join(p_of_4_bits)),
     (
-        "PF and PS swapped in parting",
-        Mistake::Part(parted_swapped),
+        "PF and PS swapped in splitting",
+        Mistake::Split(split_swapped),
     ),
-    ("DP is not judged", Mistake::Part(dp_unjudged)),
-    ("30 bits are taken", Mistake::Part(thirty_bits)),
+    ("DP is not judged", Mistake::Split(dp_unjudged)),
+    ("30 bits are taken", Mistake::Split(thirty_bits)),
     (
         "the addresses swapped",
         Mistake::Named(|[a, b, c, d]| [b, a, c, d]),
@@ -36,12 +36,39 @@ pub const MISTAKES: &[(&str, Mistake)] = &[
         "the control byte in the transport's place",
         Mistake::MessageWrite(control_moved),
     ),
+    (
+        "result 3 is written",
+        Mistake::MessageWrite(result_3_written),
+    ),
+    (
+        "result 2 is not written",
+        Mistake::MessageWrite(result_2_refused),
+    ),
     ("result 3 is read", Mistake::MessageRead(result_3)),
     ("CAN type 1 is read", Mistake::MessageRead(can_1)),
     ("made at the lowest version", Mistake::TalkerMake(at_lowest)),
+    ("made of no versions", Mistake::TalkerMake(count_0)),
+    ("made of a count of nine", Mistake::TalkerMake(count_9)),
     (
-        "made at the count's low byte",
-        Mistake::TalkerMake(at_low_byte),
+        "made of a count modulo 256",
+        Mistake::TalkerMake(count_modulo),
+    ),
+    ("made of an unsorted list", Mistake::TalkerMake(unsorted)),
+    (
+        "made of two equal versions",
+        Mistake::TalkerMake(equal_made),
+    ),
+    (
+        "made of a version of four bytes",
+        Mistake::TalkerMake(four_bytes),
+    ),
+    (
+        "what stands past the count is judged",
+        Mistake::TalkerMake(past_the_count),
+    ),
+    (
+        "a refused making leaves the list",
+        Mistake::TalkerMake(refused_kept),
     ),
     (
         "connect says success",
@@ -104,69 +131,88 @@ pub const MISTAKES: &[(&str, Mistake)] = &[
     ("78 is not reliable", Mistake::GroupFind(unreliable)),
 ];
 
-fn pf_ps_swapped(parts: FlatParts, joined: &mut FlatJoined) {
+fn pf_ps_swapped(parts: FlatIdentifierParts, joined: &mut FlatIdentifierJoining) {
     let (pf, ps) = (parts.ps, parts.pf);
-    *joined = Reference.identifier_join(FlatParts { pf, ps, ..parts });
+    *joined = Reference.identifier_join(FlatIdentifierParts { pf, ps, ..parts });
 }
 
-fn p_of_4_bits(parts: FlatParts, joined: &mut FlatJoined) {
+fn p_of_4_bits(parts: FlatIdentifierParts, joined: &mut FlatIdentifierJoining) {
     if parts.p == 8 {
-        *joined = Reference.identifier_join(FlatParts { p: 0, ..parts });
+        *joined = Reference.identifier_join(FlatIdentifierParts { p: 0, ..parts });
     }
 }
 
-fn parted_swapped(_: u32, parted: &mut FlatParted) {
-    std::mem::swap(&mut parted.parts.pf, &mut parted.parts.ps);
+fn split_swapped(_: u32, split: &mut FlatIdentifierSplitting) {
+    std::mem::swap(&mut split.parts.pf, &mut split.parts.ps);
 }
 
-fn dp_unjudged(identifier: u32, parted: &mut FlatParted) {
+fn dp_unjudged(identifier: u32, split: &mut FlatIdentifierSplitting) {
     if identifier >> 24 & 1 == 1 {
-        *parted = Reference.identifier_part(identifier & !(1 << 24));
+        *split = Reference.identifier_split(identifier & !(1 << 24));
     }
 }
 
-fn thirty_bits(identifier: u32, parted: &mut FlatParted) {
+fn thirty_bits(identifier: u32, split: &mut FlatIdentifierSplitting) {
     if identifier >> 29 == 1 {
-        *parted = Reference.identifier_part(identifier & 0x1FFF_FFFF);
+        *split = Reference.identifier_split(identifier & 0x1FFF_FFFF);
     }
 }
 
-fn nine(bytes: &[u8], listing: &mut FlatListing) {
+fn nine(bytes: &[u8], listing: &mut FlatVersionListing) {
     if bytes.len() == 27 {
         *listing = Reference.version_list(&bytes[..24]);
     }
 }
 
-fn equal(bytes: &[u8], listing: &mut FlatListing) {
+fn equal(bytes: &[u8], listing: &mut FlatVersionListing) {
     if bytes.len() == 6 && bytes[..3] == bytes[3..] {
         *listing = Reference.version_list(&bytes[..3]);
     }
 }
 
-fn counted_modulo(bytes: &[u8], listing: &mut FlatListing) {
+fn counted_modulo(bytes: &[u8], listing: &mut FlatVersionListing) {
     if bytes.len() > 768 {
         *listing = Reference.version_list(&bytes[..bytes.len() - 768]);
     }
 }
 
-fn failure_names(message: FlatMessage, bytes: &mut FlatBytes) {
+fn failure_names(message: FlatVersionMessage, writing: &mut FlatVersionWriting) {
     if message.verdict == 2 {
         let [_, main, minor, temporary] = message.version.to_be_bytes();
-        bytes.bytes[2..5].copy_from_slice(&[main, minor, temporary]);
+        writing.bytes.bytes[2..5].copy_from_slice(&[main, minor, temporary]);
     }
 }
 
-fn control_moved(_: FlatMessage, bytes: &mut FlatBytes) {
-    bytes.bytes.swap(5, 6);
+fn control_moved(_: FlatVersionMessage, writing: &mut FlatVersionWriting) {
+    writing.bytes.bytes.swap(5, 6);
 }
 
-fn result_3(bytes: FlatBytes, reading: &mut FlatMessageReading) {
+/// As continue.
+fn result_3_written(message: FlatVersionMessage, writing: &mut FlatVersionWriting) {
+    if message.verdict == 3 {
+        *writing = Reference.version_message_write(FlatVersionMessage {
+            verdict: 0,
+            ..message
+        });
+    }
+}
+
+fn result_2_refused(message: FlatVersionMessage, writing: &mut FlatVersionWriting) {
+    if message.verdict == 2 {
+        *writing = Reference.version_message_write(FlatVersionMessage {
+            verdict: 3,
+            ..message
+        });
+    }
+}
+
+fn result_3(bytes: FlatVersionBytes, reading: &mut FlatVersionReading) {
     if bytes.bytes[1] == 3 {
-        (reading.outcome, reading.refusal) = (0, 0);
+        reading.refusal = 0;
     }
 }
 
-fn can_1(bytes: FlatBytes, reading: &mut FlatMessageReading) {
+fn can_1(bytes: FlatVersionBytes, reading: &mut FlatVersionReading) {
     let mut other = bytes;
     if bytes.bytes[0] == 1 {
         other.bytes[0] = 0;
@@ -174,89 +220,164 @@ fn can_1(bytes: FlatBytes, reading: &mut FlatMessageReading) {
     }
 }
 
-fn at_lowest(talker: &mut FlatTalker) {
-    talker.place = 0;
+fn at_lowest(_: u8, _: FlatVersions, made: &mut FlatTalkerMade) {
+    made.talker.place = 0;
 }
 
-fn at_low_byte(talker: &mut FlatTalker) {
-    talker.place = (talker.versions.count % 256).saturating_sub(1);
-}
-
-fn connect_success(_: FlatTalker, a: &mut FlatAnswer) {
-    if a.emits {
-        (a.next.verdict, a.bytes[1]) = (1, 1);
+/// Made of another list, and kept with the given one.
+fn made_of(side: u8, list: FlatVersions, versions: FlatVersions, made: &mut FlatTalkerMade) {
+    let control = made.talker.control;
+    *made = Reference.talker_make(side, list, control);
+    if made.refusal == 0 {
+        made.talker.versions = versions;
     }
 }
 
-fn period_49(t: FlatTalker, a: &mut FlatAnswer) {
+/// With version 0.0.0.
+fn count_0(side: u8, versions: FlatVersions, made: &mut FlatTalkerMade) {
+    if versions.count == 0 {
+        let list = FlatVersions {
+            count: 1,
+            numbers: [0; 8],
+        };
+        made_of(side, list, versions, made);
+    }
+}
+
+fn count_9(side: u8, versions: FlatVersions, made: &mut FlatTalkerMade) {
+    if versions.count == 9 {
+        let list = FlatVersions {
+            count: 8,
+            ..versions
+        };
+        made_of(side, list, versions, made);
+    }
+}
+
+fn count_modulo(side: u8, versions: FlatVersions, made: &mut FlatTalkerMade) {
+    let list = FlatVersions {
+        count: versions.count % 256,
+        ..versions
+    };
+    made_of(side, list, versions, made);
+}
+
+fn unsorted(side: u8, versions: FlatVersions, made: &mut FlatTalkerMade) {
+    let mut list = versions;
+    list.numbers[..versions.count.min(8) as usize].sort();
+    made_of(side, list, versions, made);
+}
+
+fn equal_made(side: u8, versions: FlatVersions, made: &mut FlatTalkerMade) {
+    let [first, second, ..] = versions.numbers;
+    if versions.count == 2 && first == second {
+        let list = FlatVersions {
+            count: 1,
+            ..versions
+        };
+        made_of(side, list, versions, made);
+    }
+}
+
+/// Judged by its three bytes.
+fn four_bytes(side: u8, versions: FlatVersions, made: &mut FlatTalkerMade) {
+    let list = FlatVersions {
+        numbers: versions.numbers.map(|number| number & 0x00FF_FFFF),
+        ..versions
+    };
+    made_of(side, list, versions, made);
+}
+
+fn past_the_count(side: u8, versions: FlatVersions, made: &mut FlatTalkerMade) {
+    let past = versions.numbers.iter().skip(versions.count as usize);
+    if past.into_iter().any(|&number| number != 0) {
+        let none = FlatVersions::default();
+        made_of(side, none, versions, made);
+    }
+}
+
+fn refused_kept(side: u8, versions: FlatVersions, made: &mut FlatTalkerMade) {
+    if made.refusal != 0 {
+        (made.talker.side, made.talker.versions) = (side, versions);
+    }
+}
+
+fn connect_success(_: FlatTalker, a: &mut FlatTalkerAnswer) {
+    if a.emits {
+        (a.next.verdict, a.bytes.bytes[1]) = (1, 1);
+    }
+}
+
+fn period_49(t: FlatTalker, a: &mut FlatTalkerAnswer) {
     if t.state == 1 && t.period == 48 && a.outcome == 0 {
         *a = Reference.talker_tick(FlatTalker { period: 49, ..t });
     }
 }
 
-fn place_modulo(t: FlatTalker, a: &mut FlatAnswer) {
+fn place_modulo(t: FlatTalker, a: &mut FlatTalkerAnswer) {
     let place = t.place % 256;
     *a = Reference.talker_tick(FlatTalker { place, ..t });
     a.next.place = t.place;
 }
 
-fn period_first(t: FlatTalker, a: &mut FlatAnswer) {
+fn period_first(t: FlatTalker, a: &mut FlatTalkerAnswer) {
     if t.state == 1 && t.period == 49 && a.outcome == 3 {
         *a = Reference.talker_tick(FlatTalker { age: 0, ..t });
     }
 }
 
-fn limit_late(t: FlatTalker, a: &mut FlatAnswer) {
+fn limit_late(t: FlatTalker, a: &mut FlatTalkerAnswer) {
     if t.state == 1 && t.age == 14999 {
         *a = Reference.talker_tick(FlatTalker { age: 14998, ..t });
         a.next.age = 15000;
     }
 }
 
-fn s3_silent(t: FlatTalker, a: &mut FlatAnswer) {
+fn s3_silent(t: FlatTalker, a: &mut FlatTalkerAnswer) {
     if t.state == 3 {
-        (a.emits, a.bytes) = (false, [0; 8]);
+        (a.emits, a.bytes) = (false, FlatVersionBytes::default());
     }
 }
 
-fn two_in_s2(_: FlatTalker, _: FlatBytes, a: &mut FlatAnswer) {
+fn two_in_s2(_: FlatTalker, _: FlatVersionBytes, a: &mut FlatTalkerAnswer) {
     if a.version == 0x020000 {
         (a.next.state, a.next.timing) = (2, false);
     }
 }
 
-fn hearing_restarts(t: FlatTalker, _: FlatBytes, a: &mut FlatAnswer) {
+fn hearing_restarts(t: FlatTalker, _: FlatVersionBytes, a: &mut FlatTalkerAnswer) {
     if t.state == 1 && a.outcome == 0 {
         a.next.period = 0;
     }
 }
 
-fn not_resumed(t: FlatTalker, bytes: FlatBytes, a: &mut FlatAnswer) {
+fn not_resumed(t: FlatTalker, bytes: FlatVersionBytes, a: &mut FlatTalkerAnswer) {
     if t.state == 1 && t.verdict == 1 && bytes.bytes[1] == 1 && a.outcome == 0 {
         a.next.verdict = 1;
     }
 }
 
-fn none_lower(t: FlatTalker, bytes: FlatBytes, a: &mut FlatAnswer) {
+fn none_lower(t: FlatTalker, bytes: FlatVersionBytes, a: &mut FlatTalkerAnswer) {
     if bytes.bytes[1] == 0 && a.outcome == 3 {
-        (a.next, a.emits, a.bytes, a.outcome) = (t, false, [0; 8], 0);
+        let none = FlatVersionBytes::default();
+        (a.next, a.emits, a.bytes, a.outcome) = (t, false, none, 0);
     }
 }
 
-fn stop_fails(_: FlatTalker, a: &mut FlatAnswer) {
-    if a.outcome == 4 {
+fn stop_fails(_: FlatTalker, a: &mut FlatTalkerAnswer) {
+    if a.outcome == 7 {
         a.outcome = 3;
     }
 }
 
-fn charger_greeted(t: FlatTalker, a: &mut FlatAnswer) {
+fn charger_greeted(t: FlatTalker, a: &mut FlatTalkerAnswer) {
     if t.side == 0 {
         *a = Reference.talker_greet(FlatTalker { side: 1, ..t });
         a.next.side = 0;
     }
 }
 
-fn timers_kept(t: FlatTalker, a: &mut FlatAnswer) {
+fn timers_kept(t: FlatTalker, a: &mut FlatTalkerAnswer) {
     a.next = FlatTalker {
         timing: t.timing,
         period: a.next.period,
@@ -288,7 +409,7 @@ fn charge_1001(bytes: &[u8], reading: &mut FlatGroupReading) {
 fn mark_refused(bytes: &[u8], reading: &mut FlatGroupReading) {
     let marked = reading.group.code == 0x77 && reading.group.first == 0xFFFE;
     if bytes.len() == 8 && marked {
-        (reading.outcome, reading.refusal) = (1, 10);
+        reading.refusal = 10;
         reading.group = FlatGroup::default();
     }
 }
@@ -346,7 +467,7 @@ fn refused_writes(group: FlatGroup, bytes: &mut [u8], done: &mut FlatGroupWritin
     }
 }
 
-fn unreliable(code: u8, finding: &mut FlatFinding) {
+fn unreliable(code: u8, finding: &mut FlatGroupFinding) {
     if code == 0x78 {
         finding.row.reliable = false;
     }

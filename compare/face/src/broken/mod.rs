@@ -10,31 +10,31 @@ use crate::Reference;
 /// Where the mistake is: what is made of the right answer to a call, with what the call was given.
 #[derive(Clone, Copy)]
 pub enum Mistake {
-    SenderMake(fn([u16; 3], &mut SenderMade)),
-    SenderBegin(fn(FlatSender, &[u8], &mut SenderAnswer)),
-    SenderPost(fn(FlatSender, &[u8], &mut SenderAnswer)),
-    SenderTick(fn(FlatSender, &[u8], &mut SenderAnswer)),
-    SenderHear(fn(FlatSender, FlatFrame, &mut SenderAnswer)),
-    ReceiverMake(fn([u16; 3], &mut ReceiverMade)),
-    ReceiverTick(fn(FlatReceiver, &mut ReceiverAnswer)),
-    ReceiverHear(fn(FlatReceiver, FlatFrame, &mut [u8], &mut ReceiverAnswer)),
-    Join(fn(FlatParts, &mut FlatJoined)),
-    Part(fn(u32, &mut FlatParted)),
+    SenderMake(fn([u16; 3], &mut FlatSenderMade)),
+    SenderBegin(fn(FlatSender, &[u8], &mut FlatSenderAnswer)),
+    SenderPost(fn(FlatSender, &[u8], &mut FlatSenderAnswer)),
+    SenderTick(fn(FlatSender, &[u8], &mut FlatSenderAnswer)),
+    SenderHear(fn(FlatSender, FlatFrame, &mut FlatSenderAnswer)),
+    ReceiverMake(fn([u16; 3], &mut FlatReceiverMade)),
+    ReceiverTick(fn(FlatReceiver, &mut FlatReceiverAnswer)),
+    ReceiverHear(fn(FlatReceiver, FlatFrame, &mut [u8], &mut FlatReceiverAnswer)),
+    Join(fn(FlatIdentifierParts, &mut FlatIdentifierJoining)),
+    Split(fn(u32, &mut FlatIdentifierSplitting)),
     /// Of the four named numbers, in the order of the face.
     Named(fn([u32; 4]) -> [u32; 4]),
-    List(fn(&[u8], &mut FlatListing)),
-    MessageWrite(fn(FlatMessage, &mut FlatBytes)),
-    MessageRead(fn(FlatBytes, &mut FlatMessageReading)),
-    TalkerMake(fn(&mut FlatTalker)),
-    TalkerConnect(fn(FlatTalker, &mut FlatAnswer)),
-    TalkerTick(fn(FlatTalker, &mut FlatAnswer)),
-    TalkerHear(fn(FlatTalker, FlatBytes, &mut FlatAnswer)),
-    TalkerStop(fn(FlatTalker, &mut FlatAnswer)),
-    TalkerGreet(fn(FlatTalker, &mut FlatAnswer)),
-    TalkerFunctionsHeard(fn(FlatTalker, &mut FlatAnswer)),
+    List(fn(&[u8], &mut FlatVersionListing)),
+    MessageWrite(fn(FlatVersionMessage, &mut FlatVersionWriting)),
+    MessageRead(fn(FlatVersionBytes, &mut FlatVersionReading)),
+    TalkerMake(fn(u8, FlatVersions, &mut FlatTalkerMade)),
+    TalkerConnect(fn(FlatTalker, &mut FlatTalkerAnswer)),
+    TalkerTick(fn(FlatTalker, &mut FlatTalkerAnswer)),
+    TalkerHear(fn(FlatTalker, FlatVersionBytes, &mut FlatTalkerAnswer)),
+    TalkerStop(fn(FlatTalker, &mut FlatTalkerAnswer)),
+    TalkerGreet(fn(FlatTalker, &mut FlatTalkerAnswer)),
+    TalkerFunctionsHeard(fn(FlatTalker, &mut FlatTalkerAnswer)),
     GroupRead(fn(&[u8], &mut FlatGroupReading)),
     GroupWrite(fn(FlatGroup, &mut [u8], &mut FlatGroupWriting)),
-    GroupFind(fn(u8, &mut FlatFinding)),
+    GroupFind(fn(u8, &mut FlatGroupFinding)),
 }
 
 /// A reference with this mistake.
@@ -57,37 +57,37 @@ macro_rules! answered {
 }
 
 impl Ends for Broken {
-    fn sender_make(&self, gap: u16, timeout: u16, limit: u16) -> SenderMade {
+    fn sender_make(&self, gap: u16, timeout: u16, limit: u16) -> FlatSenderMade {
         let right = Reference.sender_make(gap, timeout, limit);
         answered!(self, right, SenderMake, [gap, timeout, limit])
     }
 
-    fn sender_begin(&self, sender: FlatSender, message: &[u8]) -> SenderAnswer {
+    fn sender_begin(&self, sender: FlatSender, message: &[u8]) -> FlatSenderAnswer {
         let right = Reference.sender_begin(sender, message);
         answered!(self, right, SenderBegin, sender, message)
     }
 
-    fn sender_post(&self, sender: FlatSender, message: &[u8]) -> SenderAnswer {
+    fn sender_post(&self, sender: FlatSender, message: &[u8]) -> FlatSenderAnswer {
         let right = Reference.sender_post(sender, message);
         answered!(self, right, SenderPost, sender, message)
     }
 
-    fn sender_tick(&self, sender: FlatSender, message: &[u8]) -> SenderAnswer {
+    fn sender_tick(&self, sender: FlatSender, message: &[u8]) -> FlatSenderAnswer {
         let right = Reference.sender_tick(sender, message);
         answered!(self, right, SenderTick, sender, message)
     }
 
-    fn sender_hear(&self, sender: FlatSender, frame: FlatFrame) -> SenderAnswer {
+    fn sender_hear(&self, sender: FlatSender, frame: FlatFrame) -> FlatSenderAnswer {
         let right = Reference.sender_hear(sender, frame);
         answered!(self, right, SenderHear, sender, frame)
     }
 
-    fn receiver_make(&self, timeout: u16, window: u16, capacity: u16) -> ReceiverMade {
+    fn receiver_make(&self, timeout: u16, window: u16, capacity: u16) -> FlatReceiverMade {
         let right = Reference.receiver_make(timeout, window, capacity);
         answered!(self, right, ReceiverMake, [timeout, window, capacity])
     }
 
-    fn receiver_tick(&self, receiver: FlatReceiver) -> ReceiverAnswer {
+    fn receiver_tick(&self, receiver: FlatReceiver) -> FlatReceiverAnswer {
         answered!(
             self,
             Reference.receiver_tick(receiver),
@@ -101,7 +101,7 @@ impl Ends for Broken {
         receiver: FlatReceiver,
         frame: FlatFrame,
         buffer: &mut [u8],
-    ) -> ReceiverAnswer {
+    ) -> FlatReceiverAnswer {
         let right = Reference.receiver_hear(receiver, frame, buffer);
         answered!(self, right, ReceiverHear, receiver, frame, buffer)
     }
@@ -112,8 +112,8 @@ impl Broken {
         let right = [
             Reference.charger_address(),
             Reference.vehicle_address(),
-            Reference.charger_version(),
-            Reference.vehicle_version(),
+            Reference.charger_version_identifier(),
+            Reference.vehicle_version_identifier(),
         ];
         match self.0 {
             Mistake::Named(spoil) => spoil(right),
@@ -123,15 +123,15 @@ impl Broken {
 }
 
 impl Around for Broken {
-    fn identifier_join(&self, parts: FlatParts) -> FlatJoined {
+    fn identifier_join(&self, parts: FlatIdentifierParts) -> FlatIdentifierJoining {
         answered!(self, Reference.identifier_join(parts), Join, parts)
     }
 
-    fn identifier_part(&self, identifier: u32) -> FlatParted {
+    fn identifier_split(&self, identifier: u32) -> FlatIdentifierSplitting {
         answered!(
             self,
-            Reference.identifier_part(identifier),
-            Part,
+            Reference.identifier_split(identifier),
+            Split,
             identifier
         )
     }
@@ -144,34 +144,34 @@ impl Around for Broken {
         self.named()[1]
     }
 
-    fn charger_version(&self) -> u32 {
+    fn charger_version_identifier(&self) -> u32 {
         self.named()[2]
     }
 
-    fn vehicle_version(&self) -> u32 {
+    fn vehicle_version_identifier(&self) -> u32 {
         self.named()[3]
     }
 
-    fn version_list(&self, bytes: &[u8]) -> FlatListing {
+    fn version_list(&self, bytes: &[u8]) -> FlatVersionListing {
         answered!(self, Reference.version_list(bytes), List, bytes)
     }
 
-    fn version_message_write(&self, message: FlatMessage) -> FlatBytes {
+    fn version_message_write(&self, message: FlatVersionMessage) -> FlatVersionWriting {
         let right = Reference.version_message_write(message);
         answered!(self, right, MessageWrite, message)
     }
 
-    fn version_message_read(&self, bytes: FlatBytes) -> FlatMessageReading {
+    fn version_message_read(&self, bytes: FlatVersionBytes) -> FlatVersionReading {
         let right = Reference.version_message_read(bytes);
         answered!(self, right, MessageRead, bytes)
     }
 
-    fn talker_make(&self, side: u8, versions: FlatVersions, control: u8) -> FlatTalker {
+    fn talker_make(&self, side: u8, versions: FlatVersions, control: u8) -> FlatTalkerMade {
         let right = Reference.talker_make(side, versions, control);
-        answered!(self, right, TalkerMake,)
+        answered!(self, right, TalkerMake, side, versions)
     }
 
-    fn talker_connect(&self, talker: FlatTalker) -> FlatAnswer {
+    fn talker_connect(&self, talker: FlatTalker) -> FlatTalkerAnswer {
         answered!(
             self,
             Reference.talker_connect(talker),
@@ -180,24 +180,24 @@ impl Around for Broken {
         )
     }
 
-    fn talker_tick(&self, talker: FlatTalker) -> FlatAnswer {
+    fn talker_tick(&self, talker: FlatTalker) -> FlatTalkerAnswer {
         answered!(self, Reference.talker_tick(talker), TalkerTick, talker)
     }
 
-    fn talker_hear(&self, talker: FlatTalker, bytes: FlatBytes) -> FlatAnswer {
+    fn talker_hear(&self, talker: FlatTalker, bytes: FlatVersionBytes) -> FlatTalkerAnswer {
         let right = Reference.talker_hear(talker, bytes);
         answered!(self, right, TalkerHear, talker, bytes)
     }
 
-    fn talker_stop(&self, talker: FlatTalker) -> FlatAnswer {
+    fn talker_stop(&self, talker: FlatTalker) -> FlatTalkerAnswer {
         answered!(self, Reference.talker_stop(talker), TalkerStop, talker)
     }
 
-    fn talker_greet(&self, talker: FlatTalker) -> FlatAnswer {
+    fn talker_greet(&self, talker: FlatTalker) -> FlatTalkerAnswer {
         answered!(self, Reference.talker_greet(talker), TalkerGreet, talker)
     }
 
-    fn talker_functions_heard(&self, talker: FlatTalker) -> FlatAnswer {
+    fn talker_functions_heard(&self, talker: FlatTalker) -> FlatTalkerAnswer {
         let right = Reference.talker_functions_heard(talker);
         answered!(self, right, TalkerFunctionsHeard, talker)
     }
@@ -211,7 +211,7 @@ impl Around for Broken {
         answered!(self, right, GroupWrite, group, bytes)
     }
 
-    fn group_find(&self, code: u8) -> FlatFinding {
+    fn group_find(&self, code: u8) -> FlatGroupFinding {
         answered!(self, Reference.group_find(code), GroupFind, code)
     }
 }

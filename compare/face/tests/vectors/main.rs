@@ -41,7 +41,7 @@ fn the_proved_code_answers_as_the_table_says() {
     check(&face::ffi::Proved);
 }
 
-/// All but the three in counts and places above 255, which no line has.
+/// All but the two in lists and places above 255, which no line has.
 #[test]
 fn the_table_catches_every_mistake() {
     let missed: Vec<&str> = MISTAKES
@@ -51,7 +51,6 @@ fn the_table_catches_every_mistake() {
         .collect();
     let wide = [
         "a list is counted modulo 256",
-        "made at the count's low byte",
         "a place is taken modulo 256",
     ];
     assert_eq!(missed, wide);

@@ -12,44 +12,50 @@ pub fn answer(face: &impl Around, call: &str, words: &[&str]) -> String {
     match call {
         "find" => {
             let found = face.group_find(byte(words[0]));
-            told(found.outcome, found.refusal, found.row, row)
+            told(found.refusal, found.row, row)
         }
         "read" => {
             let read = face.group_read(&bytes(words));
-            told(read.outcome, read.refusal, read.group, group)
+            told(read.refusal, read.group, group)
         }
         "write" => write(face, words),
         "named" => {
             let [secc, evcc] = [face.charger_address(), face.vehicle_address()];
-            let [charger, vehicle] = [face.charger_version(), face.vehicle_version()];
+            let [charger, vehicle] = [
+                face.charger_version_identifier(),
+                face.vehicle_version_identifier(),
+            ];
             format!(" {secc:X} {evcc:X} {charger:08X} {vehicle:08X}")
         }
         "join" => {
             let joined = face.identifier_join(parts_of(words));
             let tell = |identifier| format!(" {identifier:08X}");
-            told(joined.outcome, joined.refusal, joined.identifier, tell)
+            told(joined.refusal, joined.identifier, tell)
         }
-        "part" => {
+        "split" => {
             let [identifier] = hexadecimal(words);
-            let parted = face.identifier_part(identifier);
-            told(parted.outcome, parted.refusal, parted.parts, parts)
+            let split = face.identifier_split(identifier);
+            told(split.refusal, split.parts, parts)
         }
         "list" => {
             let listed = face.version_list(&bytes(words));
-            told(listed.outcome, listed.refusal, listed.versions, versions)
+            told(listed.refusal, listed.versions, versions)
         }
         "message" => {
             let bytes = eight(words);
-            let read = face.version_message_read(FlatBytes { bytes });
-            told(read.outcome, read.refusal, read.message, message)
+            let read = face.version_message_read(FlatVersionBytes { bytes });
+            told(read.refusal, read.message, message)
         }
-        "say" => hex(&face.version_message_write(message_of(words)).bytes),
+        "say" => {
+            let written = face.version_message_write(message_of(words));
+            told(written.refusal, written.bytes, |said| hex(&said.bytes))
+        }
         _ => panic!("no such call: {call}"),
     }
 }
 
-fn row(row: FlatRow) -> String {
-    let sender = ["charger", "vehicle"][usize::from(row.sender)];
+fn row(row: FlatGroupRow) -> String {
+    let sender = ["charger", "vehicle"][usize::from(row.side)];
     let reliable = if row.reliable { " reliable" } else { "" };
     let kinds = [row.first, row.second, row.third, row.fourth].map(|kind| format!(" {kind}"));
     let kinds = kinds.concat();
@@ -75,17 +81,17 @@ fn write(face: &impl Around, words: &[&str]) -> String {
     assert_eq!(words[5], "into");
     let mut lent = bytes(&words[6..]);
     let done = face.group_write(group, &mut lent);
-    told(done.outcome, done.refusal, (), |()| " done".into()) + &hex(&lent)
+    told(done.refusal, (), |()| " done".into()) + &hex(&lent)
 }
 
-fn parts(parts: FlatParts) -> String {
+fn parts(parts: FlatIdentifierParts) -> String {
     let parts = [parts.p, parts.edp, parts.dp, parts.pf, parts.ps, parts.sa];
     parts.map(|part| format!(" {part:X}")).concat()
 }
 
-fn parts_of(words: &[&str]) -> FlatParts {
+fn parts_of(words: &[&str]) -> FlatIdentifierParts {
     let [p, edp, dp, pf, ps, sa] = hexadecimal(words);
-    FlatParts {
+    FlatIdentifierParts {
         p,
         edp,
         dp,
@@ -95,7 +101,7 @@ fn parts_of(words: &[&str]) -> FlatParts {
     }
 }
 
-fn message(message: FlatMessage) -> String {
+fn message(message: FlatVersionMessage) -> String {
     let result = RESULTS[usize::from(message.verdict)];
     format!(
         " {result} {} {:02X}",
@@ -104,10 +110,11 @@ fn message(message: FlatMessage) -> String {
     )
 }
 
-fn message_of(words: &[&str]) -> FlatMessage {
-    let verdict = RESULTS.iter().position(|&result| result == words[0]);
-    FlatMessage {
-        verdict: verdict.expect("a result") as u8,
+fn message_of(words: &[&str]) -> FlatVersionMessage {
+    let named = RESULTS.iter().position(|&result| result == words[0]);
+    let verdict = named.map_or_else(|| byte(words[0]), |place| place as u8);
+    FlatVersionMessage {
+        verdict,
         version: version_of(words[1]),
         control: byte(words[2]),
     }

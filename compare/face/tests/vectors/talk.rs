@@ -4,7 +4,7 @@ use face::interface::Around;
 use face::values::*;
 
 use crate::single;
-use crate::words::{byte, bytes, eight, hex, told, version, RESULTS};
+use crate::words::{byte, bytes, eight, hex, hexadecimal, told, version, RESULTS};
 
 /// A side, what it said last, and how many messages it sent.
 #[derive(Clone, Copy)]
@@ -47,18 +47,18 @@ fn told_talker(talker: FlatTalker) -> String {
 }
 
 /// The talker after a call, its message, and its report.
-fn told_answer(answer: FlatAnswer) -> String {
+fn told_answer(answer: FlatTalkerAnswer) -> String {
     let message = match (answer.emits, answer.bytes) {
-        (true, bytes) => format!(" says{}", hex(&bytes)),
-        (false, [0, 0, 0, 0, 0, 0, 0, 0]) => String::new(),
-        (false, bytes) => format!(" keeps{}", hex(&bytes)),
+        (true, said) => format!(" says{}", hex(&said.bytes)),
+        (false, none) if none == FlatVersionBytes::default() => String::new(),
+        (false, kept) => format!(" keeps{}", hex(&kept.bytes)),
     };
     let report = match (answer.outcome, answer.refusal, answer.version) {
         (0, 0, 0) => String::new(),
         (1, number, 0) => format!(" refused {number}"),
-        (2, 0, agreed) => format!(" agreed {}", version(agreed)),
+        (6, 0, agreed) => format!(" agreed {}", version(agreed)),
         (3, 0, 0) => " failed".into(),
-        (4, 0, 0) => " left".into(),
+        (7, 0, 0) => " left".into(),
         other => format!(" {other:?}"),
     };
     told_talker(answer.next) + &message + &report
@@ -90,6 +90,9 @@ impl<'a, F: Around> Talk<'a, F> {
             ["make", side, control, "with", ref list @ ..] => {
                 format!("{call}:{}\n", self.make(side, control, list))
             }
+            ["talker", count, "of", ref numbers @ ..] => {
+                format!("{call}:{}\n", self.made_of(count, numbers))
+            }
             [_, "C" | "V"] => String::new(),
             [_, "said"] => {
                 let [charger, vehicle] = self.sides.map(|side| side.sent);
@@ -108,18 +111,28 @@ impl<'a, F: Around> Talk<'a, F> {
 
     fn make(&mut self, side: &str, control: &str, list: &[&str]) -> String {
         let listed = self.face.version_list(&bytes(list));
-        told(
-            listed.outcome,
-            listed.refusal,
-            listed.versions,
-            |versions| {
-                let place = place(side);
-                let made = self.face.talker_make(place as u8, versions, byte(control));
-                self.sides[place] = Speaker::new(made);
+        told(listed.refusal, listed.versions, |versions| {
+            let place = place(side);
+            let made = self.face.talker_make(place as u8, versions, byte(control));
+            told(made.refusal, made.talker, |talker| {
+                self.sides[place] = Speaker::new(talker);
                 self.clock = 0;
-                told_talker(made)
-            },
-        )
+                told_talker(talker)
+            })
+        })
+    }
+
+    /// A talker of a count and up to eight numbers, 0 in the places left; it is not kept.
+    fn made_of(&self, count: &str, words: &[&str]) -> String {
+        let mut numbers = [0; 8];
+        for (place, word) in numbers.iter_mut().zip(words) {
+            let [number] = hexadecimal(&[word]);
+            *place = number;
+        }
+        let count = count.parse().expect("a count");
+        let versions = FlatVersions { count, numbers };
+        let made = self.face.talker_make(1, versions, 0x0A);
+        told(made.refusal, made.talker, told_talker)
     }
 
     fn call(&mut self, place: usize, name: &str, heard: &[&str]) -> String {
@@ -133,18 +146,18 @@ impl<'a, F: Around> Talk<'a, F> {
             "stop" => self.face.talker_stop(talker),
             "greet" => self.face.talker_greet(talker),
             "functions" => self.face.talker_functions_heard(talker),
-            "hear" => self.face.talker_hear(talker, FlatBytes { bytes }),
+            "hear" => self.face.talker_hear(talker, FlatVersionBytes { bytes }),
             _ => panic!("no such call: {name}"),
         };
         self.take(place, answer);
         told_answer(answer)
     }
 
-    fn take(&mut self, place: usize, answer: FlatAnswer) {
+    fn take(&mut self, place: usize, answer: FlatTalkerAnswer) {
         let side = &mut self.sides[place];
         side.talker = answer.next;
         if answer.emits {
-            side.last = answer.bytes;
+            side.last = answer.bytes.bytes;
             side.sent += 1;
         }
     }

@@ -26,11 +26,12 @@ pub fn hexadecimal<const COUNT: usize>(words: &[&str]) -> [u32; COUNT] {
     numbers.try_into().expect("so many numbers")
 }
 
-/// Major, minor and temporary number.
+/// Major, minor and temporary number; a number of four bytes is no version.
 pub fn version(number: u32) -> String {
-    let [above, major, minor, temporary] = number.to_be_bytes();
-    assert_eq!(above, 0, "a version of three bytes");
-    format!("{major}.{minor}.{temporary}")
+    match number.to_be_bytes() {
+        [0, major, minor, temporary] => format!("{major}.{minor}.{temporary}"),
+        _ => format!("{number:X}"),
+    }
 }
 
 pub fn version_of(word: &str) -> u32 {
@@ -49,14 +50,13 @@ pub fn versions(list: FlatVersions) -> String {
 
 /// What was asked for, or the refusal, with which nothing else is answered.
 pub fn told<T: Default + PartialEq>(
-    outcome: u8,
     refusal: u8,
     value: T,
     tell: impl FnOnce(T) -> String,
 ) -> String {
-    match (outcome, refusal) {
-        (0, 0) => tell(value),
-        (1, number) if value == T::default() => format!(" refused {number}"),
-        _ => format!(" outcome {outcome}, refusal {refusal}"),
+    match refusal {
+        0 => tell(value),
+        number if value == T::default() => format!(" refused {number}"),
+        number => format!(" refused {number} with a value"),
     }
 }

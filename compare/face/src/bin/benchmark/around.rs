@@ -17,14 +17,14 @@ const CHARGER: [Version; 4] = [[1, 1, 0], [2, 0, 0], [2, 0, 1], [3, 0, 0]];
 const IDENTIFIER: u32 = 0x0C38_F456;
 const VEHICLE: [Version; 3] = [[1, 1, 0], [2, 0, 1], [2, 1, 0]];
 
-fn joins(face: impl Around) -> impl FnMut() -> FlatJoined {
-    let parts = face.identifier_part(IDENTIFIER).parts;
+fn joins(face: impl Around) -> impl FnMut() -> FlatIdentifierJoining {
+    let parts = face.identifier_split(IDENTIFIER).parts;
     given(parts, move |parts| face.identifier_join(*parts))
 }
 
-fn divides(face: impl Around) -> impl FnMut() -> FlatParted {
+fn divides(face: impl Around) -> impl FnMut() -> FlatIdentifierSplitting {
     given(IDENTIFIER, move |&identifier| {
-        face.identifier_part(identifier)
+        face.identifier_split(identifier)
     })
 }
 
@@ -46,23 +46,23 @@ fn identifier_rows() -> Vec<Row> {
     ]
 }
 
-const MESSAGE: FlatMessage = FlatMessage {
+const MESSAGE: FlatVersionMessage = FlatVersionMessage {
     verdict: 1,
     version: 0x020001,
     control: 9,
 };
 
-fn lists(face: impl Around) -> impl FnMut() -> FlatListing {
+fn lists(face: impl Around) -> impl FnMut() -> FlatVersionListing {
     let bytes = CHARGER.concat();
     given(bytes, move |bytes| face.version_list(bytes))
 }
 
-fn writes_message(face: impl Around) -> impl FnMut() -> FlatBytes {
+fn writes_message(face: impl Around) -> impl FnMut() -> FlatVersionWriting {
     given(MESSAGE, move |message| face.version_message_write(*message))
 }
 
-fn reads_message(face: impl Around) -> impl FnMut() -> FlatMessageReading {
-    let bytes = face.version_message_write(MESSAGE);
+fn reads_message(face: impl Around) -> impl FnMut() -> FlatVersionReading {
+    let bytes = face.version_message_write(MESSAGE).bytes;
     given(bytes, move |bytes| face.version_message_read(*bytes))
 }
 
@@ -100,10 +100,12 @@ fn version_rows() -> Vec<Row> {
 /// A charger with four versions that has connected: S1.
 fn talking() -> FlatTalker {
     let list = Proved.version_list(&CHARGER.concat()).versions;
-    Proved.talker_connect(Proved.talker_make(0, list, 1)).next
+    Proved
+        .talker_connect(Proved.talker_make(0, list, 1).talker)
+        .next
 }
 
-fn talker_ticks(face: impl Around, talker: FlatTalker) -> impl FnMut() -> FlatAnswer {
+fn talker_ticks(face: impl Around, talker: FlatTalker) -> impl FnMut() -> FlatTalkerAnswer {
     given(talker, move |talker| face.talker_tick(*talker))
 }
 
@@ -111,10 +113,11 @@ fn talker_hears(
     face: impl Around,
     talker: FlatTalker,
     bytes: [u8; 8],
-) -> impl FnMut() -> FlatAnswer {
-    given((talker, FlatBytes { bytes }), move |(talker, bytes)| {
-        face.talker_hear(*talker, *bytes)
-    })
+) -> impl FnMut() -> FlatTalkerAnswer {
+    given(
+        (talker, FlatVersionBytes { bytes }),
+        move |(talker, bytes)| face.talker_hear(*talker, *bytes),
+    )
 }
 
 /// The reference's talker is changed in place and its counts put back: a copy would be an allocation.
@@ -165,16 +168,15 @@ fn talker_rows() -> Vec<Row> {
 fn talk(face: impl Around, charger: &[u8], vehicle: &[u8]) -> u64 {
     let lists = [charger, vehicle].map(|bytes| face.version_list(bytes).versions);
     let mut said = [0, 1].map(|side| {
-        let talker = face.talker_make(side, lists[usize::from(side)], 1);
-        face.talker_connect(talker)
+        let made = face.talker_make(side, lists[usize::from(side)], 1);
+        face.talker_connect(made.talker)
     });
     let mut calls = 6;
     while said.iter().any(|answer| answer.next.state == 1) {
         for side in [0, 1] {
             let other = said[1 - side];
             if other.emits {
-                let bytes = FlatBytes { bytes: other.bytes };
-                let answer = face.talker_hear(said[side].next, bytes);
+                let answer = face.talker_hear(said[side].next, other.bytes);
                 calls += 1;
                 said[1 - side].emits = false;
                 said[side].next = answer.next;
@@ -259,7 +261,7 @@ fn writes_group(face: impl Around, group: FlatGroup) -> impl FnMut() -> FlatGrou
     }
 }
 
-fn finds_group(face: impl Around, code: u8) -> impl FnMut() -> FlatFinding {
+fn finds_group(face: impl Around, code: u8) -> impl FnMut() -> FlatGroupFinding {
     given(code, move |&code| face.group_find(code))
 }
 

@@ -25,7 +25,7 @@ fn frame(kind: u8, first: &[u8]) -> FlatFrame {
 }
 
 fn idle_sender() -> FlatSender {
-    Proved.sender_make(2, 10, 60000).end
+    Proved.sender_make(2, 10, 60000).sender
 }
 
 /// Opening, with 1785 bytes begun.
@@ -42,7 +42,7 @@ fn sending() -> FlatSender {
 fn waiting() -> FlatSender {
     FlatSender {
         phase: 3,
-        next: 0,
+        due: 0,
         count: 0,
         ..sending()
     }
@@ -69,31 +69,47 @@ fn over(sender: FlatSender) -> FlatSender {
 
 type Message = &'static [u8];
 
-fn begins(face: impl Ends, sender: FlatSender, message: Message) -> impl FnMut() -> SenderAnswer {
+fn begins(
+    face: impl Ends,
+    sender: FlatSender,
+    message: Message,
+) -> impl FnMut() -> FlatSenderAnswer {
     given((sender, message), move |(sender, message)| {
         face.sender_begin(*sender, message)
     })
 }
 
-fn ticks(face: impl Ends, sender: FlatSender, message: Message) -> impl FnMut() -> SenderAnswer {
+fn ticks(
+    face: impl Ends,
+    sender: FlatSender,
+    message: Message,
+) -> impl FnMut() -> FlatSenderAnswer {
     given((sender, message), move |(sender, message)| {
         face.sender_tick(*sender, message)
     })
 }
 
-fn hears(face: impl Ends, sender: FlatSender, frame: FlatFrame) -> impl FnMut() -> SenderAnswer {
+fn hears(
+    face: impl Ends,
+    sender: FlatSender,
+    frame: FlatFrame,
+) -> impl FnMut() -> FlatSenderAnswer {
     given((sender, frame), move |(sender, frame)| {
         face.sender_hear(*sender, *frame)
     })
 }
 
-fn posts(face: impl Ends, sender: FlatSender, message: Message) -> impl FnMut() -> SenderAnswer {
+fn posts(
+    face: impl Ends,
+    sender: FlatSender,
+    message: Message,
+) -> impl FnMut() -> FlatSenderAnswer {
     given((sender, message), move |(sender, message)| {
         face.sender_post(*sender, message)
     })
 }
 
-fn makes_sender(face: impl Ends) -> impl FnMut() -> SenderMade {
+fn makes_sender(face: impl Ends) -> impl FnMut() -> FlatSenderMade {
     given((2, 10, 60000), move |&(gap, timeout, limit)| {
         face.sender_make(gap, timeout, limit)
     })
@@ -191,7 +207,7 @@ pub fn sender_rows() -> Vec<Row> {
 }
 
 fn idle_receiver() -> FlatReceiver {
-    Proved.receiver_make(10, 10, 1785).end
+    Proved.receiver_make(10, 10, 1785).receiver
 }
 
 /// Open for 1785 bytes, 101 expected at the start of a window.
@@ -215,13 +231,13 @@ fn delivered() -> FlatReceiver {
     }
 }
 
-fn makes_receiver(face: impl Ends) -> impl FnMut() -> ReceiverMade {
+fn makes_receiver(face: impl Ends) -> impl FnMut() -> FlatReceiverMade {
     given((10, 10, 1785), move |&(timeout, window, capacity)| {
         face.receiver_make(timeout, window, capacity)
     })
 }
 
-fn receiver_ticks(face: impl Ends, receiver: FlatReceiver) -> impl FnMut() -> ReceiverAnswer {
+fn receiver_ticks(face: impl Ends, receiver: FlatReceiver) -> impl FnMut() -> FlatReceiverAnswer {
     given(receiver, move |receiver| face.receiver_tick(*receiver))
 }
 
@@ -230,7 +246,7 @@ fn receiver_hears(
     receiver: FlatReceiver,
     frame: FlatFrame,
     lent: usize,
-) -> impl FnMut() -> ReceiverAnswer {
+) -> impl FnMut() -> FlatReceiverAnswer {
     let (mut buffer, flat) = (vec![0; lent], (receiver, frame));
     move || {
         let buffer = black_box(&mut buffer);
@@ -305,10 +321,10 @@ pub fn receiver_rows() -> Vec<Row> {
 
 /// Both ends behind a face from begin to sent, nothing lost; how many calls that took.
 fn transfer(face: impl Ends, message: &[u8], buffer: &mut [u8]) -> u64 {
-    let mut receiver = face.receiver_make(10, 10, 1785).end;
-    let mut said = face.sender_begin(face.sender_make(1, 10, 60000).end, message);
+    let mut receiver = face.receiver_make(10, 10, 1785).receiver;
+    let mut said = face.sender_begin(face.sender_make(1, 10, 60000).sender, message);
     let mut calls = 3;
-    while said.outcome != 2 {
+    while said.outcome != 5 {
         if !said.emits {
             said = face.sender_tick(said.next, message);
             calls += 1;

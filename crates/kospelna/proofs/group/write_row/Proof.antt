@@ -5,11 +5,11 @@ use Rattle.kospelna.proofs.GroupLaws.{group-paths}
 use Rattle.kospelna.proofs.group.write_row.Statement.{statement}
 use Rattle.kospelna.proofs.group.write_row.Tie as tie
 
-sender-number-requires : tie.Need-sender-number-requires
-sender-number-requires c κs = search needs
+side-number-requires : tie.Need-side-number-requires
+side-number-requires c κs = search needs
 
 returns : tie.Need-returns
 returns c = search group-paths
 
 pub write-row-spec : {M : Type 1} → statement M
-write-row-spec = tie.close (tie.spec sender-number-requires returns)
+write-row-spec = tie.close (tie.spec side-number-requires returns)

@@ -11,12 +11,12 @@ read-parts-requires c κs = search needs
 join-requires : tie.Need-join-requires
 join-requires c κs = search needs
 
-write-joined-requires : tie.Need-write-joined-requires
-write-joined-requires c κs = search needs
+write-joining-requires : tie.Need-write-joining-requires
+write-joining-requires c κs = search needs
 
 returns : tie.Need-returns
 returns c = search identify-paths
 
 pub kospelna-identifier-join-spec : {M : Type 1} → statement M
 kospelna-identifier-join-spec =
-    tie.close (tie.spec read-parts-requires join-requires write-joined-requires returns)
+    tie.close (tie.spec read-parts-requires join-requires write-joining-requires returns)

@@ -1,4 +1,4 @@
--- `kospelna::talk::kospelna_talker_make` meets its contract. The talker of what was read is written.
+-- `kospelna::talk::kospelna_talker_make` meets its contract. What making answers of what was read is written.
 -- Assumes nothing.
 use borrow.Author.Needs.{needs}
 use Rattle.kospelna.proofs.TalkLaws.{talker-paths}
@@ -14,8 +14,8 @@ read-versions-requires c κs = search needs
 make-requires : tie.Need-make-requires
 make-requires c κs = search needs
 
-write-talker-requires : tie.Need-write-talker-requires
-write-talker-requires c κs = search needs
+write-made-requires : tie.Need-write-made-requires
+write-made-requires c κs = search needs
 
 returns : tie.Need-returns
 returns c = search talker-paths
@@ -27,5 +27,5 @@ kospelna-talker-make-spec =
     read-side-requires
     read-versions-requires
     make-requires
-    write-talker-requires
+    write-made-requires
     returns)

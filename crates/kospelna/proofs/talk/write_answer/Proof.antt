@@ -8,6 +8,9 @@ use Rattle.kospelna.proofs.talk.write_answer.Tie as tie
 write-talker-requires : tie.Need-write-talker-requires
 write-talker-requires c κs = search needs
 
+write-bytes-requires : tie.Need-write-bytes-requires
+write-bytes-requires c κs = search needs
+
 outcome-number-requires : tie.Need-outcome-number-requires
 outcome-number-requires c κs = search needs
 
@@ -25,6 +28,7 @@ write-answer-spec =
     tie.close
     (tie.spec
     write-talker-requires
+    write-bytes-requires
     outcome-number-requires
     outcome-refusal-requires
     outcome-version-requires

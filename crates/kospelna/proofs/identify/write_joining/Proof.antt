@@ -1,9 +1,9 @@
--- `kospelna::identify::write_joined` meets its contract. By the answer.
+-- `kospelna::identify::write_joining` meets its contract. By the answer.
 -- Assumes nothing.
 use borrow.Author.Needs.{needs}
 use Rattle.kospelna.proofs.IdentifyLaws.{identify-paths}
-use Rattle.kospelna.proofs.identify.write_joined.Statement.{statement}
-use Rattle.kospelna.proofs.identify.write_joined.Tie as tie
+use Rattle.kospelna.proofs.identify.write_joining.Statement.{statement}
+use Rattle.kospelna.proofs.identify.write_joining.Tie as tie
 
 enum-known-joined : tie.Need-enum-known-joined
 enum-known-joined c = search needs
@@ -17,5 +17,5 @@ returns c = search identify-paths
 returns-2 : tie.Need-returns-2
 returns-2 c = search identify-paths
 
-pub write-joined-spec : {M : Type 1} → statement M
-write-joined-spec = tie.close (tie.spec enum-known-joined enum-known-joined-2 returns returns-2)
+pub write-joining-spec : {M : Type 1} → statement M
+write-joining-spec = tie.close (tie.spec enum-known-joined enum-known-joined-2 returns returns-2)
