@@ -14,11 +14,11 @@ ROOT = os.path.dirname(os.path.dirname(os.path.abspath(__file__)))
 def told_of(change):
     """Status and lines for the tree with its page changed."""
     with tempfile.TemporaryDirectory() as folder:
-        for part in ("crates", "compare", "include", "samples", "tests", "tools", "examples", "README.md", "play", "crates.txt"):
-            if os.path.exists(f"{ROOT}/{part}"):
+        for part in os.listdir(ROOT):
+            if part in (".ci", "docs"):
+                shutil.copytree(f"{ROOT}/{part}", f"{folder}/{part}")
+            elif not part.startswith("."):
                 os.symlink(f"{ROOT}/{part}", f"{folder}/{part}")
-        shutil.copytree(f"{ROOT}/.ci", f"{folder}/.ci")
-        shutil.copytree(f"{ROOT}/docs", f"{folder}/docs")
         page = f"{folder}/docs/ASSURANCE.md"
         with open(page, encoding="utf-8") as file:
             text = file.read()
@@ -53,6 +53,9 @@ class Page(unittest.TestCase):
 
     def test_a_definition_that_is_not_there(self):
         self.wrong(swap("`unlessThird`", "`unlessFourth`"), "nothing is called unlessFourth")
+
+    def test_a_definition_of_another_crate(self):
+        self.wrong(swap("`tickOpen`", "`tickOpening`"), "nothing is called tickOpening")
 
     def test_a_function_that_is_not_there(self):
         self.wrong(swap("`Sender::post`", "`Sender::poste`"), "nothing is called poste")
