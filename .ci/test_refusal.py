@@ -22,7 +22,7 @@ def refusal(*words, folder=HERE):
 class Stored(unittest.TestCase):
     def test_each_log(self):
         logs = sorted(glob.glob(f"{HERE}/refusals/*.log"))
-        self.assertGreaterEqual(len(logs), 14)
+        self.assertGreaterEqual(len(logs), 15)
         for log in logs:
             kind = os.path.basename(log).split("_")[0]
             with self.subTest(os.path.basename(log)):
