@@ -55,12 +55,22 @@ static void receiver_did(kospelna_receiver_answer a)
         printf("receiver: refused %d\n", a.refusal);
 }
 
-/* Hears what is on the line, and ticks both ends where nothing is, until the sender's report. Each transfer begins with an
- * empty line and an idle receiver, so `sent` means delivered. */
+/* What an earlier transfer may have left: a connection runs out, and frames on the line are dropped. A begin after this
+ * finds the receiver idle and the line empty, so that `sent` means delivered. */
+static void settle(void)
+{
+    while (receiver.phase == KOSPELNA_RECEIVER_OPEN)
+        receiver_did(kospelna_receiver_tick(receiver));
+    forward.first = forward.end;
+    back.first = back.end;
+}
+
+/* Hears what is on the line, and ticks both ends where nothing is, until the sender's report. */
 static void transfer(const char *text, unsigned losing)
 {
     const uint8_t *message = (const uint8_t *)text;
     const size_t length = strlen(text);
+    settle();
     losses = losing;
     carried = lost = 0;
     sender_did(kospelna_sender_begin(sender, message, length));

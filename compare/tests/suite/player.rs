@@ -18,15 +18,8 @@ const GOOD: Settings = Settings {
 const NINE: [u8; 9] = [1, 2, 3, 4, 5, 6, 7, 8, 9];
 const EVENTS: [u8; 7] = [3, 6, 1, 3, 1, 3, 6];
 
-const EXAMPLE: &str = "\
-0 S 1 00 02 09 00 FF FF FF FF
-1 R 2 01 02 FF FF FF FF FF FF
-3 S 1 01 01 02 03 04 05 06 07
-5 S 1 02 08 09 FF FF FF FF FF
-6 R 4 02 09 00 FF FF FF FF FF
-6 R delivered 9
-7 S sent 2 3
-";
+/// What the example prints; `samples/` has it as a file.
+const EXAMPLE: &str = include_str!("../../../samples/document-01.out");
 
 /// The pack of the example, byte by byte from the text: count byte, table, bodies.
 #[test]
