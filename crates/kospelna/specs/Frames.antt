@@ -1,4 +1,4 @@
--- A flat frame and a frame: the same kind and bytes.
+-- A flat frame and a frame: the same kind and bytes. Document 01, Frames.
 use Rattle.frame.specs.declared.Frame.{Frame}
 use Rattle.kospelna.specs.declared.frames.FlatFrame.{FlatFrame}
 

@@ -1,4 +1,5 @@
--- The receiver in C's layouts: what a flat receiver is read as, and how the receiver and its answers are written.
+-- The receiver in C's layouts: what a flat receiver is read as, and how the receiver and its answers are written. Document
+-- 01, The receiver, has its states and reports; the phases' and the outcomes' numbers are the face's own.
 use Prim.Native.Nat.{ℕ}
 use mathlib.Core.Path.{_≡_}
 use mathlib.Core.List.{List}

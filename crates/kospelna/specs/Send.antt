@@ -1,4 +1,5 @@
--- The sender in C's layouts: what a flat sender is read as, and how the sender and its answers are written.
+-- The sender in C's layouts: what a flat sender is read as, and how the sender and its answers are written. Document 01, The
+-- sender, has its states and reports; the phases' and the outcomes' numbers are the face's own.
 use Prim.Native.Nat.{ℕ}
 use mathlib.Core.Path.{_≡_}
 use lib.Dec.{eqb}
