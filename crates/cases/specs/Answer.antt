@@ -17,7 +17,6 @@ use Rattle.sender.specs.declared.Sender.{Sender}
 use Rattle.receiver.specs.Hear as receiver-hear
 use Rattle.receiver.specs.Make as receiver-making
 use Rattle.receiver.specs.Tick as receiver-tick
-use Rattle.receiver.specs.Told as receiver
 use Rattle.receiver.specs.declared.Receiver.{Receiver}
 use Rattle.identifier.specs.Answer as parts
 use Rattle.cases.specs.Row.{Question, begun, acknowledged, senderSilence, receiverSilence, joined, refusal, identifier, short, announces, at}

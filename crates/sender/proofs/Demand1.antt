@@ -6,12 +6,14 @@ use mathlib.Core.Path.{_≡_, refl, sym, _∙_}
 use mathlib.Core.List.{List}
 use native.Mathlib.Omega.{arith}
 use Rattle.frame.proofs.Choice.{pick-elim}
+use Rattle.frame.specs.Result as result
 use Rattle.sender.proofs.Choices.{limit-elim, begin-elim, tick-elim, over-elim, timeout-elim}
 use Rattle.sender.proofs.Heard.{hearing-restarts-no-wait}
 use Rattle.sender.specs.Begin.{beginLong, beginShort, beginOf, postOf}
 use Rattle.sender.specs.Call.{Call, begin, tick, hear, post, answerOf}
 use Rattle.sender.specs.Demand1.{Unchanged, Demand1}
 use Rattle.sender.specs.Heard.{Report, ofSent, ofFailed, Heard, ignored, taken, over}
+use Rattle.sender.specs.Make.{settingsFit, makeOf}
 use Rattle.sender.specs.Tick.{tickOpening, tickSending, tickWaiting, tickShort, tickPhase}
 use Rattle.sender.specs.Told.{Outcome, quiet, refused, failed, Told, refusing}
 use Rattle.sender.specs.declared.Phase.{Phase}
@@ -74,8 +76,12 @@ module _ (s : Sender) where
   calls (hear f) = hears (hearing-restarts-no-wait s f)
   calls (post m) = posts m
 
+makes : (gap timeout limit number : ℕ) → makeOf gap timeout limit ≡ result.refused number → number ≡ 1
+unfolding makeOf
+makes gap timeout limit number =
+    pick-elim (λ m. m ≡ result.refused number → number ≡ 1) (settingsFit gap timeout limit)
+    (λ fit e. let z : _≡_ {A = ℕ} 0 1 = cc in absurd (omega arith))
+    (λ unfit e. cc)
+
 pub demand-1 : Demand1
-demand-1 = record {
-  called = λ s call. calls s call;
-  made = λ gap timeout limit number no s yes. let z : _≡_ {A = ℕ} 0 1 = cc in omega arith;
-}
+demand-1 = record { called = λ s call. calls s call; made = makes }

@@ -25,15 +25,16 @@ use Rattle.frame.specs.declared.Parsed.{Parsed}
 use Rattle.frame.specs.declared.Reading.{Reading}
 use Rattle.frame.specs.declared.Reading.the-variants.{Read, Refused}
 use Rattle.sender.specs.Begin.{lengthFits, begunWith, beginLong, beginShort, beginPhase}
-use Rattle.sender.specs.Hear.{windowLast, sendingFrom, taking, hearAck, hearNack, hearEnd, hearShortAck, hearKind, hearRead, hearOf}
+use Rattle.sender.specs.Hear.{windowLast, sendingFrom, taking, ackWindow, hearAck, hearNack, hearEnd, hearShortAck, hearKind, hearRead, hearOf}
 use Rattle.sender.specs.State.{aged, counted, openingWith, sendingWith, waitingWith, shortWith, inPhase}
 use Rattle.sender.specs.Tick.{unlessOver, atLimit, unlessThird, openingOn, openingAgain, informationAt, waitingAfter, afterFrame, sendingNext, sendingOn, waitingOn, waitingAgain, shortOn, shortAgain, tickPhase}
 use Rattle.sender.specs.Told.{Told, failed, refusing, silently, emitting, closing, failingWith}
 use Rattle.sender.specs.declared.Announced.{Announced}
 use Rattle.sender.specs.declared.Awaited.{Awaited}
 use Rattle.sender.specs.declared.Phase.{Phase}
-use Rattle.sender.specs.declared.Phase.the-variants.{Idle}
+use Rattle.sender.specs.declared.Phase.the-variants.{Waiting}
 use Rattle.sender.specs.declared.Sender.{Sender}
+use Rattle.sender.specs.declared.Settings.{Settings}
 use Rattle.sender.specs.declared.Single.{Single}
 use Rattle.sender.specs.declared.Streamed.{Streamed}
 use Rattle.sender.specs.declared.Transfer.{Transfer}
@@ -237,6 +238,20 @@ pub takes : (s : Sender) (t : Transfer) (start count misses : ℕ)
     → a ≡ silently p → a ≡ taking s t start count misses
 unfolding taking
 takes s t start count misses end phase next e = cc
+
+-- A sender is its settings and its phase. So the state that is handed to a step may be the sender or be built anew from it,
+-- and is judged by its parts: edits/ has one that builds it anew with another wait.
+pub same-sender : {t s : Sender} → s .settings ≡ t .settings → s .phase ≡ t .phase → t ≡ s
+same-sender {t} {s} same is =
+    let in-old-phase : Settings → Sender = λ r. record { settings = r; phase = s .phase } in
+    ap (inPhase t) (sym is) ∙ ap in-old-phase (sym same)
+
+pub ack-waiting : (s : Sender) (start count : ℕ) {a : Told} {p : Phase} {t : Sender} {x : Awaited} → p ≡ Waiting x
+    → a ≡ ackWindow t (x .transfer) (x .start) (x .misses) start count → t ≡ s → a ≡ hearAck s p start count
+unfolding hearAck
+ack-waiting s start count is e same = rw is (cc)
+
+pub ruleset waiting-acks = (ack-waiting, same-sender)
 
 -- by the phase
 module _ (s : Sender) {a : Told} {p q : Phase} (is : p ≡ q) where

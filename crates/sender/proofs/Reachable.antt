@@ -20,7 +20,7 @@ use Rattle.sender.specs.Begin.{beginLong, beginShort, beginOf, postOf}
 use Rattle.sender.specs.Call.{Call, begin, tick, hear, post, answerOf}
 use Rattle.sender.specs.Hear.{taking, ackOpening, ackWindow, hearAck, hearNack, ifWhole, hearEnd, ifFirst, hearShortAck, hearOf}
 use Rattle.sender.specs.Make.{settingsFit, idleWith, makeOf}
-use Rattle.sender.specs.Reachable.{Reachable, fresh, called, SettingsWithin, TransferWithin, LongWithin, PhaseWithin, Within, Counts, OfTransfer, OfWait, OfMisses, OfSending, OfFrame, StartsInside, Exact}
+use Rattle.sender.specs.Reachable.{Reachable, fresh, called, SettingsWithin, TransferWithin, LongWithin, PhaseWithin, Within, Counts, OfTransfer, OfWait, OfMisses, OfSending, OfFrame, StartsInside, Exact, EveryReachable}
 use Rattle.sender.specs.State.{aged, counted, inPhase}
 use Rattle.sender.specs.Tick.{tickOpening, afterFrame, tickSending, tickWaiting, tickShort, tickPhase}
 use Rattle.sender.specs.Told.{Told}
@@ -331,3 +331,6 @@ within-exact s h =
 
 pub reachable-exact : {s : Sender} → Reachable s → Exact s
 reachable-exact {s} r = within-exact s (reachable-within r)
+
+pub every-reachable : EveryReachable
+every-reachable s r = (reachable-within r, reachable-exact r)

@@ -16,11 +16,11 @@ pub record Unchanged (s : Sender) (t : Told) : Type 0 where
   pub frame : t .frame ≡ blankOf
 
 -- Refusals, by place, its last line: every call of every sender that answers a refusal leaves the sender unchanged; a
--- making that is refused answers no sender
+-- making that is refused answers its number alone, and no other number than 1
 pub record Demand1 : Type 0 where
   pub called : (s : Sender) (call : Call) (number : ℕ)
       → answerOf s call .outcome ≡ refused number
       → Unchanged s (answerOf s call)
   pub made : (gap timeout limit number : ℕ)
       → makeOf gap timeout limit ≡ result.refused number
-      → (s : Sender) → makeOf gap timeout limit ≡ result.accepted s → ⊥
+      → number ≡ 1

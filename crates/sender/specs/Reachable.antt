@@ -1,5 +1,5 @@
 -- The senders that calls can make, what holds of them, and what follows for the definitions: no count is ever cut, every
--- "at least" is document 01's "at", and a frame's part of the message starts inside it.
+-- "at least" is document 01's "at", and a frame's part of the message starts inside it. Proved in `proofs/Reachable.antt`.
 use Prim.Native.Nat.{ℕ, _+_, _-_, _*_, _≤_, _<_}
 use mathlib.Core.Path.{_≡_}
 use mathlib.Core.List.{List}
@@ -124,3 +124,7 @@ pub record Exact (s : Sender) : Type 0 where
   pub misses : OfMisses (s .phase) (λ misses. Counts misses 3)
   pub last : OfSending (s .phase) EndsAtLast
   pub part : OfFrame (s .phase) StartsInside
+
+-- the claim
+abbrev pub EveryReachable : Type 0
+EveryReachable = (s : Sender) → Reachable s → Within s × Exact s

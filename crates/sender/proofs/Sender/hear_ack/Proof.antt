@@ -1,9 +1,9 @@
 -- `sender::Sender::hear_ack` meets its contract. In each arm the phase is its variant, at which the
--- definition computes.
+-- definition computes; in Waiting the state that goes to the step is judged by its parts.
 -- Assumes nothing.
 use borrow.Author.Needs.{needs}
 use Rattle.sender.specs.Hear.{hearAck}
-use Rattle.sender.proofs.Laws.{ack-in}
+use Rattle.sender.proofs.Laws.{ack-in, waiting-acks}
 use Rattle.sender.proofs.Sender.hear_ack.Statement.{statement}
 use Rattle.sender.proofs.Sender.hear_ack.Tie as tie
 
@@ -50,8 +50,7 @@ unfolding hearAck
 returns-3 c = search ack-in
 
 returns-4 : tie.Need-returns-4
-unfolding hearAck
-returns-4 c = search ack-in
+returns-4 c = search waiting-acks
 
 returns-5 : tie.Need-returns-5
 unfolding hearAck
