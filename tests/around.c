@@ -115,28 +115,37 @@ static void group_table(void)
     CHECK(kospelna_group_find(0x7A).refusal == KOSPELNA_REFUSAL_GROUP);
 }
 
-/* The named values are taken in their field, and one that has no name is refused. */
-static bool takes(uint8_t code, int first, int second, int third)
+/* The bytes of a group of these values; none where it is refused. */
+static const uint8_t *written(uint8_t code, int first, int second, int third)
 {
+    static uint8_t bytes[8];
     const kospelna_group group = {code, (uint16_t)first, (uint16_t)second, (uint16_t)third, 0};
-    uint8_t bytes[8];
     const uint8_t refusal = kospelna_group_write(group, bytes, 8).refusal;
     CHECK(refusal == 0 || refusal == KOSPELNA_REFUSAL_VALUE);
-    return refusal == 0;
+    return refusal == 0 ? bytes : none;
 }
 
+static bool takes(uint8_t code, int first, int second, int third)
+{
+    return written(code, first, second, third) != none;
+}
+
+/* The named values are taken and written as 001 tables H.5 to H.11 have them; one that has no name is refused. */
 static void group_values(void)
 {
-    const uint8_t output = KOSPELNA_GROUP_CHARGER_OUTPUT, battery = KOSPELNA_GROUP_VEHICLE_BATTERY;
-    CHECK(takes(KOSPELNA_GROUP_VEHICLE_DEMAND, 0, 0, KOSPELNA_MODE_CURRENT));
-    CHECK(takes(KOSPELNA_GROUP_VEHICLE_DEMAND, 0, 0, KOSPELNA_MODE_VOLTAGE));
-    CHECK(takes(output, 0, KOSPELNA_REASON_NONE, 0) && takes(output, 0, KOSPELNA_REASON_GRID, 0));
-    CHECK(takes(output, 0, KOSPELNA_REASON_CHARGER, 0) && takes(output, 0, KOSPELNA_REASON_OTHER, 0));
-    CHECK(!takes(output, 0, 3, 0));
-    CHECK(takes(battery, KOSPELNA_CELL_ABNORMAL, KOSPELNA_CELL_INVALID, KOSPELNA_TEMPERATURE_ABNORMAL));
-    CHECK(takes(battery, 0, 0, KOSPELNA_TEMPERATURE_INVALID) && !takes(battery, 0xFFFD, 0, 0));
-    CHECK(takes(KOSPELNA_GROUP_CHARGER_PAUSE, KOSPELNA_PAUSE, 0, 0));
-    CHECK(takes(KOSPELNA_GROUP_VEHICLE_PAUSE, KOSPELNA_RESUME, 0, 0) && !takes(KOSPELNA_GROUP_VEHICLE_PAUSE, 1, 0, 0));
+    const uint8_t demand = KOSPELNA_GROUP_VEHICLE_DEMAND, output = KOSPELNA_GROUP_CHARGER_OUTPUT;
+    const uint8_t battery = KOSPELNA_GROUP_VEHICLE_BATTERY, pause = KOSPELNA_GROUP_VEHICLE_PAUSE;
+    CHECK(written(demand, 0, 0, KOSPELNA_MODE_CURRENT)[5] == 0x01 && !takes(demand, 0, 0, 0));
+    CHECK(written(demand, 0, 0, KOSPELNA_MODE_VOLTAGE)[5] == 0x02 && !takes(demand, 0, 0, 3));
+    CHECK(written(output, 0, KOSPELNA_REASON_NONE, 0)[3] == 0x00 && takes(output, 0, KOSPELNA_REASON_NONE, 0));
+    CHECK(written(output, 0, KOSPELNA_REASON_GRID, 0)[3] == 0x01);
+    CHECK(written(output, 0, KOSPELNA_REASON_CHARGER, 0)[3] == 0x02);
+    CHECK(written(output, 0, KOSPELNA_REASON_OTHER, 0)[3] == 0xFF && !takes(output, 0, 3, 0));
+    const uint8_t abnormal[8] = {0x77, 0xFE, 0xFF, 0xFF, 0xFF, 0xFE, 0x00, 0xFF};
+    CHECK(same(written(battery, KOSPELNA_CELL_ABNORMAL, KOSPELNA_CELL_INVALID, KOSPELNA_TEMPERATURE_ABNORMAL), abnormal));
+    CHECK(written(battery, 0, 0, KOSPELNA_TEMPERATURE_INVALID)[5] == 0xFF && !takes(battery, 0xFFFD, 0, 0));
+    CHECK(written(pause, KOSPELNA_PAUSE, 0, 0)[1] == 0xAA && written(pause, KOSPELNA_RESUME, 0, 0)[1] == 0x00);
+    CHECK(takes(pause, KOSPELNA_RESUME, 0, 0) && !takes(pause, 1, 0, 0));
 }
 
 /* A group goes to the other end: a reliable one by begin, any other by post, and is read from the short delivery. */
@@ -178,7 +187,8 @@ static void message(void)
     writing = kospelna_version_message_write(said);
     CHECK(writing.refusal == KOSPELNA_REFUSAL_VALUE && same(writing.bytes.bytes, none));
     said.verdict = KOSPELNA_VERDICT_FAILURE;
-    CHECK(kospelna_version_message_write(said).refusal == 0);
+    writing = kospelna_version_message_write(said);
+    CHECK(writing.refusal == 0 && writing.bytes.bytes[1] == 0x02);
 }
 
 /* Fifty ticks: the last one sends, and none before it. */
@@ -244,6 +254,27 @@ static void talk(void)
     CHECK(same(vehicle.bytes.bytes, success));
     vehicle = kospelna_talker_functions_heard(vehicle.next);
     CHECK(!vehicle.emits && vehicle.next.state == KOSPELNA_TALKER_S3 && !vehicle.next.timing);
+}
+
+/* The charger supports 1.1.0 alone, the vehicle that and 2.0.0: they agree on 1.1.0, end in S2 and fall silent. */
+static void old_talk(void)
+{
+    const uint8_t success[8] = {0x00, 0x01, 0x01, 0x01, 0x00, 0x0A, 0x01, 0xFF};
+    kospelna_talker_answer charger = kospelna_talker_connect(made(KOSPELNA_CHARGER, charger_versions, 3));
+    kospelna_talker_answer vehicle = kospelna_talker_connect(made(KOSPELNA_VEHICLE, charger_versions, 6));
+    vehicle = period(kospelna_talker_hear(vehicle.next, charger.bytes).next);
+    CHECK(same(vehicle.bytes.bytes, success));
+    charger = kospelna_talker_hear(charger.next, vehicle.bytes);
+    CHECK(charger.next.state == KOSPELNA_TALKER_S2 && charger.outcome == KOSPELNA_AGREED && charger.refusal == 0);
+    CHECK(charger.version == KOSPELNA_VERSION(1, 1, 0) && charger.emits && same(charger.bytes.bytes, success));
+    vehicle = kospelna_talker_hear(vehicle.next, charger.bytes);
+    CHECK(vehicle.next.state == KOSPELNA_TALKER_S2 && vehicle.outcome == KOSPELNA_AGREED && vehicle.refusal == 0);
+    CHECK(vehicle.version == KOSPELNA_VERSION(1, 1, 0) && vehicle.emits && same(vehicle.bytes.bytes, success));
+    for (int i = 0; i < KOSPELNA_TALKER_PERIOD; i++) {
+        charger = kospelna_talker_tick(charger.next);
+        vehicle = kospelna_talker_tick(vehicle.next);
+        CHECK(!charger.emits && !vehicle.emits && charger.next.state == KOSPELNA_TALKER_S2);
+    }
 }
 
 static void other_calls(void)
@@ -325,6 +356,7 @@ int main(void)
     group_sent();
     message();
     talk();
+    old_talk();
     other_calls();
     limit();
     bad_lists();

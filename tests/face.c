@@ -1,6 +1,6 @@
 /* Plays document 01's example over the C face: both ends, and the line as two lists of its own. Prints its seven lines,
- * which .ci/face compares with the sample's. Exits 1 where a state, the buffer, a limit or a refusal is another than it
- * should be. */
+ * which .ci/face compares with the sample's. Exits 1 where a state, a frame, the buffer, a limit, a failure or a refusal
+ * is another than it should be. */
 #include "kospelna.h"
 
 #include <stdio.h>
@@ -91,6 +91,11 @@ static void play(int event, int what)
     }
 }
 
+static bool goes_out(bool emits, kospelna_frame frame, kospelna_frame due)
+{
+    return emits && memcmp(&frame, &due, sizeof due) == 0;
+}
+
 static bool same_sender(kospelna_sender a, kospelna_sender b)
 {
     return a.gap == b.gap && a.timeout == b.timeout && a.limit == b.limit && a.phase == b.phase && a.length == b.length
@@ -143,11 +148,29 @@ static void example(void)
         must(buffer[i] == 0xAA, "the rest of the buffer has changed");
 }
 
+/* Frames that go out or are heard below: of the message of nine bytes, so N 2, and of its first three. */
+static const kospelna_frame announcement = {KOSPELNA_KIND_INFORMATION, {0, 2, 9, 0, 255, 255, 255, 255}};
+static const kospelna_frame first_part = {KOSPELNA_KIND_INFORMATION, {1, 1, 2, 3, 4, 5, 6, 7}};
+static const kospelna_frame last_part = {KOSPELNA_KIND_INFORMATION, {2, 8, 9, 255, 255, 255, 255, 255}};
+static const kospelna_frame lm_ack = {KOSPELNA_KIND_LM_ACK, {1, 2, 255, 255, 255, 255, 255, 255}};
+static const kospelna_frame endofack = {KOSPELNA_KIND_LM_ENDOFACK, {2, 9, 0, 255, 255, 255, 255, 255}};
+static const kospelna_frame sm_rm = {KOSPELNA_KIND_SM_RM, {1, 2, 3, 255, 255, 255, 255, 255}};
+static const kospelna_frame sm_ack = {KOSPELNA_KIND_SM_ACK, {1, 255, 255, 255, 255, 255, 255, 255}};
+
+static kospelna_frame nack(uint8_t cause)
+{
+    return (kospelna_frame){KOSPELNA_KIND_LM_NACK, {cause, 255, 255, 255, 255, 255, 255, 255}};
+}
+
+static kospelna_receiver_answer hears(kospelna_receiver end, kospelna_frame frame)
+{
+    return kospelna_receiver_hear(end, frame, buffer, sizeof buffer);
+}
+
 /* An ignored frame leaves every field that the phase has, and 0 in every other, each in its place. */
 static void places(void)
 {
-    const kospelna_frame sm_ack = {6, {1, 255, 255, 255, 255, 255, 255, 255}};
-    const kospelna_frame old = {1, {200, 0, 0, 0, 0, 0, 0, 0}};
+    const kospelna_frame old = {KOSPELNA_KIND_INFORMATION, {200, 0, 0, 0, 0, 0, 0, 0}};
     kospelna_sender s = {
         .gap = 257, .timeout = 258, .limit = 259, .phase = KOSPELNA_SENDER_SENDING, .length = 260, .frames = 1, .first = 2,
         .age = 261, .emitted = 262, .wait = 263, .misses = 264, .start = 3, .due = 4, .last = 5, .count = 265};
@@ -190,9 +213,7 @@ static void refusals(void)
     a = kospelna_sender_hear(sender, urm);
     must(a.outcome == KOSPELNA_REFUSED && a.refusal == KOSPELNA_REFUSAL_OTHER_END, "SM_URM is not refused 7 by the sender");
     a = kospelna_sender_post(sender, message, 3);
-    must(a.refusal == KOSPELNA_REFUSAL_NONE && a.emits && memcmp(&a.frame, &urm, sizeof urm) == 0
-             && same_sender(a.next, sender),
-         "post");
+    must(a.refusal == KOSPELNA_REFUSAL_NONE && goes_out(a.emits, a.frame, urm) && same_sender(a.next, sender), "post");
 
     kospelna_receiver_answer b = kospelna_receiver_hear(receiver, urm, buffer, sizeof buffer - 1);
     must(b.outcome == KOSPELNA_REFUSED && b.refusal == KOSPELNA_REFUSAL_BUFFER && b.cause == 0,
@@ -202,25 +223,103 @@ static void refusals(void)
          "a short delivery");
 }
 
-/* A failure has its cause, and no refusal: the sender's sending time of one tick; a NACK that is heard at both ends. */
-static void failures(void)
+/* Each end emits the frames of a long and of a short transfer, by the names of their kinds, and takes the other's. */
+static void kinds(void)
 {
-    const kospelna_frame no_space = {KOSPELNA_KIND_LM_NACK, {KOSPELNA_NACK_NO_SPACE, 255, 255, 255, 255, 255, 255, 255}};
-    const kospelna_frame announcement = {KOSPELNA_KIND_INFORMATION, {0, 2, 9, 0, 255, 255, 255, 255}};
+    const kospelna_sender idle = kospelna_sender_make(1, 10, 100).sender;
+    kospelna_sender_answer a = kospelna_sender_begin(idle, message, 9);
+    kospelna_receiver_answer b = hears(kospelna_receiver_make(10, 2, 9).receiver, announcement);
+    must(goes_out(a.emits, a.frame, announcement), "the announcement");
+    must(goes_out(b.emits, b.frame, lm_ack), "the LM_ACK");
+    a = kospelna_sender_tick(kospelna_sender_hear(a.next, lm_ack).next, message, 9);
+    must(goes_out(a.emits, a.frame, first_part), "the first information frame");
+    a = kospelna_sender_tick(a.next, message, 9);
+    must(goes_out(a.emits, a.frame, last_part), "the last information frame");
+    b = hears(hears(b.next, first_part).next, last_part);
+    must(goes_out(b.emits, b.frame, endofack) && b.outcome == KOSPELNA_DELIVERED && b.length == 9, "the LM_EndofACK");
+    a = kospelna_sender_hear(a.next, endofack);
+    must(a.outcome == KOSPELNA_SENT && a.ticks == 2 && a.frames == 3 && !a.emits, "the long transfer's report");
+
+    a = kospelna_sender_begin(idle, message, 3);
+    b = hears(b.next, sm_rm);
+    must(goes_out(a.emits, a.frame, sm_rm), "the SM_RM");
+    must(goes_out(b.emits, b.frame, sm_ack) && b.outcome == KOSPELNA_DELIVERED_SHORT, "the SM_ACK");
+    a = kospelna_sender_hear(a.next, sm_ack);
+    must(a.outcome == KOSPELNA_SENT && a.ticks == 0 && a.frames == 1 && !a.emits, "the short transfer's report");
+}
+
+static bool sender_failed(kospelna_sender_answer a, int cause, int ticks, int frames)
+{
+    return a.outcome == KOSPELNA_FAILED && a.refusal == 0 && a.cause == cause && a.ticks == ticks && a.frames == frames
+        && a.next.phase == KOSPELNA_SENDER_IDLE;
+}
+
+static bool receiver_failed(kospelna_receiver_answer b, int cause)
+{
+    return b.outcome == KOSPELNA_FAILED && b.refusal == 0 && b.cause == cause && b.next.phase == KOSPELNA_RECEIVER_IDLE;
+}
+
+/* The sender's failures: the sending time of one tick, a NACK that is heard, and by document 01's edge cases an LM_ACK that
+ * starts at 3 with N 2, and silence with T 3 and M 10. */
+static void sender_failures(void)
+{
+    const kospelna_frame above = {KOSPELNA_KIND_LM_ACK, {3, 2, 255, 255, 255, 255, 255, 255}};
     const kospelna_sender begun = kospelna_sender_begin(kospelna_sender_make(1, 10, 1).sender, message, 9).next;
     kospelna_sender_answer a = kospelna_sender_tick(begun, message, 9);
-    must(a.outcome == KOSPELNA_FAILED && a.refusal == 0 && a.cause == KOSPELNA_CAUSE_SENDING_TIME && a.ticks == 1
-             && a.frames == 2 && a.emits && a.frame.kind == KOSPELNA_KIND_LM_NACK
-             && a.frame.bytes[0] == KOSPELNA_NACK_SENDING_TIME,
+    must(sender_failed(a, KOSPELNA_CAUSE_SENDING_TIME, 1, 2) && goes_out(a.emits, a.frame, nack(KOSPELNA_NACK_SENDING_TIME)),
          "the sending time");
-    a = kospelna_sender_hear(begun, no_space);
-    must(a.outcome == KOSPELNA_FAILED && a.refusal == 0 && a.cause == KOSPELNA_CAUSE_NACK_HEARD && !a.emits,
-         "a NACK at the sender");
-    const kospelna_receiver open = kospelna_receiver_hear(kospelna_receiver_make(10, 2, 9).receiver, announcement, buffer,
-                                                          sizeof buffer).next;
-    kospelna_receiver_answer b = kospelna_receiver_hear(open, no_space, buffer, sizeof buffer);
-    must(b.outcome == KOSPELNA_FAILED && b.refusal == 0 && b.cause == KOSPELNA_CAUSE_NACK_HEARD && !b.emits,
-         "a NACK at the receiver");
+    a = kospelna_sender_hear(begun, nack(KOSPELNA_NACK_NO_SPACE));
+    must(sender_failed(a, KOSPELNA_CAUSE_NACK_HEARD, 0, 1) && !a.emits, "a NACK at the sender");
+    a = kospelna_sender_hear(begun, above);
+    must(sender_failed(a, KOSPELNA_CAUSE_FRAME_NUMBER, 0, 2) && goes_out(a.emits, a.frame, nack(KOSPELNA_NACK_FRAME_NUMBER)),
+         "a start above N");
+    a = kospelna_sender_begin(kospelna_sender_make(1, 3, 10).sender, message, 9);
+    for (int tick = 1; tick < 9; tick++) {
+        a = kospelna_sender_tick(a.next, message, 9);
+        must(a.outcome == KOSPELNA_QUIET && (tick % 3 == 0 ? goes_out(a.emits, a.frame, announcement) : !a.emits),
+             "the sender's timeouts");
+    }
+    a = kospelna_sender_tick(a.next, message, 9);
+    must(sender_failed(a, KOSPELNA_CAUSE_TIMEOUTS, 9, 4) && goes_out(a.emits, a.frame, nack(KOSPELNA_NACK_TIMEOUTS)),
+         "the sender's third timeout");
+}
+
+/* The receiver's failures: a NACK that is heard, frame 3 with N 2, and by document 01's edge case silence with T 3. */
+static void receiver_failures(void)
+{
+    const kospelna_frame above = {KOSPELNA_KIND_INFORMATION, {3, 0, 0, 0, 0, 0, 0, 0}};
+    const kospelna_receiver open = hears(kospelna_receiver_make(3, 2, 9).receiver, announcement).next;
+    kospelna_receiver_answer b = hears(open, nack(KOSPELNA_NACK_SENDING_TIME));
+    must(receiver_failed(b, KOSPELNA_CAUSE_NACK_HEARD) && !b.emits, "a NACK at the receiver");
+    b = hears(open, above);
+    must(receiver_failed(b, KOSPELNA_CAUSE_FRAME_NUMBER) && goes_out(b.emits, b.frame, nack(KOSPELNA_NACK_FRAME_NUMBER)),
+         "a frame above N");
+    b.next = open;
+    for (int tick = 1; tick < 9; tick++) {
+        b = kospelna_receiver_tick(b.next);
+        must(b.outcome == KOSPELNA_QUIET && (tick % 3 == 0 ? goes_out(b.emits, b.frame, lm_ack) : !b.emits),
+             "the receiver's timeouts");
+    }
+    b = kospelna_receiver_tick(b.next);
+    must(receiver_failed(b, KOSPELNA_CAUSE_TIMEOUTS) && goes_out(b.emits, b.frame, nack(KOSPELNA_NACK_TIMEOUTS)),
+         "the receiver's third timeout");
+}
+
+/* An announcement that the receiver answers with a NACK changes nothing and reports nothing: N 3 does not fit L 9; L 10 is
+ * above the capacity. */
+static void announcements(void)
+{
+    const kospelna_frame unfit = {KOSPELNA_KIND_INFORMATION, {0, 3, 9, 0, 255, 255, 255, 255}};
+    const kospelna_frame ten = {KOSPELNA_KIND_INFORMATION, {0, 2, 10, 0, 255, 255, 255, 255}};
+    const kospelna_receiver idle = kospelna_receiver_make(10, 2, 9).receiver;
+    kospelna_receiver_answer b = hears(idle, unfit);
+    must(b.outcome == KOSPELNA_QUIET && goes_out(b.emits, b.frame, nack(KOSPELNA_NACK_ANNOUNCEMENT))
+             && same_receiver(b.next, idle),
+         "an announcement whose N and L do not fit");
+    b = hears(idle, ten);
+    must(b.outcome == KOSPELNA_QUIET && goes_out(b.emits, b.frame, nack(KOSPELNA_NACK_NO_SPACE))
+             && same_receiver(b.next, idle),
+         "an announcement above the capacity");
 }
 
 static bool sender_takes(int gap, int timeout, int limit)
@@ -269,7 +368,10 @@ int main(void)
     example();
     places();
     refusals();
-    failures();
+    kinds();
+    sender_failures();
+    receiver_failures();
+    announcements();
     limits();
     return 0;
 }

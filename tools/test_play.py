@@ -41,6 +41,15 @@ def shell(text, *words, **more):
     return run(["sh", "-c", text, "sh", *words], **more)
 
 
+def longest():
+    """A pack of 65535 bytes, and what it prints: the announcement is heard again and again, and draws LM_ACK each time."""
+    events = 65535 - 13 - 10 - 9
+    pack = bytes([3, 13, 0, 10, 0, 23, 0, 9, 0, 32, 0]) + events.to_bytes(2, "little")
+    pack += bytes([1, 10, 0, 100, 0, 10, 0, 2, 0xF9, 0x06]) + bytes(range(1, 10)) + b"\x05" * events
+    answers = "".join(f"{number} R 2 01 02 FF FF FF FF FF FF\n" for number in range(1, events + 1))
+    return pack, ("0 S 1 00 02 09 00 FF FF FF FF\n" + answers).encode()
+
+
 class Played(unittest.TestCase):
     """The built player."""
 
@@ -80,12 +89,8 @@ class Played(unittest.TestCase):
 
     def test_sizes(self):
         """65535 bytes are played, with nothing cut; one more is refused, and so is input without end."""
-        events = 65535 - 13 - 10 - 9
-        pack = bytes([3, 13, 0, 10, 0, 23, 0, 9, 0, 32, 0]) + events.to_bytes(2, "little")
-        pack += bytes([1, 10, 0, 100, 0, 10, 0, 2, 0xF9, 0x06]) + bytes(range(1, 10)) + b"\x05" * events
-        answers = "".join(f"{number} R 2 01 02 FF FF FF FF FF FF\n" for number in range(1, events + 1))
-        out = "0 S 1 00 02 09 00 FF FF FF FF\n" + answers
-        self.assertEqual(run([PLAY], input=pack), (0, out.encode(), ""))
+        pack, out = longest()
+        self.assertEqual(run([PLAY], input=pack), (0, out, ""))
         words = "this is no run pack (offset 65535: the pack goes on after 65535 bytes, the most that one has)\n"
         said = "play: standard input: refused 12: " + words
         self.assertEqual(run([PLAY], input=pack + b"\x05"), (1, b"refused 12\n", said))
@@ -124,8 +129,14 @@ class Played(unittest.TestCase):
             with open("/dev/full", "wb") as out:
                 self.assertEqual(run(words, stdout=out), (2, None, full))
             self.assertEqual(shell('exec "$@" >&-', *words), (2, b"", "play: standard output is closed\n"))
-        status = shell('("$1" "$2"; echo $? >&2) | true', PLAY, SAMPLES / "sixty-thousand-ticks.pack")
-        self.assertIn(status[2], ("0\n", "play: standard output: Broken pipe\n2\n"))
+
+    def test_a_reader_that_goes_away_is_told(self):
+        """What is printed is more than a pipe holds, so that a write meets the closed pipe whenever its reader ends."""
+        pack, out = longest()
+        self.assertGreater(len(out), 1 << 21)
+        for reader in ("true", "head -c 1 >/dev/null", "sleep 0.3"):
+            told = shell(f'("$1"; echo $? >&2) | {reader}', PLAY, input=pack)
+            self.assertEqual(told, (0, b"", "play: standard output: Broken pipe\n2\n"))
 
     def test_standard_error_may_be_gone(self):
         pack = SAMPLES / "refused-event-9.pack"
