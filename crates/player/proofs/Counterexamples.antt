@@ -23,7 +23,7 @@ use Rattle.player.specs.Text.{eventText}
 use Rattle.player.specs.Whole.{Held, held, Begins, begins, Plays, none, plays, Run}
 use Rattle.player.specs.declared.Opening.the-variants as variants
 use Rattle.player.specs.declared.Player.{Player}
-use Rattle.text.proofs.Examples as text
+use Rattle.player.specs.declared.Progress.{Progress}
 use Rattle.text.specs.Page.{Page, page, byteAt, put}
 use Rattle.text.specs.Text.{digitsIn, decimal, spaced, refusedText}
 use Rattle.transport.specs.Answer.{worldOf}
@@ -39,12 +39,14 @@ never e = let z : _≡_ {A = ℕ} 0 1 = cc in omega arith
 abbrev begun : Run pack.example (playerOf 7) 0
 begun = runs-exist pack.example (playerOf 7) 0
 
-going : isFinished (begun .last .player) ≡ false
-going = prints-played pack.example (variants.Ready (playerOf 7)) (sym (computed .opens)) 0 (begun .begun) (begun .text) (begun .first) (begun .last) (begun .begin) (begun .play) .0
+going : {text : List ℕ} {k : Held} → Plays pack.example 0 (begun .first) text k → isFinished (k .player) ≡ false
+going {text} {k} none-yet =
+    prints-played pack.example (variants.Ready (playerOf 7)) (sym (computed .opens))
+    0 (begun .begun) text (begun .first) k (begun .begin) none-yet .0
 
 -- claim_finished_a_call_early: it would be finished
 pub finished-a-call-early : isFinished (begun .last .player) ≡ leb 7 (128 * 1) → ⊥
-finished-a-call-early e = never (sym e ∙ going)
+finished-a-call-early e = never (sym e ∙ going (begun .play))
 
 no-plays : {bytes text : List ℕ} {n : ℕ} {h k : Held} → n ≡ 0 → Plays bytes n h text k → text ≡ []
 no-plays e none = refl
@@ -69,15 +71,36 @@ printed-before-the-end e =
     let same : length (begun .begun ++ begun .text) ≡ length (played pack.example) = ap length e in
     omega arith
 
--- claim_page_of_16383: lent such a page a call leaves the player as it is, so that after one call the example's pack is as
--- little finished as before, and 128 events would have been played
-pub page-of-16383 : (q : Player) (forward back buffer out : List ℕ) → length out ≡ 16383
-    → toldProgress (record { player = q; written = 0 }) forward back buffer out ≡ playOf pack.example q forward back buffer out
+-- claim_page_of_16383: lent such a page a call leaves all as it is; so after a begin and one such call the example's pack
+-- is as little finished as before, where the edited claim has its seven events played
+unplayed : (q : Player) (forward back buffer out : List ℕ) → length out ≡ 16383
+    → toldProgress (record { player = q; written = 0 }) forward back buffer out
+    ≡ playOf pack.example q forward back buffer out
 unfolding playOf
-page-of-16383 q forward back buffer out size = pick-false _ (other (length forward) (length back) (length out) size) refl
+unplayed q forward back buffer out size =
+    pick-false _ (other (length forward) (length back) (length out) size) refl
   where
     other : (f b o : ℕ) → o ≡ 16383 → (eqb f 576 && eqb b 576 && eqb o 16384) ≡ false
     other f b o e = rw e (and-false (eqb f 576 && eqb b 576))
+
+pub page-of-16383 :
+    ((printed : List ℕ) (h : Held) (r : Progress) (forward back buffer out out′ : List ℕ)
+    → Begins pack.example (playerOf 7) printed h
+    → length forward ≡ length (h .forward)
+    → length back ≡ length (h .back)
+    → length out ≡ 16383
+    → toldProgress r forward back buffer out′
+    ≡ playOf pack.example (h .player) (h .forward) (h .back) (h .buffer) out
+    → isFinished (r .player) ≡ leb 7 (128 * 1))
+    → ⊥
+page-of-16383 claim =
+    let h = begun .first in
+    let r : Progress = record { player = h .player; written = 0 } in
+    let size : length (zeros 16383) ≡ 16383 = length-replicate {A = ℕ} 16383 0 in
+    let over : isFinished (h .player) ≡ true =
+    claim (begun .begun) h r (h .forward) (h .back) (h .buffer) (zeros 16383) (zeros 16383) (begun .begin) refl refl size
+    (unplayed (h .player) (h .forward) (h .back) (h .buffer) (zeros 16383) size) in
+    never (sym over ∙ going none)
 
 -- claim_lines_swapped: the example, begun on lines of zeros, and played with its lines the wrong way round; its seven events
 -- are then played, nothing is printed of them, and the begin's line would be all seven
