@@ -59,14 +59,19 @@ begun-line (begins r forward forward′ back out out′ lf lf′ lb lo promise) 
     let line = eventText 0 (cappedStep (start (playerOf 7 .ends)) (begin pack.message) .event) in
     let thirty : length line ≡ 30 = ap length (computed .begins) in
     ap shown (promise back (replicate 1785 0))
-    ∙ ap (λ (t : Turned). take (t .page .place) (t .page .bytes)) (sym (pick-true _ (lent-begin (length forward) (length out) lf lo) refl))
+    ∙ ap (λ (t : Turned). take (t .page .place) (t .page .bytes))
+    (sym (pick-true _ (lent-begin (length forward) (length out) lf lo) refl))
     ∙ page-shows out line (omega arith)
     ∙ computed .begins
 
 -- claim_printed_before_the_end: one line would be all seven
 pub printed-before-the-end : begun .begun ++ begun .text ≡ played pack.example → ⊥
 printed-before-the-end e =
-    let one : length (begun .begun ++ begun .text) ≡ 30 = ap length (ap (λ (l : List ℕ). begun .begun ++ l) (no-plays refl (begun .play)) ∙ append-nil (begun .begun) ∙ begun-line (begun .begin)) in
+    let line : begun .begun ++ begun .text ≡ firstLine =
+    ap (λ (l : List ℕ). begun .begun ++ l) (no-plays refl (begun .play))
+    ∙ append-nil (begun .begun)
+    ∙ begun-line (begun .begin) in
+    let one : length (begun .begun ++ begun .text) ≡ 30 = ap length line in
     let all : length (played pack.example) ≡ 179 = ap length (computed .prints) in
     let same : length (begun .begun ++ begun .text) ≡ length (played pack.example) = ap length e in
     omega arith
@@ -104,23 +109,27 @@ page-of-16383 claim =
 
 -- claim_lines_swapped: the example, begun on lines of zeros, and played with its lines the wrong way round; its seven events
 -- are then played, nothing is printed of them, and the begin's line would be all seven
-pub begun-on-zeros : (let p = put (page (zeros 16384) 0) (eventText 0 (cappedStep (start (playerOf 7 .ends)) (begin pack.message) .event)) in
-    Begins pack.example (playerOf 7) (take (p .place) (p .bytes)) (held begunPlayer announced (zeros 576) (zeros 1785)))
+abbrev pub firstPage : Page
+firstPage = put (page (zeros 16384) 0) (eventText 0 (cappedStep (start (playerOf 7 .ends)) (begin pack.message) .event))
+
+pub begun-on-zeros :
+    Begins pack.example (playerOf 7) (take (firstPage .place) (firstPage .bytes))
+    (held begunPlayer announced (zeros 576) (zeros 1785))
 unfolding beginOf messageOf cappedStep stepOf worldOf
 begun-on-zeros =
-    let p : Page = put (page (zeros 16384) 0) (eventText 0 (cappedStep (start (playerOf 7 .ends)) (begin pack.message) .event)) in
-    begins (record { player = begunPlayer; written = p .place }) (zeros 576) announced (zeros 576) (zeros 16384) (p .bytes) refl refl refl
-    (length-replicate {A = ℕ} 16384 0)
+    begins (record { player = begunPlayer; written = firstPage .place })
+    (zeros 576) announced (zeros 576) (zeros 16384) (firstPage .bytes) refl refl refl (length-replicate {A = ℕ} 16384 0)
     (λ other buffer. ap (λ (t : Turned). progressed t (playerOf 7 .bodies) 0)
     (pick-true _ (lent-begin 576 (length (zeros 16384)) refl (length-replicate {A = ℕ} 16384 0))
-    (ap (λ (w : World). turned w p) (computed .begun other buffer))))
+    (ap (λ (w : World). turned w firstPage) (computed .begun other buffer))))
 
-pub lines-swapped : (swapped .played ≡ 7) × (firstLine ++ take (swapped .page .place) (swapped .page .bytes) ≡ played pack.example → ⊥)
+pub lines-swapped : (swapped .played ≡ 7) × (firstLine ++ shown swapped ≡ played pack.example → ⊥)
 lines-swapped = (
   computed .plays-swapped,
-  λ e. let one : length (firstLine ++ take (swapped .page .place) (swapped .page .bytes)) ≡ 30 = ap (λ (l : List ℕ). length (firstLine ++ l)) (computed .shows-swapped) in
+  λ e. let one : length (firstLine ++ shown swapped) ≡ 30 =
+      ap (λ (l : List ℕ). length (firstLine ++ l)) (computed .shows-swapped) in
       let all : length (played pack.example) ≡ 179 = ap length (computed .prints) in
-      let same : length (firstLine ++ take (swapped .page .place) (swapped .page .bytes)) ≡ length (played pack.example) = ap length e in
+      let same : length (firstLine ++ shown swapped) ≡ length (played pack.example) = ap length e in
       omega arith,
 )
 
@@ -132,13 +141,16 @@ ended = runs-exist silent (playerOf 0) 0
 -- claim_begins_page_left_out: nothing would be all that is printed
 pub begins-page-left-out : (isFinished (ended .last .player) ≡ true → ended .text ≡ played silent) → ⊥
 begins-page-left-out claim =
-    let done : isFinished (ended .last .player) ≡ true = prints-played silent (variants.Ready (playerOf 0)) (sym (computed .opens-silent)) 0 (ended .begun) (ended .text) (ended .first) (ended .last) (ended .begin) (ended .play) .0 in
+    let done : isFinished (ended .last .player) ≡ true =
+    prints-played silent (variants.Ready (playerOf 0)) (sym (computed .opens-silent))
+    0 (ended .begun) (ended .text) (ended .first) (ended .last) (ended .begin) (ended .play) .0 in
     let none : _≡_ {A = ℕ} 0 30 = ap length (sym (no-plays refl (ended .play)) ∙ claim done ∙ computed .prints-silent) in
     omega arith
 
 -- ---- no pack
 
 -- claim_refusal_on_a_page_of_10: the refusal's line would have ten bytes
-pub refusal-on-a-page-of-10 : (let p = put (page (replicate 10 0) 0) (refusedText 12) in take (p .place) (p .bytes) ≡ played []) → ⊥
+pub refusal-on-a-page-of-10 :
+    (let p = put (page (replicate 10 0) 0) (refusedText 12) in take (p .place) (p .bytes) ≡ played []) → ⊥
 unfolding put byteAt pick digitsIn decimal spaced refusedText
 refusal-on-a-page-of-10 e = let ten : _≡_ {A = ℕ} 10 11 = ap length (e ∙ computed .prints-refused) in omega arith
