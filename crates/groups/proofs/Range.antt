@@ -11,7 +11,7 @@ use lib.Dec.{eqb, leb}
 use lib.ListN.{length, getD, drop}
 use Rattle.frame.specs.Choice.{pick}
 use Rattle.frame.specs.Reading.{allFiller}
-use Rattle.frame.specs.Result.{Result, accepted, refused}
+use Rattle.frame.specs.Result.{accepted, refused}
 use Rattle.groups.specs.Format.{kindsOf, values, allowed, allAllowed, rowAllows, groupFrom, bytesFor}
 use Rattle.groups.specs.Reading.{judged, readRow, readBy, readIn}
 use Rattle.groups.specs.Table.{kinds, kindIn, kindAt, rows, findIn, findOf}

@@ -24,7 +24,7 @@ six a b c d e f h =
     let one = and-eq-true-iff a b .0 (two .0) in
     (one .0, one .1, two .1, three .1, four .1, five .1)
 
--- The test of parts that passes says what it tests, and parts of which it says so pass.
+-- Where the test of parts passes, what it tests holds.
 pub within : (x : Parts) → fitsOf x ≡ true → Within x
 unfolding fitsOf
 within x h =
@@ -37,18 +37,6 @@ within x h =
       ps = ltb-true _ _ (all .4);
       sa = ltb-true _ _ (all .5);
     }
-
-pub passes : (x : Parts) → Within x → fitsOf x ≡ true
-unfolding fitsOf
-passes x w =
-    simp (
-      lt-ltb _ _ (w .p),
-      eq-eqb _ _ (w .edp),
-      eq-eqb _ _ (w .dp),
-      lt-ltb _ _ (w .pf),
-      lt-ltb _ _ (w .ps),
-      lt-ltb _ _ (w .sa),
-    )
 
 -- What lies above the low 26 bits is below 8 just if the number has 29 bits.
 top : (n : ℕ) (t : Bool) → ltb n 536870912 ≡ t → ltb (n / 67108864) 8 ≡ t

@@ -1,5 +1,5 @@
--- A ring is a list of frames with room for 64: what its functions do to the ring, read from its first place, is what document
--- 01 has for the list. `proofs/Frames.antt` proves it.
+-- A ring is a list of frames with room for 64: what its functions do to the ring, read from its first place, is what
+-- document 01 has for the list. `proofs/Frames.antt` proves it.
 use Prim.Native.Nat.{ℕ, _≤_}
 use mathlib.Core.Path.{_≡_}
 use mathlib.Core.List.{List, [], _∷_, _++_}

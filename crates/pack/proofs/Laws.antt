@@ -10,7 +10,6 @@ use borrow.Author.Tests.{leb-true, eqb-true}
 use lib.Dec.{leb}
 use lib.ListN.{length, getD, drop, length-drop}
 use lib.Seq.{length-take-le}
-use Rattle.frame.proofs.Choice.{pick-elim}
 use Rattle.frame.specs.Choice.{pick}
 use Rattle.frame.specs.Result.{Result, accepted, refused}
 use Rattle.pack.specs.Pack.{toldReading, byteAt, offsetOf, lengthOf, laidOut, bodiesIn, messageOf, eventsOf, isEvent, allEvents, bodiesOf}
@@ -84,13 +83,6 @@ laid-out pack h =
       events = eqb-true _ _ (f .1);
       whole = eqb-true _ _ (g .1);
     }
-
--- a pack of more than 65535 bytes is refused
-pub too-long : (pack : List ℕ) → 65535 < length pack → bodiesOf pack ≡ refused 12
-unfolding bodiesOf
-too-long pack over =
-    pick-elim (λ (x : Result Bodies). x ≡ refused 12) (laidOut pack)
-    (λ laid. absurd (omega (arith, laid-out pack laid .most))) (λ out. refl)
 
 passed : (laid events : Bool) (x b : Bodies) → pick laid (pick events (accepted x) (refused 12)) (refused 12) ≡ accepted b
     → (laid ≡ true) × (events ≡ true) × (b ≡ x)

@@ -23,7 +23,7 @@ use Rattle.player.specs.Text.{eventText}
 use Rattle.player.specs.Whole.{Held, held, Begins, begins, Plays, none, plays, Run}
 use Rattle.player.specs.declared.Opening.the-variants as variants
 use Rattle.player.specs.declared.Player.{Player}
-use Rattle.text.proofs.Examples as text
+use Rattle.player.specs.declared.Progress.{Progress}
 use Rattle.text.specs.Page.{Page, page, byteAt, put}
 use Rattle.text.specs.Text.{digitsIn, decimal, spaced, refusedText}
 use Rattle.transport.specs.Answer.{worldOf}
@@ -39,12 +39,14 @@ never e = let z : _≡_ {A = ℕ} 0 1 = cc in omega arith
 abbrev begun : Run pack.example (playerOf 7) 0
 begun = runs-exist pack.example (playerOf 7) 0
 
-going : isFinished (begun .last .player) ≡ false
-going = prints-played pack.example (variants.Ready (playerOf 7)) (sym (computed .opens)) 0 (begun .begun) (begun .text) (begun .first) (begun .last) (begun .begin) (begun .play) .0
+going : {text : List ℕ} {k : Held} → Plays pack.example 0 (begun .first) text k → isFinished (k .player) ≡ false
+going {text} {k} none-yet =
+    prints-played pack.example (variants.Ready (playerOf 7)) (sym (computed .opens))
+    0 (begun .begun) text (begun .first) k (begun .begin) none-yet .0
 
 -- claim_finished_a_call_early: it would be finished
 pub finished-a-call-early : isFinished (begun .last .player) ≡ leb 7 (128 * 1) → ⊥
-finished-a-call-early e = never (sym e ∙ going)
+finished-a-call-early e = never (sym e ∙ going (begun .play))
 
 no-plays : {bytes text : List ℕ} {n : ℕ} {h k : Held} → n ≡ 0 → Plays bytes n h text k → text ≡ []
 no-plays e none = refl
@@ -57,47 +59,77 @@ begun-line (begins r forward forward′ back out out′ lf lf′ lb lo promise) 
     let line = eventText 0 (cappedStep (start (playerOf 7 .ends)) (begin pack.message) .event) in
     let thirty : length line ≡ 30 = ap length (computed .begins) in
     ap shown (promise back (replicate 1785 0))
-    ∙ ap (λ (t : Turned). take (t .page .place) (t .page .bytes)) (sym (pick-true _ (lent-begin (length forward) (length out) lf lo) refl))
+    ∙ ap (λ (t : Turned). take (t .page .place) (t .page .bytes))
+    (sym (pick-true _ (lent-begin (length forward) (length out) lf lo) refl))
     ∙ page-shows out line (omega arith)
     ∙ computed .begins
 
 -- claim_printed_before_the_end: one line would be all seven
 pub printed-before-the-end : begun .begun ++ begun .text ≡ played pack.example → ⊥
 printed-before-the-end e =
-    let one : length (begun .begun ++ begun .text) ≡ 30 = ap length (ap (λ (l : List ℕ). begun .begun ++ l) (no-plays refl (begun .play)) ∙ append-nil (begun .begun) ∙ begun-line (begun .begin)) in
+    let line : begun .begun ++ begun .text ≡ firstLine =
+    ap (λ (l : List ℕ). begun .begun ++ l) (no-plays refl (begun .play))
+    ∙ append-nil (begun .begun)
+    ∙ begun-line (begun .begin) in
+    let one : length (begun .begun ++ begun .text) ≡ 30 = ap length line in
     let all : length (played pack.example) ≡ 179 = ap length (computed .prints) in
     let same : length (begun .begun ++ begun .text) ≡ length (played pack.example) = ap length e in
     omega arith
 
--- claim_page_of_16383: lent such a page a call leaves the player as it is, so that after one call the example's pack is as
--- little finished as before, and 128 events would have been played
-pub page-of-16383 : (q : Player) (forward back buffer out : List ℕ) → length out ≡ 16383
-    → toldProgress (record { player = q; written = 0 }) forward back buffer out ≡ playOf pack.example q forward back buffer out
+-- claim_page_of_16383: lent such a page a call leaves all as it is; so after a begin and one such call the example's pack
+-- is as little finished as before, where the edited claim has its seven events played
+unplayed : (q : Player) (forward back buffer out : List ℕ) → length out ≡ 16383
+    → toldProgress (record { player = q; written = 0 }) forward back buffer out
+    ≡ playOf pack.example q forward back buffer out
 unfolding playOf
-page-of-16383 q forward back buffer out size = pick-false _ (other (length forward) (length back) (length out) size) refl
+unplayed q forward back buffer out size =
+    pick-false _ (other (length forward) (length back) (length out) size) refl
   where
     other : (f b o : ℕ) → o ≡ 16383 → (eqb f 576 && eqb b 576 && eqb o 16384) ≡ false
     other f b o e = rw e (and-false (eqb f 576 && eqb b 576))
 
+pub page-of-16383 :
+    ((printed : List ℕ) (h : Held) (r : Progress) (forward back buffer out out′ : List ℕ)
+    → Begins pack.example (playerOf 7) printed h
+    → length forward ≡ length (h .forward)
+    → length back ≡ length (h .back)
+    → length out ≡ 16383
+    → toldProgress r forward back buffer out′
+    ≡ playOf pack.example (h .player) (h .forward) (h .back) (h .buffer) out
+    → isFinished (r .player) ≡ leb 7 (128 * 1))
+    → ⊥
+page-of-16383 claim =
+    let h = begun .first in
+    let r : Progress = record { player = h .player; written = 0 } in
+    let size : length (zeros 16383) ≡ 16383 = length-replicate {A = ℕ} 16383 0 in
+    let over : isFinished (h .player) ≡ true =
+    claim (begun .begun) h r (h .forward) (h .back) (h .buffer) (zeros 16383) (zeros 16383) (begun .begin) refl refl size
+    (unplayed (h .player) (h .forward) (h .back) (h .buffer) (zeros 16383) size) in
+    never (sym over ∙ going none)
+
 -- claim_lines_swapped: the example, begun on lines of zeros, and played with its lines the wrong way round; its seven events
 -- are then played, nothing is printed of them, and the begin's line would be all seven
-pub begun-on-zeros : (let p = put (page (zeros 16384) 0) (eventText 0 (cappedStep (start (playerOf 7 .ends)) (begin pack.message) .event)) in
-    Begins pack.example (playerOf 7) (take (p .place) (p .bytes)) (held begunPlayer announced (zeros 576) (zeros 1785)))
+abbrev pub firstPage : Page
+firstPage = put (page (zeros 16384) 0) (eventText 0 (cappedStep (start (playerOf 7 .ends)) (begin pack.message) .event))
+
+pub begun-on-zeros :
+    Begins pack.example (playerOf 7) (take (firstPage .place) (firstPage .bytes))
+    (held begunPlayer announced (zeros 576) (zeros 1785))
 unfolding beginOf messageOf cappedStep stepOf worldOf
 begun-on-zeros =
-    let p : Page = put (page (zeros 16384) 0) (eventText 0 (cappedStep (start (playerOf 7 .ends)) (begin pack.message) .event)) in
-    begins (record { player = begunPlayer; written = p .place }) (zeros 576) announced (zeros 576) (zeros 16384) (p .bytes) refl refl refl
-    (length-replicate {A = ℕ} 16384 0)
+    begins (record { player = begunPlayer; written = firstPage .place })
+    (zeros 576) announced (zeros 576) (zeros 16384) (firstPage .bytes) refl refl refl (length-replicate {A = ℕ} 16384 0)
     (λ other buffer. ap (λ (t : Turned). progressed t (playerOf 7 .bodies) 0)
     (pick-true _ (lent-begin 576 (length (zeros 16384)) refl (length-replicate {A = ℕ} 16384 0))
-    (ap (λ (w : World). turned w p) (computed .begun other buffer))))
+    (ap (λ (w : World). turned w firstPage) (computed .begun other buffer))))
 
-pub lines-swapped : (swapped .played ≡ 7) × (firstLine ++ take (swapped .page .place) (swapped .page .bytes) ≡ played pack.example → ⊥)
+pub lines-swapped : (swapped .played ≡ 7) × (firstLine ++ shown swapped ≡ played pack.example → ⊥)
 lines-swapped = (
   computed .plays-swapped,
-  λ e. let one : length (firstLine ++ take (swapped .page .place) (swapped .page .bytes)) ≡ 30 = ap (λ (l : List ℕ). length (firstLine ++ l)) (computed .shows-swapped) in
+  λ e. let one : length (firstLine ++ shown swapped) ≡ 30 =
+      ap (λ (l : List ℕ). length (firstLine ++ l)) (computed .shows-swapped) in
       let all : length (played pack.example) ≡ 179 = ap length (computed .prints) in
-      let same : length (firstLine ++ take (swapped .page .place) (swapped .page .bytes)) ≡ length (played pack.example) = ap length e in
+      let same : length (firstLine ++ shown swapped) ≡ length (played pack.example) = ap length e in
       omega arith,
 )
 
@@ -109,13 +141,16 @@ ended = runs-exist silent (playerOf 0) 0
 -- claim_begins_page_left_out: nothing would be all that is printed
 pub begins-page-left-out : (isFinished (ended .last .player) ≡ true → ended .text ≡ played silent) → ⊥
 begins-page-left-out claim =
-    let done : isFinished (ended .last .player) ≡ true = prints-played silent (variants.Ready (playerOf 0)) (sym (computed .opens-silent)) 0 (ended .begun) (ended .text) (ended .first) (ended .last) (ended .begin) (ended .play) .0 in
+    let done : isFinished (ended .last .player) ≡ true =
+    prints-played silent (variants.Ready (playerOf 0)) (sym (computed .opens-silent))
+    0 (ended .begun) (ended .text) (ended .first) (ended .last) (ended .begin) (ended .play) .0 in
     let none : _≡_ {A = ℕ} 0 30 = ap length (sym (no-plays refl (ended .play)) ∙ claim done ∙ computed .prints-silent) in
     omega arith
 
 -- ---- no pack
 
 -- claim_refusal_on_a_page_of_10: the refusal's line would have ten bytes
-pub refusal-on-a-page-of-10 : (let p = put (page (replicate 10 0) 0) (refusedText 12) in take (p .place) (p .bytes) ≡ played []) → ⊥
+pub refusal-on-a-page-of-10 :
+    (let p = put (page (replicate 10 0) 0) (refusedText 12) in take (p .place) (p .bytes) ≡ played []) → ⊥
 unfolding put byteAt pick digitsIn decimal spaced refusedText
 refusal-on-a-page-of-10 e = let ten : _≡_ {A = ℕ} 10 11 = ap length (e ∙ computed .prints-refused) in omega arith

@@ -90,7 +90,9 @@ pub record Computed : Type 0 where
   pub opens-silent : openOf silent ≡ accepted (playerOf 0)
   pub prints-silent : played silent ≡ firstLine
   pub begins : eventText 0 (cappedStep (start (playerOf 7 .ends)) (begin pack.message) .event) ≡ firstLine
-  pub begun : (back buffer : List ℕ) → worldOf (begunPlayer .ends) announced back buffer ≡ cappedStep (worldOf (playerOf 7 .ends) (zeros 576) back buffer) (begin pack.message) .world
+  pub begun : (back buffer : List ℕ)
+      → worldOf (begunPlayer .ends) announced back buffer
+      ≡ cappedStep (worldOf (playerOf 7 .ends) (zeros 576) back buffer) (begin pack.message) .world
   pub shows-swapped : take (swapped .page .place) (swapped .page .bytes) ≡ []
   pub plays-swapped : swapped .played ≡ 7
   pub refuses : openOf [] ≡ refused 12
@@ -99,14 +101,20 @@ pub record Computed : Type 0 where
 pub computed : Computed
 unfolding
     pick laidOut settingsOf bodiesIn messageOf eventsOf allEvents bodiesOf
-    worldOf framesIn framesFrom frameAt nextEvents playing playOf put worldAfter openedWith openedBodies openOf runOf playedOpened played callFor turnFor eventsFrom runFrom framesText eventText textOf
+    worldOf framesIn framesFrom frameAt nextEvents playing playOf put worldAfter
+    openedWith openedBodies openOf runOf playedOpened played
+    callFor turnFor eventsFrom runFrom framesText eventText textOf
     capped cappedStep joined makeOf givenForward givenBack stepOf
     frameCountOf incrementOf fillTo blankOf announcementOf informationOf lmAckOf endOfAckOf namedOf allFiller readOf
     sender-make.makeOf receiver-make.makeOf
     sender-begin.beginOf sender-begin.beginPhase sender-begin.beginIdle sender-begin.beginLong
-    sender-tick.tickOf sender-tick.lentTo sender-tick.tickPhase sender-tick.tickOpening sender-tick.unlessThird sender-tick.tickSending sender-tick.unlessOver sender-tick.atLimit sender-tick.afterFrame
-    sender-hear.hearOf sender-hear.hearRead sender-hear.hearKind sender-hear.hearAck sender-hear.ackOpening sender-hear.taking sender-hear.hearEnd sender-hear.ifWhole
-    receiver-hear.hearOf receiver-hear.hearRead receiver-hear.hearKind receiver-hear.hearNumbered receiver-hear.hearAnnouncement receiver-hear.announceIdle receiver-hear.hearInformation receiver-hear.informationOpen receiver-hear.stored receiver-hear.storing
+    sender-tick.tickOf sender-tick.lentTo sender-tick.tickPhase sender-tick.tickOpening
+    sender-tick.unlessThird sender-tick.tickSending sender-tick.unlessOver sender-tick.atLimit sender-tick.afterFrame
+    sender-hear.hearOf sender-hear.hearRead sender-hear.hearKind sender-hear.hearAck
+    sender-hear.ackOpening sender-hear.taking sender-hear.hearEnd sender-hear.ifWhole
+    receiver-hear.hearOf receiver-hear.hearRead receiver-hear.hearKind
+    receiver-hear.hearNumbered receiver-hear.hearAnnouncement receiver-hear.announceIdle
+    receiver-hear.hearInformation receiver-hear.informationOpen receiver-hear.stored receiver-hear.storing
     receiver-window.windowOf
     digitsIn decimal hexGlyph spaced hexes headOf frameLine sentLine deliveredLine senderReport receiverReport refusedText
 computed =

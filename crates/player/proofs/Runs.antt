@@ -47,13 +47,17 @@ length-joined r f bytes =
     let P : Kept → Type 0 = λ k. length (k .bytes) ≡ length bytes in
     pick-elim P _ (λ _. pick-elim P _ (λ _. refl) (λ _. simp length-sets)) (λ _. refl)
 
-joining : (r : Ring) (bytes : List ℕ) (fs : List Frame) → length bytes ≡ 576 → length (framesIn r bytes) + length fs ≤ 64 → AllEight fs
+joining : (r : Ring) (bytes : List ℕ) (fs : List Frame)
+    → length bytes ≡ 576
+    → length (framesIn r bytes) + length fs ≤ 64
+    → AllEight fs
     → Ringed (framesIn r bytes ++ fs)
 joining r bytes [] size few a = record { ring = r; bytes = bytes; size = size; holds = sym (append-nil (framesIn r bytes)) }
 joining r bytes (f ∷ fs) size few a =
     let k = joinOf r f bytes in
     let room : length (framesIn r bytes ++ f ∷ []) ≤ 64 = rw length-append (omega arith) in
-    let e : framesIn (k .ring) (k .bytes) ≡ framesIn r bytes ++ f ∷ [] = frames-joined r f bytes size (a .0) ∙ take-all 64 (framesIn r bytes ++ f ∷ []) room in
+    let e : framesIn (k .ring) (k .bytes) ≡ framesIn r bytes ++ f ∷ [] =
+    frames-joined r f bytes size (a .0) ∙ take-all 64 (framesIn r bytes ++ f ∷ []) room in
     let l : length (framesIn (k .ring) (k .bytes)) ≡ length (framesIn r bytes) + 1 = ap length e ∙ rw length-append refl in
     subst Ringed (ap (λ (l : List Frame). l ++ fs) e ∙ append-assoc (framesIn r bytes) (f ∷ []) fs)
     (joining (k .ring) (k .bytes) fs (length-joined r f bytes ∙ size) (omega arith) (a .1))
@@ -72,7 +76,11 @@ record Small (w : World) : Type 0 where
 small-world : (ends : Ends) (forward back buffer : List ℕ) → Small (worldOf ends forward back buffer)
 unfolding worldOf
 small-world ends forward back buffer =
-    record { whole = whole-world ends forward back buffer; forward = frames-limit (ends .forward) forward; back = frames-limit (ends .back) back }
+    record {
+      whole = whole-world ends forward back buffer;
+      forward = frames-limit (ends .forward) forward;
+      back = frames-limit (ends .back) back;
+    }
 
 small-step : (w : World) (c : Call) → Whole w → Small (cappedStep w c .world)
 unfolding cappedStep capped
@@ -82,7 +90,8 @@ small-step w c a =
 small-after : (w : World) (m events : List ℕ) → Small w → Small (worldAfter w m events)
 unfolding worldAfter turnFor
 small-after w m [] a = a
-small-after w m (event ∷ events) a = small-after (cappedStep w (callFor w m event) .world) m events (small-step w (callFor w m event) (a .whole))
+small-after w m (event ∷ events) a =
+    small-after (cappedStep w (callFor w m event) .world) m events (small-step w (callFor w m event) (a .whole))
 
 -- what makes a world: the ends, and the bytes of both lines
 record Makes (w : World) : Type 0 where
@@ -124,7 +133,8 @@ record Played (bytes : List ℕ) (n : ℕ) (h : Held) : Type 0 where
   last : Held
   play : Plays bytes n h text last
 
-small-played : (bytes : List ℕ) (q : Player) (forward back buffer out : List ℕ) → Small (playOf bytes q forward back buffer out .world)
+small-played : (bytes : List ℕ) (q : Player) (forward back buffer out : List ℕ)
+    → Small (playOf bytes q forward back buffer out .world)
 unfolding playOf playing
 small-played bytes q forward back buffer out =
     let w = worldOf (q .ends) forward back buffer in
@@ -138,12 +148,14 @@ played bytes (suc n) h lf lb =
     let g = playOf bytes (h .player) (h .forward) (h .back) (h .buffer) sheet in
     let m = made (g .world) (small-played bytes (h .player) (h .forward) (h .back) (h .buffer) sheet) in
     let r = answer (m .ends) g in
-    let rest = played bytes n (held (r .player) (m .forward) (m .back) (g .world .buffer)) (m .size-forward) (m .size-back) in
+    let next = held (r .player) (m .forward) (m .back) (g .world .buffer) in
+    let rest = played bytes n next (m .size-forward) (m .size-back) in
     record {
       text = take (r .written) (g .page .bytes) ++ rest .text;
       last = rest .last;
       play =
-          plays r (m .forward) (m .back) (g .world .buffer) sheet (g .page .bytes) (m .size-forward ∙ sym lf) (m .size-back ∙ sym lb)
+          plays r (m .forward) (m .back) (g .world .buffer) sheet (g .page .bytes)
+          (m .size-forward ∙ sym lf) (m .size-back ∙ sym lb)
           (length-zeros 16384)
           (ap (λ (w : World). progressed (turned w (g .page)) (g .bodies) (g .played)) (m .makes))
           (rest .play);
@@ -158,9 +170,11 @@ runs-exist bytes q n =
     let step = cappedStep w (begin m) in
     let a = small-step w (begin m) (whole-world (q .ends) line [] []) in
     let f = ringed (step .world .forward) (a .forward) (a .whole .forward) in
-    let ends : Ends = record { sender = step .world .sender; receiver = q .ends .receiver; forward = f .ring; back = q .ends .back } in
+    let ends : Ends =
+    record { sender = step .world .sender; receiver = q .ends .receiver; forward = f .ring; back = q .ends .back } in
     let p : Page = put (page sheet 0) (eventText 0 (step .event)) in
-    let r : Progress = record { player = record { ends = ends; bodies = q .bodies; played = q .played }; written = p .place } in
+    let player : Player = record { ends = ends; bodies = q .bodies; played = q .played } in
+    let r : Progress = record { player = player; written = p .place } in
     let h : Held = held (r .player) (f .bytes) line (replicate 1785 0) in
     let on = played bytes n h (f .size) (length-zeros 576) in
     record {
@@ -169,7 +183,8 @@ runs-exist bytes q n =
       first = h;
       last = on .last;
       begin =
-          begins r line (f .bytes) line sheet (p .bytes) (length-zeros 576) (f .size ∙ sym (length-zeros 576)) (length-zeros 576) (length-zeros 16384)
+          begins r line (f .bytes) line sheet (p .bytes)
+          (length-zeros 576) (f .size ∙ sym (length-zeros 576)) (length-zeros 576) (length-zeros 16384)
           (λ other buffer. ap (λ (t : Turned). progressed t (q .bodies) (q .played))
           (pick-true _ (lent-begin (length line) (length sheet) (length-zeros 576) (length-zeros 16384))
           (rw (f .holds, take-all 64 (framesIn (q .ends .back) other) (frames-limit (q .ends .back) other)) refl)));

@@ -45,17 +45,20 @@ leftAfter bytes g = leftOf bytes (g .world) (g .bodies) (g .played)
 
 -- ---- part by part
 
-events-parts : (w : World) (m xs ys : List ℕ) → eventsFrom w m (xs ++ ys) ≡ eventsFrom w m xs ++ eventsFrom (worldAfter w m xs) m ys
+events-parts : (w : World) (m xs ys : List ℕ)
+    → eventsFrom w m (xs ++ ys) ≡ eventsFrom w m xs ++ eventsFrom (worldAfter w m xs) m ys
 unfolding eventsFrom worldAfter
 events-parts w m [] ys = refl
-events-parts w m (x ∷ xs) ys = ap (λ (l : List Event). turnFor w m x .event ∷ l) (events-parts (turnFor w m x .world) m xs ys)
+events-parts w m (x ∷ xs) ys =
+    ap (λ (l : List Event). turnFor w m x .event ∷ l) (events-parts (turnFor w m x .world) m xs ys)
 
 length-events-from : (w : World) (m xs : List ℕ) → length (eventsFrom w m xs) ≡ length xs
 unfolding eventsFrom
 length-events-from w m [] = refl
 length-events-from w m (x ∷ xs) = ap suc (length-events-from (turnFor w m x .world) m xs)
 
-text-parts : (number : ℕ) (es fs : List Event) → textOf number (es ++ fs) ≡ textOf number es ++ textOf (number + length es) fs
+text-parts : (number : ℕ) (es fs : List Event)
+    → textOf number (es ++ fs) ≡ textOf number es ++ textOf (number + length es) fs
 unfolding textOf
 text-parts number [] fs = ap (λ (k : ℕ). textOf k fs) (sym (add-zero number))
 text-parts number (e ∷ es) fs =
@@ -70,7 +73,8 @@ played-parts : (w : World) (m xs ys : List ℕ) (number : ℕ)
 played-parts w m xs ys number =
     ap (textOf number) (events-parts w m xs ys)
     ∙ text-parts number (eventsFrom w m xs) (eventsFrom (worldAfter w m xs) m ys)
-    ∙ ap (λ (k : ℕ). textOf number (eventsFrom w m xs) ++ textOf (number + k) (eventsFrom (worldAfter w m xs) m ys)) (length-events-from w m xs)
+    ∙ ap (λ (k : ℕ). textOf number (eventsFrom w m xs) ++ textOf (number + k) (eventsFrom (worldAfter w m xs) m ys))
+    (length-events-from w m xs)
 
 -- what is behind the first n
 behind : (n : ℕ) (xs : List ℕ) → drop (length (take n xs)) xs ≡ drop n xs
@@ -81,7 +85,9 @@ behind (suc n) (x ∷ xs) = behind n xs
 -- ---- a page that has room
 
 -- from its first place on, a text that fits is what is shown
-pub page-shows : (out text : List ℕ) → length text ≤ length out → take (put (page out 0) text .place) (put (page out 0) text .bytes) ≡ text
+pub page-shows : (out text : List ℕ)
+    → length text ≤ length out
+    → take (put (page out 0) text .place) (put (page out 0) text .bytes) ≡ text
 page-shows out text fits =
     let room : 0 + length text ≤ length out = omega arith in
     let same : 0 + length text ≡ length text = omega arith in
@@ -96,6 +102,20 @@ lent-begin f o e c = rw (e, c) refl
 lent : (f b o : ℕ) → f ≡ 576 → b ≡ 576 → o ≡ 16384 → (eqb f 576 && eqb b 576 && eqb o 16384) ≡ true
 lent f b o e d c = rw (e, d, c) refl
 
+-- so that play plays the next events
+play-on : (bytes : List ℕ) (q : Player) (forward back buffer out : List ℕ)
+    → length forward ≡ 576
+    → length back ≡ 576
+    → length out ≡ 16384
+    → (let w = worldOf (q .ends) forward back buffer in
+    let events = nextEvents bytes q in
+    playOf bytes q forward back buffer out
+    ≡ progressed (playing w (messageOf bytes (q .bodies)) events (suc (q .played)) (page out 0))
+    (q .bodies) (q .played + length events))
+unfolding playOf
+play-on bytes q forward back buffer out lf lb lo =
+    sym (pick-true _ (lent (length forward) (length back) (length out) lf lb lo) refl)
+
 pub play-prints : (bytes : List ℕ) (q : Player) (forward back buffer out : List ℕ)
     → length forward ≡ 576
     → length back ≡ 576
@@ -109,18 +129,22 @@ play-prints bytes q forward back buffer out lf lb lo =
     let m = messageOf bytes (q .bodies) in
     let rest = drop (q .played) (eventsOf bytes (q .bodies)) in
     let n = min 128 (65535 - q .played) in
-    let few : length (take n rest) ≤ 128 = rw length-take (omega arith) in
-    let fits : length (textOf (suc (q .played)) (eventsFrom w m (take n rest))) ≤ length out = omega (arith, text-fits w m (take n rest) (suc (q .played)) (whole-world (q .ends) forward back buffer), few) in
-    let all : playOf bytes q forward back buffer out ≡ progressed (playing w m (nextEvents bytes q) (suc (q .played)) (page out 0)) (q .bodies) (q .played + length (nextEvents bytes q)) = sym (pick-true _ (lent (length forward) (length back) (length out) lf lb lo) refl) in
-    rw all
-    (ap (λ (l : List ℕ). textOf (suc (q .played)) (eventsFrom w m l)) (sym (take-append-drop n rest))
-    ∙ played-parts w m (take n rest) (drop n rest) (suc (q .played))
-    ∙ ap (λ (l : List ℕ). l ++ textOf (suc (q .played) + length (take n rest)) (eventsFrom (worldAfter w m (take n rest)) m (drop n rest)))
-    (sym (page-shows out (textOf (suc (q .played)) (eventsFrom w m (take n rest))) fits))
-    ∙ ap (λ (l : List ℕ). shown (progressed (playing w m (take n rest) (suc (q .played)) (page out 0)) (q .bodies) (q .played)) ++ textOf (suc (q .played) + length (take n rest)) (eventsFrom (worldAfter w m (take n rest)) m l))
-    (sym (behind n rest) ∙ drop-drop (length (take n rest)) (q .played) (eventsOf bytes (q .bodies)))
-    ∙ ap (λ (k : ℕ). shown (progressed (playing w m (take n rest) (suc (q .played)) (page out 0)) (q .bodies) (q .played)) ++ textOf k (eventsFrom (worldAfter w m (take n rest)) m (drop (q .played + length (take n rest)) (eventsOf bytes (q .bodies)))))
-    (suc-first (q .played) (length (take n rest))))
+    let part = take n rest in
+    let after = worldAfter w m part in
+    let number = suc (q .played) in
+    let print = shown (progressed (playing w m part number (page out 0)) (q .bodies) (q .played)) in
+    let few : length part ≤ 128 = rw length-take (omega arith) in
+    let short = text-fits w m part number (whole-world (q .ends) forward back buffer) in
+    let fits : length (textOf number (eventsFrom w m part)) ≤ length out = omega (arith, short, few) in
+    rw (play-on bytes q forward back buffer out lf lb lo)
+    (ap (λ (l : List ℕ). textOf number (eventsFrom w m l)) (sym (take-append-drop n rest))
+    ∙ played-parts w m part (drop n rest) number
+    ∙ ap (λ (l : List ℕ). l ++ textOf (number + length part) (eventsFrom after m (drop n rest)))
+    (sym (page-shows out (textOf number (eventsFrom w m part)) fits))
+    ∙ ap (λ (l : List ℕ). print ++ textOf (number + length part) (eventsFrom after m l))
+    (sym (behind n rest) ∙ drop-drop (length part) (q .played) (eventsOf bytes (q .bodies)))
+    ∙ ap (λ (k : ℕ). print ++ textOf k (eventsFrom after m (drop (q .played + length part) (eventsOf bytes (q .bodies)))))
+    (suc-first (q .played) (length part)))
   where
     suc-first : (a k : ℕ) → suc a + k ≡ suc (a + k)
     suc-first a k = omega arith
@@ -137,10 +161,13 @@ unfolding beginOf leftOf runOf runFrom textOf
 begin-from bytes ends b forward back out same lf lo =
     let m = messageOf bytes b in
     let step = cappedStep (start ends) (begin m) in
-    let fits : length (eventText 0 (step .event)) ≤ length out = omega (arith, event-short (start ends) (begin m) 0 (record { forward = tt; back = tt })) in
-    ap (λ (l : List ℕ). l ++ textOf 1 (eventsFrom (step .world) m (eventsOf bytes b))) (sym (page-shows out (eventText 0 (step .event)) fits))
+    let short = event-short (start ends) (begin m) 0 (record { forward = tt; back = tt }) in
+    let fits : length (eventText 0 (step .event)) ≤ length out = omega (arith, short) in
+    ap (λ (l : List ℕ). l ++ textOf 1 (eventsFrom (step .world) m (eventsOf bytes b)))
+    (sym (page-shows out (eventText 0 (step .event)) fits))
     ∙ ap (λ (t : Turned). take (t .page .place) (t .page .bytes) ++ textOf 1 (eventsFrom (t .world) m (eventsOf bytes b)))
-    (pick-true _ (lent-begin (length forward) (length out) lf lo) (ap (λ (v : World). printed (cappedStep v (begin m)) 0 (page out 0)) (sym same)))
+    (pick-true _ (lent-begin (length forward) (length out) lf lo)
+    (ap (λ (v : World). printed (cappedStep v (begin m)) 0 (page out 0)) (sym same)))
 
 pub begin-prints : (bytes : List ℕ) (q : Player)
     → openOf bytes ≡ accepted q
@@ -156,7 +183,8 @@ begin-prints bytes q opens forward back out lf lo =
     let made = make-answers (k .gap) (k .timeout) (k .limit) (k .patience) (k .window) (k .capacity) (q .ends) (o .made) in
     rw opens
     (subst
-    (λ (p : Player). let begun = beginOf bytes p forward back (replicate 1785 0) out in textOf 0 (runOf bytes p) ≡ shown begun ++ leftAfter bytes begun)
+    (λ (p : Player). let begun = beginOf bytes p forward back (replicate 1785 0) out in
+    textOf 0 (runOf bytes p) ≡ shown begun ++ leftAfter bytes begun)
     (o .just)
     (begin-from bytes (q .ends) (q .bodies) forward back out (made .empty forward back (replicate 1785 0)) lf lo))
 
@@ -181,12 +209,15 @@ play-count bytes q forward back buffer out lf lb lo read =
     let n = length-events bytes (q .bodies) read in
     let most = read-most bytes (q .bodies) read in
     let whole = read-whole bytes (q .bodies) read in
-    let on = progressed (playing (worldOf (q .ends) forward back buffer) (messageOf bytes (q .bodies)) (nextEvents bytes q) (suc (q .played)) (page out 0)) (q .bodies) (q .played + length (nextEvents bytes q)) in
-    let all : playOf bytes q forward back buffer out ≡ on = sym (pick-true _ (lent (length forward) (length back) (length out) lf lb lo) refl) in
-    (ap (λ (g : Progressed). g .bodies) all, ap (λ (g : Progressed). g .played) all ∙ rw (length-take, length-drop) (omega (arith, n, most, whole)))
+    let on = play-on bytes q forward back buffer out lf lb lo in
+    let same = ap (λ (g : Progressed). g .bodies) on in
+    (same, ap (λ (g : Progressed). g .played) on ∙ rw (length-take, length-drop) (omega (arith, n, most, whole)))
 
 -- where every event has been played nothing is left
-pub left-none : (bytes : List ℕ) (w : World) (b : Bodies) (count : ℕ) → bodiesOf bytes ≡ accepted b → b .events ≤ count → leftOf bytes w b count ≡ []
+pub left-none : (bytes : List ℕ) (w : World) (b : Bodies) (count : ℕ)
+    → bodiesOf bytes ≡ accepted b
+    → b .events ≤ count
+    → leftOf bytes w b count ≡ []
 unfolding leftOf eventsFrom textOf
 left-none bytes w b count read done =
     let n = length-events bytes b read in

@@ -29,7 +29,8 @@ use Rattle.transport.specs.Answer.{worldOf}
 
 -- what is left to print of what a program holds
 abbrev left : List ℕ → Held → List ℕ
-left bytes h = leftOf bytes (worldOf (h .player .ends) (h .forward) (h .back) (h .buffer)) (h .player .bodies) (h .player .played)
+left bytes h =
+    leftOf bytes (worldOf (h .player .ends) (h .forward) (h .back) (h .buffer)) (h .player .bodies) (h .player .played)
 
 -- after n calls of play, with what was printed so far
 record Reached (bytes : List ℕ) (b : Bodies) (n : ℕ) (text : List ℕ) (h : Held) : Type 0 where
@@ -56,7 +57,8 @@ after-begin {bytes} {q} ready (begins r forward forward′ back out out′ lf lf
     }
 
 -- one call more
-after-play : (bytes : List ℕ) (b : Bodies) (m : ℕ) (before : List ℕ) (h : Held) (r : Progress) (forward back buffer out out′ : List ℕ)
+after-play : (bytes : List ℕ) (b : Bodies) (m : ℕ) (before : List ℕ) (h : Held) (r : Progress)
+    (forward back buffer out out′ : List ℕ)
     → bodiesOf bytes ≡ accepted b
     → length forward ≡ length (h .forward)
     → length back ≡ length (h .back)
@@ -66,7 +68,8 @@ after-play : (bytes : List ℕ) (b : Bodies) (m : ℕ) (before : List ℕ) (h : 
     → Reached bytes b (suc m) (before ++ take (r .written) out′) (held (r .player) forward back buffer)
 after-play bytes b m before h r forward back buffer out out′ read lf lb lo e a =
     let same = a .bodies in
-    let c = play-count bytes (h .player) (h .forward) (h .back) (h .buffer) out (a .forward) (a .back) lo (read ∙ ap accepted (sym same)) in
+    let c = play-count bytes (h .player) (h .forward) (h .back) (h .buffer) out (a .forward) (a .back) lo
+    (read ∙ ap accepted (sym same)) in
     let of : h .player .bodies .events ≡ b .events = ap (λ (x : Bodies). x .events) same in
     record {
       forward = lf ∙ a .forward;
@@ -88,7 +91,8 @@ after-plays : {bytes : List ℕ} {b : Bodies} {n : ℕ} {text : List ℕ} {h k :
     → Reached bytes b (m + n) (before ++ text) k
 after-plays {bytes} {b} m before read (none {h}) a =
     let same : m ≡ m + 0 = omega arith in
-    subst (λ (i : ℕ). Reached bytes b i (before ++ []) h) same (subst (λ (l : List ℕ). Reached bytes b m l h) (sym (append-nil before)) a)
+    subst (λ (i : ℕ). Reached bytes b i (before ++ []) h) same
+    (subst (λ (l : List ℕ). Reached bytes b m l h) (sym (append-nil before)) a)
 after-plays {bytes} {b} m before read (plays {n} {text} {h} {k} r forward back buffer out out′ lf lb lo promise more) a =
     let same : suc m + n ≡ m + suc n = omega arith in
     let on = after-play bytes b m before h r forward back buffer out out′ read lf lb lo promise a in
@@ -112,7 +116,8 @@ of-player bytes q ready n begun text h k first more =
     let same : 0 + n ≡ n = omega arith in
     let events : k .player .bodies .events ≡ q .bodies .events = ap (λ (x : Bodies). x .events) (a .bodies) in
     let count : k .player .played ≡ min (128 * n) (q .bodies .events) = a .count ∙ omega arith in
-    let finished : isFinished (k .player) ≡ leb (q .bodies .events) (128 * n) = ap (λ (i : ℕ). leb i (k .player .played)) events ∙ all-played (q .bodies .events) n (k .player .played) count in
+    let finished : isFinished (k .player) ≡ leb (q .bodies .events) (128 * n) =
+    ap (λ (i : ℕ). leb i (k .player .played)) events ∙ all-played (q .bodies .events) n (k .player .played) count in
     let most = read-most bytes (q .bodies) read in
     let whole = read-whole bytes (q .bodies) read in (
       finished,
@@ -120,7 +125,8 @@ of-player bytes q ready n begun text h k first more =
       λ done. sym
           (a .all
           ∙ ap (λ (l : List ℕ). (begun ++ text) ++ l)
-          (left-none bytes (worldOf (k .player .ends) (k .forward) (k .back) (k .buffer)) (k .player .bodies) (k .player .played)
+          (left-none bytes (worldOf (k .player .ends) (k .forward) (k .back) (k .buffer))
+          (k .player .bodies) (k .player .played)
           (read ∙ ap accepted (sym (a .bodies))) (leb-true (k .player .bodies .events) (k .player .played) done))
           ∙ append-nil (begun ++ text)),
     )

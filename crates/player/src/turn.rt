@@ -106,26 +106,14 @@ pub(crate) fn next_turn(
         (now (message .entry)) event number (page (now (out .entry)) at) ⌝ }
 {
     match event {
-        1 => {
-            let a = ends.tick_sender(message, forward);
-            show(a, SENDER, number, out, at)
-        }
-        2 => {
-            let a = ends.tick_receiver(back);
-            show(a, RECEIVER, number, out, at)
-        }
+        1 => show(ends.tick_sender(message, forward), SENDER, number, out, at),
+        2 => show(ends.tick_receiver(back), RECEIVER, number, out, at),
         3 | 5 => {
             let a = ends.hear_forward(event == 3, buffer, forward, back);
             show(a, RECEIVER, number, out, at)
         }
-        4 => {
-            let a = ends.lose_forward();
-            show(a, RECEIVER, number, out, at)
-        }
-        7 => {
-            let a = ends.lose_back();
-            show(a, SENDER, number, out, at)
-        }
+        4 => show(ends.lose_forward(), RECEIVER, number, out, at),
+        7 => show(ends.lose_back(), SENDER, number, out, at),
         _ => {
             let a = ends.hear_back(event == 6, forward, back);
             show(a, SENDER, number, out, at)
