@@ -11,25 +11,22 @@ use lib.Seq.{take-all}
 use Rattle.frame.specs.Choice.{pick}
 use Rattle.frame.specs.declared.Frame.{Frame}
 use Rattle.line.proofs.Frames.{frames-limit}
-use Rattle.line.specs.Ring.{framesIn}
 use Rattle.receiver.proofs.View as view
 use Rattle.receiver.specs.Hear as hearing
-use Rattle.receiver.specs.Tick as ticking
 use Rattle.receiver.specs.Told as receiver
 use Rattle.receiver.specs.declared.Phase as receiver-phase
 use Rattle.receiver.specs.declared.Receiver.{Receiver}
 use Rattle.receiver.specs.declared.Settings.{Settings}
-use Rattle.sender.specs.Begin.{beginOf}
-use Rattle.sender.specs.Hear.{hearOf}
-use Rattle.sender.specs.Tick.{tickOf}
 use Rattle.sender.specs.Told as sender
 use Rattle.sender.specs.declared.Sender.{Sender}
 use Rattle.transport.proofs.Forms.{Forms, begin-tells, tick-tells, hear-tells}
 use Rattle.transport.specs.Answer.{worldOf, lentOf}
 use Rattle.transport.specs.Capped.{capped, cappedStep, atLine}
 use Rattle.transport.specs.Demand1.{isRefusal, leftBy, lentBy, refusedStep, Demand1}
-use Rattle.transport.specs.Step.{Stepped, senderRefused, bySender, byReceiver, wasRefused, Rest, gone, still, leaving, dropped, givenForward, givenBack, unheard, stepOf, withLines}
-use Rattle.transport.specs.World.{World, Call, begin, senderTick, receiverTick, hearForward, repeatForward, loseForward, hearBack, repeatBack, loseBack, Given, nobody, toSender, toReceiver, Event}
+use Rattle.transport.specs.Step.{Stepped, senderRefused, bySender, byReceiver, wasRefused, withLines}
+use Rattle.transport.specs.Step.{Rest, gone, still, leaving, givenForward, givenBack, stepOf}
+use Rattle.transport.specs.World.{World, Call, begin, senderTick, receiverTick, Given, nobody, toSender, toReceiver}
+use Rattle.transport.specs.World.{hearForward, repeatForward, loseForward, hearBack, repeatBack, loseBack}
 
 -- ---- what an end tells
 
