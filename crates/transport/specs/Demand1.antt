@@ -5,9 +5,11 @@ use mathlib.Core.Bool.{Bool, true, false, _||_}
 use mathlib.Core.List.{List, []}
 use mathlib.Core.Path.{_≡_}
 use Rattle.frame.specs.Frames.{blankOf}
+use Rattle.frame.specs.Result as result
 use Rattle.receiver.specs.Told as receiver
 use Rattle.transport.specs.Answer.{worldOf, quietly, lentOf}
 use Rattle.transport.specs.Capped.{cappedStep}
+use Rattle.transport.specs.Make.{makeOf}
 use Rattle.transport.specs.Step.{Stepped, withLines, senderRefused, wasRefused, dropped}
 use Rattle.transport.specs.World.{World, Call, Event}
 use Rattle.transport.specs.World.{begin, senderTick, receiverTick}
@@ -69,3 +71,6 @@ pub record Demand1 : Type 0 where
       isRefusal (cappedStep w c .event) ≡ true → cappedStep w c ≡ refusedStep w c (cappedStep w c .event)
   -- by the length of a line: both ends, both lines and the buffer stay
   pub misfit : (w : World) (c : Call) → lentOf false w c ≡ quietly w
+  -- making, by a setting: the number alone, and that is 1
+  pub make : (gap timeout limit patience window capacity number : ℕ)
+      → makeOf gap timeout limit patience window capacity ≡ result.refused number → number ≡ 1
