@@ -16,7 +16,6 @@ use lib.ListN.{length}
 use Rattle.frame.specs.Result.{accepted}
 use Rattle.frame.specs.Frames.{fillTo}
 use Rattle.receiver.specs.Make as receiver-making
-use Rattle.receiver.specs.Told as receiver
 use Rattle.receiver.specs.declared.Receiver.{Receiver}
 use Rattle.sender.specs.Make as sender-making
 use Rattle.sender.specs.Told as sender

@@ -17,7 +17,7 @@ use Rattle.frame.proofs.Choice.{pick-elim, both-left, both-right}
 use Rattle.frame.proofs.Laws.{frame-count-bounds}
 use Rattle.receiver.proofs.View.{receiverIn, Ticks, rests, waits, retries, expires, tick-does, nacks, opens, again, ended, above, delivers, asks, goes-on, Hears, refuses, ignores, announced, informed, closes, short, short-only, hear-does}
 use Rattle.receiver.specs.Make.{settingsFit, idleWith, makeOf}
-use Rattle.receiver.specs.Reachable.{Reachable, new, ticked, hearing, SettingsWithin, Announced, OpenWithin, PhaseWithin, Within, Exact}
+use Rattle.receiver.specs.Reachable.{Reachable, new, ticked, hearing, SettingsWithin, Announced, OpenWithin, PhaseWithin, Within, Exact, EveryReachable}
 use Rattle.receiver.specs.State.{opened, moved}
 use Rattle.receiver.specs.Told.{Told, Heard}
 use Rattle.receiver.specs.Window.{windowOf}
@@ -189,3 +189,6 @@ within-exact r x w p =
 
 pub reachable-exact : (r : Receiver) (x : Connection) → Reachable r → r .phase ≡ Open x → Exact r x
 reachable-exact r x h p = within-exact r x (reachable-within h) p
+
+pub every-reachable : EveryReachable
+every-reachable r h = (reachable-within h, λ x p. reachable-exact r x h p)

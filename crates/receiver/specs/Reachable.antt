@@ -1,5 +1,5 @@
 -- The states that making and calls bring a receiver to, what holds of them, and that in them the definitions' tests and
--- counts are document 01's own. `proofs/Reachable.antt` proves both.
+-- counts are document 01's own: `EveryReachable`, proved in `proofs/Reachable.antt`.
 use Prim.Native.Nat.{ℕ, _+_, _-_, _*_, _≤_, _<_}
 use mathlib.Core.Path.{_≡_}
 use mathlib.Core.List.{List}
@@ -76,3 +76,7 @@ pub record Exact (r : Receiver) (x : Connection) : Type 0 where
   pub some : 1 ≤ carried (x .expected) (x .length)
   pub part : 7 * (x .expected - 1) + carried (x .expected) (x .length) ≤ x .length
   pub whole : 7 * (x .frames - 1) + carried (x .frames) (x .length) ≡ x .length
+
+-- the claim: every receiver that making and calls bring about is within, and where it has an open connection, exact
+abbrev pub EveryReachable : Type 0
+EveryReachable = (r : Receiver) → Reachable r → Within r × ((x : Connection) → r .phase ≡ Open x → Exact r x)

@@ -8,28 +8,30 @@ use mathlib.Core.Path.{_≡_, refl, sym, _∙_}
 use native.Mathlib.Omega.{arith}
 use lib.ListN.{length}
 use lib.Seq.{take-all}
+use Rattle.frame.proofs.Choice.{pick-elim}
 use Rattle.frame.specs.Choice.{pick}
+use Rattle.frame.specs.Result.{Result, accepted, refused}
 use Rattle.frame.specs.declared.Frame.{Frame}
 use Rattle.line.proofs.Frames.{frames-limit}
-use Rattle.line.specs.Ring.{framesIn}
 use Rattle.receiver.proofs.View as view
 use Rattle.receiver.specs.Hear as hearing
-use Rattle.receiver.specs.Tick as ticking
+use Rattle.receiver.specs.Make as receiver-making
 use Rattle.receiver.specs.Told as receiver
 use Rattle.receiver.specs.declared.Phase as receiver-phase
 use Rattle.receiver.specs.declared.Receiver.{Receiver}
 use Rattle.receiver.specs.declared.Settings.{Settings}
-use Rattle.sender.specs.Begin.{beginOf}
-use Rattle.sender.specs.Hear.{hearOf}
-use Rattle.sender.specs.Tick.{tickOf}
+use Rattle.sender.specs.Make as sender-making
 use Rattle.sender.specs.Told as sender
 use Rattle.sender.specs.declared.Sender.{Sender}
 use Rattle.transport.proofs.Forms.{Forms, begin-tells, tick-tells, hear-tells}
 use Rattle.transport.specs.Answer.{worldOf, lentOf}
 use Rattle.transport.specs.Capped.{capped, cappedStep, atLine}
 use Rattle.transport.specs.Demand1.{isRefusal, leftBy, lentBy, refusedStep, Demand1}
-use Rattle.transport.specs.Step.{Stepped, senderRefused, bySender, byReceiver, wasRefused, Rest, gone, still, leaving, dropped, givenForward, givenBack, unheard, stepOf, withLines}
-use Rattle.transport.specs.World.{World, Call, begin, senderTick, receiverTick, hearForward, repeatForward, loseForward, hearBack, repeatBack, loseBack, Given, nobody, toSender, toReceiver, Event}
+use Rattle.transport.specs.Make.{joined, makeOf}
+use Rattle.transport.specs.Step.{Stepped, senderRefused, bySender, byReceiver, wasRefused, withLines}
+use Rattle.transport.specs.Step.{Rest, gone, still, leaving, givenForward, givenBack, stepOf}
+use Rattle.transport.specs.World.{World, Call, begin, senderTick, receiverTick, Given, nobody, toSender, toReceiver}
+use Rattle.transport.specs.World.{hearForward, repeatForward, loseForward, hearBack, repeatBack, loseBack}
 
 -- ---- what an end tells
 
@@ -164,10 +166,32 @@ call-only w hearBack fits = given-back gone hearBack w (w .back) refl refl (λ f
 call-only w repeatBack fits = given-back still repeatBack w (w .back) refl refl (λ f rest e. rw (sym e) refl) fits
 call-only w loseBack fits = λ e. absurd (false≢true e)
 
+-- ---- making
+
+-- the only number of a refusal is 1
+abbrev Numbered : {A : Type 0} → Result A → Type 0
+Numbered m = (number : ℕ) → m ≡ refused number → number ≡ 1
+
+fitting-numbered : {A : Type 0} (fits : Bool) (a : A) → Numbered (pick fits (accepted a) (refused 1))
+fitting-numbered fits a =
+    pick-elim Numbered fits (λ _ number e. let z : _≡_ {A = ℕ} 0 1 = cc in absurd (omega arith)) (λ _ number e. cc)
+
+joined-numbered : (x : Result Sender) (y : Result Receiver) → Numbered x → Numbered y → Numbered (joined x y)
+unfolding joined
+joined-numbered (refused n) y s r number e = s number cc
+joined-numbered (accepted a) (refused n) s r number e = r number cc
+joined-numbered (accepted a) (accepted b) s r number e = let z : _≡_ {A = ℕ} 0 1 = cc in absurd (omega arith)
+
+make-numbered : (gap timeout limit patience window capacity : ℕ) → Numbered (makeOf gap timeout limit patience window capacity)
+unfolding makeOf sender-making.makeOf receiver-making.makeOf
+make-numbered gap timeout limit patience window capacity =
+    joined-numbered _ _ (fitting-numbered _ _) (fitting-numbered _ _)
+
 pub demand-1 : Demand1
 unfolding worldOf cappedStep lentOf pick
 demand-1 =
     record {
       refused = λ ends forward back buffer c e. call-only (worldOf ends forward back buffer) c (record { forward = frames-limit (ends .forward) forward; back = frames-limit (ends .back) back }) e;
       misfit = λ w c. refl;
+      make = make-numbered;
     }

@@ -1,13 +1,18 @@
--- Demand 1 at the transport: a call that an end refuses leaves both ends and the buffer as they were and emits nothing, and
--- lines of another length are not touched. Making answers the number of a refusal and then no ends (`makeOf`).
+-- Demand 1 at the transport: a call that an end refuses leaves both ends and, byte by byte, the receiving buffer as they
+-- were, and emits nothing; a call that is lent a line of another length calls no end and leaves all this too. A refused
+-- making answers its number and no ends.
+-- What is claimed of a line that is lent: the list of frames that it holds stays, or loses the one frame that a hear gave.
+-- Its other bytes are left free, here as in the contracts of the calls (docs/DECISIONS.md, The player).
 use Prim.Native.Nat.{ℕ}
 use mathlib.Core.Bool.{Bool, true, false, _||_}
 use mathlib.Core.List.{List, []}
 use mathlib.Core.Path.{_≡_}
 use Rattle.frame.specs.Frames.{blankOf}
+use Rattle.frame.specs.Result as result
 use Rattle.receiver.specs.Told as receiver
 use Rattle.transport.specs.Answer.{worldOf, quietly, lentOf}
 use Rattle.transport.specs.Capped.{cappedStep}
+use Rattle.transport.specs.Make.{makeOf}
 use Rattle.transport.specs.Step.{Stepped, withLines, senderRefused, wasRefused, dropped}
 use Rattle.transport.specs.World.{World, Call, Event}
 use Rattle.transport.specs.World.{begin, senderTick, receiverTick}
@@ -67,5 +72,8 @@ pub record Demand1 : Type 0 where
   pub refused : (ends : Ends) (forward back buffer : List ℕ) (c : Call)
       → let w = worldOf ends forward back buffer in
       isRefusal (cappedStep w c .event) ≡ true → cappedStep w c ≡ refusedStep w c (cappedStep w c .event)
-  -- by the length of a line: both ends, both lines and the buffer stay
+  -- by the length of a line: both ends, both lists of frames and the buffer stay
   pub misfit : (w : World) (c : Call) → lentOf false w c ≡ quietly w
+  -- making, by a setting: a refusal has a number in place of the ends, and that is 1
+  pub make : (gap timeout limit patience window capacity number : ℕ)
+      → makeOf gap timeout limit patience window capacity ≡ result.refused number → number ≡ 1
