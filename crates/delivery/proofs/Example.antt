@@ -25,20 +25,22 @@ unfolding
     fillTo blankOf announcementOf informationOf lmAckOf lmNackOf endOfAckOf smRmOf smAckOf
     namedOf allFiller readOf
     sender-begin.beginOf sender-begin.beginPhase sender-begin.beginIdle sender-begin.beginLong sender-begin.beginShort
-    sender-tick.tickOf sender-tick.lentTo sender-tick.tickPhase sender-tick.tickOpening sender-tick.tickSending sender-tick.tickShort
-    sender-tick.unlessOver sender-tick.atLimit sender-tick.afterFrame
-    sender-hear.hearOf sender-hear.hearRead sender-hear.hearKind sender-hear.hearAck sender-hear.ackOpening sender-hear.taking
-    sender-hear.hearEnd sender-hear.ifWhole sender-hear.hearShortAck sender-hear.ifFirst
-    receiver-hear.hearOf receiver-hear.hearRead receiver-hear.hearKind receiver-hear.hearNumbered receiver-hear.hearAnnouncement
-    receiver-hear.announceIdle receiver-hear.announceOpen receiver-hear.hearInformation receiver-hear.informationOpen
-    receiver-hear.stored receiver-hear.storing receiver-window.windowOf
+    sender-tick.tickOf sender-tick.lentTo sender-tick.tickPhase sender-tick.tickOpening sender-tick.tickSending
+    sender-tick.tickShort sender-tick.unlessOver sender-tick.atLimit sender-tick.afterFrame
+    sender-hear.hearOf sender-hear.hearRead sender-hear.hearKind sender-hear.hearAck sender-hear.ackOpening
+    sender-hear.taking sender-hear.hearEnd sender-hear.ifWhole sender-hear.hearShortAck sender-hear.ifFirst
+    receiver-hear.hearOf receiver-hear.hearRead receiver-hear.hearKind receiver-hear.hearNumbered
+    receiver-hear.hearAnnouncement receiver-hear.announceIdle receiver-hear.announceOpen receiver-hear.hearInformation
+    receiver-hear.informationOpen receiver-hear.stored receiver-hear.storing receiver-window.windowOf
 examples =
     record {
       example =
           record {
             shows = refl;
-            meets =
-                (λ _. (refl, refl, refl), (λ _. refl, (tt, (λ _. λ _. refl, (λ _. refl, (λ _. λ _. refl, (λ _. refl, (tt, tt))))))));
+            meets = (
+              λ _. (refl, refl, refl),
+              (λ _. refl, (tt, (λ _. λ _. refl, (λ _. refl, (λ _. λ _. refl, (λ _. refl, (tt, tt))))))),
+            );
           };
       twice =
           record {
@@ -63,7 +65,10 @@ examples =
                               tt,
                               (
                                 tt,
-                                (λ _. (refl, refl, refl), (λ _. refl, (tt, (λ _. λ _. refl, (λ _. refl, (λ _. λ _. refl, (λ _. refl, (tt, tt)))))))),
+                                (
+                                  λ _. (refl, refl, refl),
+                                  (λ _. refl, (tt, (λ _. λ _. refl, (λ _. refl, (λ _. λ _. refl, (λ _. refl, (tt, tt))))))),
+                                ),
                               ),
                             ),
                           ),
@@ -92,7 +97,10 @@ examples =
                         tt,
                         (
                           tt,
-                          (λ _. (refl, refl), (λ _. refl, (tt, (λ _. λ _. refl, (λ _. refl, (λ _. λ _. refl, (λ _. refl, (tt, tt)))))))),
+                          (
+                            λ _. (refl, refl),
+                            (λ _. refl, (tt, (λ _. λ _. refl, (λ _. refl, (λ _. λ _. refl, (λ _. refl, (tt, tt))))))),
+                          ),
                         ),
                       ),
                     ),

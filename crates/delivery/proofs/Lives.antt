@@ -48,7 +48,8 @@ had-further (since m n reports deliveries) ticks ds h = add-zero reports ∙ h
 -- ---- the sender's calls
 
 -- the world after a call of the sender that told a; the call counts for k ticks if it was taken
-pub record Acted (st : Settings) (r : Receiver) (forward back : List Frame) (buffer : List ℕ) (b : Begun) (k : Bool → ℕ) (a : Told) : Type 0 where
+pub record Acted (st : Settings) (r : Receiver) (forward back : List Frame) (buffer : List ℕ) (b : Begun) (k : Bool → ℕ)
+    (a : Told) : Type 0 where
   pub live :
       Live st (a .next) r (forward ++ emission (a .emits) (a .frame)) back buffer
       (further b (k (taken (a .outcome))) (senderReports (a .outcome)) [])
@@ -60,8 +61,10 @@ rests {b = b} {k = k} h ignores = record { live = resting (had-further b (k true
 rests {b = b} {k = k} h refuses = record { live = resting (had-further b (k false) [] h); sent = tt }
 
 -- a frame of the transfer joins forward
-stage-adds : {m : List ℕ} {isOpening : Bool} {q : receiver-phase.Phase} {forward back : List Frame} {buffer : List ℕ} {ds : List (List ℕ)} {f : Frame}
-    → Stage m isOpening q forward back buffer ds → Adds m isOpening f → Stage m isOpening q (forward ++ f ∷ []) back buffer ds
+stage-adds : {m : List ℕ} {isOpening : Bool} {q : receiver-phase.Phase} {forward back : List Frame} {buffer : List ℕ}
+    {ds : List (List ℕ)} {f : Frame}
+    → Stage m isOpening q forward back buffer ds → Adds m isOpening f
+    → Stage m isOpening q (forward ++ f ∷ []) back buffer ds
 stage-adds (early past l b) (announcement a) = early past (joins l a) b
 stage-adds (fresh shut l b) (announcement a) = fresh shut (joins l a) b
 stage-adds (asked h l b) (announcement a) = asked h (joins l a) b
@@ -69,16 +72,19 @@ stage-adds (going h l b) (information a) = going h (joins-late l a) b
 stage-adds (there l b) (information a) = there (joins l a) b
 stage-adds (lost other small l b) (information a) = lost other small (joins l a) b
 
-module _ {st : Settings} {r : Receiver} {forward back : List Frame} {buffer : List ℕ} {m : List ℕ} {n : ℕ} {ds : List (List ℕ)} where
+module _ {st : Settings} {r : Receiver} {forward back : List Frame} {buffer : List ℕ} {m : List ℕ} {n : ℕ}
+    {ds : List (List ℕ)} where
   long-ticked : {isOpening : Bool} {a : Told} → Fits m → n < st .limit → Stage m isOpening (r .phase) forward back buffer ds
       → Ticks st (λ k. Moving m k isOpening) (Adds m isOpening) n a
       → Acted st r forward back buffer (since m n 0 ds) one a
   long-ticked w young s over = record { live = resting refl; sent = tt }
-  long-ticked w young s (kept v) = record { live = rw (append-nil, add-zero n) (long (w .long) (w .fits) young v s); sent = tt }
+  long-ticked w young s (kept v) =
+      record { live = rw (append-nil, add-zero n) (long (w .long) (w .fits) young v s); sent = tt }
   long-ticked w young s (waits time v) = record { live = rw append-nil (long (w .long) (w .fits) time v s); sent = tt }
   long-ticked w young s (adds time v a) = record { live = long (w .long) (w .fits) time v (stage-adds s a); sent = tt }
 
-  short-ticked : {a : Told} → length m ≤ 8 → n < st .limit → Line (Repeats m) forward → Line (Echoes ds) back → Copies (fillTo 8 m) ds
+  short-ticked : {a : Told} → length m ≤ 8 → n < st .limit → Line (Repeats m) forward → Line (Echoes ds) back
+      → Copies (fillTo 8 m) ds
       → Ticks st (Lone m) (Repeats m) n a
       → Acted st r forward back buffer (since m n 0 ds) one a
   short-ticked w young l e c over = record { live = resting refl; sent = tt }
@@ -115,7 +121,8 @@ echo-more d f (stages.Echoes.replies r) = stages.Echoes.replies r
 abbrev none-counted : Bool → ℕ
 none-counted t = 0
 
-module _ {st : Settings} {r : Receiver} {forward back : List Frame} {buffer : List ℕ} {m : List ℕ} {n : ℕ} {ds : List (List ℕ)} where
+module _ {st : Settings} {r : Receiver} {forward back : List Frame} {buffer : List ℕ} {m : List ℕ} {n : ℕ}
+    {ds : List (List ℕ)} where
   -- the transfer fails, goes on in a phase that fits, or is finished
   heard-on : {S : Phase → Type 0} {Z : Type 0} {a : Told}
       → ((p : Phase) → S p → Live st (senderIn st p) r forward back buffer (since m n 0 ds))
@@ -145,7 +152,8 @@ module _ {st : Settings} (rs : receiver-settings.Settings) {m : List ℕ} {n : �
   acked s t p (same v) = goes-on s p v
   acked s t p (windowed v) = goes-on t p v
 
-  long-replied : {isOpening : Bool} {p : Phase} {q : receiver-phase.Phase} {forward back : List Frame} {buffer : List ℕ} {ds : List (List ℕ)} {f : Frame}
+  long-replied : {isOpening : Bool} {p : Phase} {q : receiver-phase.Phase} {forward back : List Frame} {buffer : List ℕ}
+      {ds : List (List ℕ)} {f : Frame}
       → Moving m n isOpening p
       → Stage m isOpening q forward back buffer ds
       → Stage m false q forward back buffer ds
@@ -154,7 +162,8 @@ module _ {st : Settings} (rs : receiver-settings.Settings) {m : List ℕ} {n : �
   long-replied v s t (stages.grants start count) = heard-on (acked s t) (λ z. absurd z) (long-ack st m n v start count)
   long-replied v s t (stages.Replies.refuses cause) = heard-on (λ p z. absurd z) (λ z. absurd z) (long-nack st m n v cause)
 
-  long-hear : {isOpening : Bool} {p : Phase} {q : receiver-phase.Phase} {forward rest : List Frame} {buffer : List ℕ} {ds : List (List ℕ)} {f : Frame} (k : Rest)
+  long-hear : {isOpening : Bool} {p : Phase} {q : receiver-phase.Phase} {forward rest : List Frame} {buffer : List ℕ}
+      {ds : List (List ℕ)} {f : Frame} (k : Rest)
       → Moving m n isOpening p
       → Stage m isOpening q forward (f ∷ rest) buffer ds
       → Acted st (receiverIn rs q) forward (leaving k f rest) buffer (since m n 0 ds) none-counted (hearOf (senderIn st p) f)
@@ -187,20 +196,24 @@ module _ {st : Settings} (rs : receiver-settings.Settings) {m : List ℕ} {n : �
       let s = there l (left-line k (more (stages.Closes.ends e) b)) in
       heard-on (goes-on s) (λ _. whole (w .long)) (long-end st m n v (framesOf m) (length m) e)
 
-pub hear-live : {st : Settings} {s : Sender} {r : Receiver} {forward rest : List Frame} {buffer : List ℕ} {b : Begun} {f : Frame} (k : Rest)
+pub hear-live : {st : Settings} {s : Sender} {r : Receiver} {forward rest : List Frame} {buffer : List ℕ} {b : Begun}
+    {f : Frame} (k : Rest)
     → Live st s r forward (f ∷ rest) buffer b
     → Acted st r forward (leaving k f rest) buffer b none-counted (hearOf s f)
 hear-live {st} {f = f} k (resting h) = rests h (idle-hear st f)
 hear-live k (long {r = r} wide fits young v s) = long-hear (r .settings) (record { long = wide; fits = fits }) young k v s
 hear-live {st} k (short {m} {n} {r = r} w young v l (more (echoes first some) e) c) =
-    heard-on (λ p u. short w young u l (left-line k (more (echoes first some) e)) c) (λ _. echoed w some c) (short-end st m n v first)
+    heard-on (λ p u. short w young u l (left-line k (more (echoes first some) e)) c) (λ _. echoed w some c)
+    (short-end st m n v first)
 hear-live {st} k (short {m} {n} {r = r} w young v l (more (stages.Echoes.replies x) e) c) =
-    heard-on (λ p u. short w young u l (left-line k (more (stages.Echoes.replies x) e)) c) (λ z. absurd z) (short-reply st m n v x)
+    heard-on (λ p u. short w young u l (left-line k (more (stages.Echoes.replies x) e)) c) (λ z. absurd z)
+    (short-reply st m n v x)
 
 -- ---- begin
 
 -- the world after a begin of l that told a
-pub record Began (st : Settings) (r : Receiver) (forward back : List Frame) (buffer : List ℕ) (b : Begun) (l : List ℕ) (a : Told) : Type 0 where
+pub record Began (st : Settings) (r : Receiver) (forward back : List Frame) (buffer : List ℕ) (b : Begun) (l : List ℕ)
+    (a : Told) : Type 0 where
   pub live :
       Live st (a .next) r (forward ++ emission (a .emits) (a .frame)) back buffer
       (begunBy (begins l) (taken (a .outcome)) (further b 0 (senderReports (a .outcome)) []))
@@ -214,14 +227,16 @@ Stands (at.Done y) = Unit
 Stands (at.Open x) = (1 ≤ x .expected) × (x .expected ≤ x .frames) × (x .length ≤ 1785)
 
 -- the stage that a begin starts in
-starts : (m : List ℕ) {forward : List Frame} {buffer : List ℕ} (q : receiver-phase.Phase) → Stands q → Line (Announces m) forward
+starts : (m : List ℕ) {forward : List Frame} {buffer : List ℕ} (q : receiver-phase.Phase) → Stands q
+    → Line (Announces m) forward
     → Stage m true q forward [] buffer []
 starts m at.Idle s l = fresh tt l none
 starts m (at.Done y) s l = fresh tt l none
 starts m {forward} {buffer} (at.Open x) s l =
     go (eqb (x .expected) 1) refl (eqb (x .frames) (framesOf m)) refl (eqb (x .length) (length m)) refl
   where
-    go : (first : Bool) → eqb (x .expected) 1 ≡ first → (many : Bool) → eqb (x .frames) (framesOf m) ≡ many → (exact : Bool) → eqb (x .length) (length m) ≡ exact
+    go : (first : Bool) → eqb (x .expected) 1 ≡ first → (many : Bool) → eqb (x .frames) (framesOf m) ≡ many → (exact : Bool)
+        → eqb (x .length) (length m) ≡ exact
         → Stage m true (at.Open x) forward [] buffer []
     go false e many d exact c =
         let low = s .0 in
@@ -248,15 +263,19 @@ module _ (st : Settings) (r : Receiver) (forward back : List Frame) (buffer : Li
       → Live st (senderIn st p) r forward back buffer (since m n 0 ds)
       → Began st r forward back buffer (since m n 0 ds) l (beginOf (senderIn st p) l)
   unfolding beginOf beginPhase
-  begin-long {n = n} l (stages.opening k) live = record { live = rw (append-nil, add-zero n) live; sent = λ c. tt; again = tt }
-  begin-long {n = n} l (stages.sending k low mid high) live = record { live = rw (append-nil, add-zero n) live; sent = λ c. tt; again = tt }
-  begin-long {n = n} l (stages.waiting k low high) live = record { live = rw (append-nil, add-zero n) live; sent = λ c. tt; again = tt }
+  begin-long {n = n} l (stages.opening k) live =
+      record { live = rw (append-nil, add-zero n) live; sent = λ c. tt; again = tt }
+  begin-long {n = n} l (stages.sending k low mid high) live =
+      record { live = rw (append-nil, add-zero n) live; sent = λ c. tt; again = tt }
+  begin-long {n = n} l (stages.waiting k low high) live =
+      record { live = rw (append-nil, add-zero n) live; sent = λ c. tt; again = tt }
 
   begin-short : {m : List ℕ} {n : ℕ} {p : Phase} {ds : List (List ℕ)} (l : List ℕ) → Lone m n p
       → Live st (senderIn st p) r forward back buffer (since m n 0 ds)
       → Began st r forward back buffer (since m n 0 ds) l (beginOf (senderIn st p) l)
   unfolding beginOf beginPhase
-  begin-short {n = n} l (lone whole old) live = record { live = rw (append-nil, add-zero n) live; sent = λ c. tt; again = tt }
+  begin-short {n = n} l (lone whole old) live =
+      record { live = rw (append-nil, add-zero n) live; sent = λ c. tt; again = tt }
 
   begins-short : (b : Begun) (l : List ℕ) → HadReport b → 1 ≤ st .limit → length l ≤ 8 → Found r forward back
       → Began st r forward back buffer b l (beginShort (senderIn st Idle) l)
@@ -268,14 +287,16 @@ module _ (st : Settings) (r : Receiver) (forward back : List Frame) (buffer : Li
         again = h;
       }
 
-  begins-long : (b : Begun) (l : List ℕ) → HadReport b → 1 ≤ st .limit → 8 < length l → length l ≤ 1785 → Found r forward back
+  begins-long : (b : Begun) (l : List ℕ) → HadReport b → 1 ≤ st .limit → 8 < length l → length l ≤ 1785
+      → Found r forward back
       → Began st r forward back buffer b l (beginLong (senderIn st Idle) l)
   unfolding beginLong
   begins-long b l h some wide fits found =
       record {
         live =
             rw (found .clear, found .clear-back)
-            (long wide fits some (stages.opening (record { long = refl; many = refl; old = refl })) (starts l (r .phase) (found .stands) (more (announces refl) none)));
+            (long wide fits some (stages.opening (record { long = refl; many = refl; old = refl }))
+            (starts l (r .phase) (found .stands) (more (announces refl) none)));
         sent = λ c. tt;
         again = h;
       }
@@ -286,11 +307,14 @@ module _ (st : Settings) (r : Receiver) (forward back : List Frame) (buffer : Li
       → Began st r forward back buffer b l (beginOf (senderIn st Idle) l)
   unfolding beginOf beginPhase beginIdle beginShort beginLong
   begin-idle b l h some =
-      let P : Told → Type 0 = λ a. (taken (a .outcome) ≡ true → Found r forward back) → Began st r forward back buffer b l a in
+      let P : Told → Type 0
+      = λ a. (taken (a .outcome) ≡ true → Found r forward back) → Began st r forward back buffer b l a in
       pick-elim P _
       (λ inside. pick-elim P _
       (λ narrow. λ found. begins-short b l h some (leb-true (length l) 8 narrow) (found refl))
-      (λ wide. λ found. begins-long b l h some (leb-false (length l) 8 wide) (leb-true (length l) 1785 (both-right (leb 1 (length l)) (leb (length l) 1785) inside)) (found refl)))
+      (λ wide. λ found. begins-long b l h some (leb-false (length l) 8 wide)
+      (leb-true (length l) 1785 (both-right (leb 1 (length l)) (leb (length l) 1785) inside))
+      (found refl)))
       (λ outside. λ found. record { live = resting (had-further b 0 [] h); sent = λ c. tt; again = tt })
 
 pub begin-live : {st : Settings} {s : Sender} {r : Receiver} {forward back : List Frame} {buffer : List ℕ} {b : Begun}
@@ -308,32 +332,41 @@ begin-live {st} {r = r} {forward} {back} {buffer} some (short w young v f e k) l
 -- ---- the receiver's calls
 
 -- the world after a call of the receiver that told h; forward is as the call left it
-pub record Received (st : Settings) (s : Sender) (forward back : List Frame) (buffer : List ℕ) (b : Begun) (h : Heard) : Type 0 where
+pub record Received (st : Settings) (s : Sender) (forward back : List Frame) (buffer : List ℕ) (b : Begun)
+    (h : Heard) : Type 0 where
   pub live :
       Live st s (h .told .next) forward (back ++ emission (h .told .emits) (h .told .frame))
       (bufferAfter (wasRefused (h .told .outcome)) buffer (h .buffer))
       (further b 0 0 (deliveriesBy (h .told .outcome) (h .told .bytes) (h .buffer)))
 
-long-took : {st : Settings} {m : List ℕ} {n : ℕ} {isOpening : Bool} {p : Phase} {forward back : List Frame} {buffer : List ℕ} {ds : List (List ℕ)} {h : Heard}
+long-took : {st : Settings} {m : List ℕ} {n : ℕ} {isOpening : Bool} {p : Phase} {forward back : List Frame} {buffer : List ℕ}
+    {ds : List (List ℕ)} {h : Heard}
     → Fits m → n < st .limit → Moving m n isOpening p
     → Took m isOpening forward back buffer ds h
     → Received st (senderIn st p) forward back buffer (since m n 0 ds) h
 long-took {n = n} w young v t = record { live = rw (add-zero n) (long (w .long) (w .fits) young v (t .stage)) }
 
 module _ {st : Settings} {m : List ℕ} {n : ℕ} {p : Phase} {forward back : List Frame} {buffer : List ℕ} {ds : List (List ℕ)}
-    (narrow : length m ≤ 8) (young : n < st .limit) (v : Lone m n p) (e : Line (Echoes ds) back) (c : Copies (fillTo 8 m) ds) where
+    (narrow : length m ≤ 8) (young : n < st .limit) (v : Lone m n p) (e : Line (Echoes ds) back)
+    (c : Copies (fillTo 8 m) ds) where
   -- a tick of the receiver is none of the transfer's
-  short-rests : {rs : receiver-settings.Settings} {q : receiver-phase.Phase} {t : receiver.Told} → Line (Repeats m) forward → view.Ticks rs q t
+  short-rests : {rs : receiver-settings.Settings} {q : receiver-phase.Phase} {t : receiver.Told} → Line (Repeats m) forward
+      → view.Ticks rs q t
       → Received st (senderIn st p) forward back buffer (since m n 0 ds) (heard t buffer)
   short-rests l (view.rests _) = record { live = rw (append-nil, add-zero n) (short narrow young v l e c) }
   short-rests l (view.waits _) = record { live = rw (append-nil, add-zero n) (short narrow young v l e c) }
   short-rests l (view.retries _ _) =
       record { live = rw (add-zero n) (short narrow young v l (joins e (stages.Echoes.replies (stages.grants _ _))) c) }
   short-rests l view.expires =
-      record { live = rw (add-zero n) (short narrow young v l (joins e (stages.Echoes.replies (stages.Replies.refuses 2))) c) }
+      record {
+        live =
+            rw (add-zero n)
+            (short narrow young v l (joins e (stages.Echoes.replies (stages.Replies.refuses 2))) c);
+      }
 
   -- SM_RM is delivered and acknowledged, or nothing happens
-  short-hear : {rs : receiver-settings.Settings} {q : receiver-phase.Phase} {lent : List ℕ} {h : Heard} → Line (Repeats m) forward
+  short-hear : {rs : receiver-settings.Settings} {q : receiver-phase.Phase} {lent : List ℕ} {h : Heard}
+      → Line (Repeats m) forward
       → view.Hears rs (smRmOf m) lent q h → Received st (senderIn st p) forward back buffer (since m n 0 ds) h
   unfolding smRmOf
   short-hear l (view.refuses _) = record { live = rw (append-nil, add-zero n) (short narrow young v l e c) }
@@ -343,10 +376,15 @@ module _ {st : Settings} {m : List ℕ} {n : ℕ} {p : Phase} {forward back : Li
   short-hear l (view.closes k) = absurd (omega arith)
   short-hear l (view.short _) =
       let some : 1 ≤ length (fillTo 8 m ∷ ds) = omega arith in
-      record { live = rw (add-zero n) (short narrow young v l (joins (widens (echo-more (fillTo 8 m)) e) (echoes _ some)) (refl, c)) }
+      record {
+        live =
+            rw (add-zero n)
+            (short narrow young v l (joins (widens (echo-more (fillTo 8 m)) e) (echoes _ some)) (refl, c));
+      }
   short-hear l (view.short-only k) = absurd (omega arith)
 
-pub receiver-tick-live : {st : Settings} {s : Sender} {r : Receiver} {forward back : List Frame} {buffer : List ℕ} {b : Begun}
+pub receiver-tick-live : {st : Settings} {s : Sender} {r : Receiver} {forward back : List Frame} {buffer : List ℕ}
+    {b : Begun}
     → Live st s r forward back buffer b
     → Received st s forward back buffer b (heard (receiver-tick.tickOf r) buffer)
 receiver-tick-live {b = b} (resting h) = record { live = resting (had-further b 0 _ h) }
@@ -354,7 +392,8 @@ receiver-tick-live (long {r = r} wide fits young v s) =
     long-took (record { long = wide; fits = fits }) young v (stage-tick (r .settings) s)
 receiver-tick-live (short {r = r} narrow young v l e c) = short-rests narrow young v e c l (view.tick-does r)
 
-pub receiver-hear-live : {st : Settings} {s : Sender} {r : Receiver} {f : Frame} {rest back : List Frame} {buffer : List ℕ} {b : Begun} (k : Rest) (lent : List ℕ)
+pub receiver-hear-live : {st : Settings} {s : Sender} {r : Receiver} {f : Frame} {rest back : List Frame} {buffer : List ℕ}
+    {b : Begun} (k : Rest) (lent : List ℕ)
     → Live st s r (f ∷ rest) back buffer b
     → (Unrefused (receiver-hear.hearOf r f lent) → lent ≡ buffer)
     → Received st s (leaving k f rest) back buffer b (receiver-hear.hearOf r f lent)
@@ -373,7 +412,8 @@ pub lose-forward-live : {st : Settings} {s : Sender} {r : Receiver} {forward bac
     → Live st s r (dropped forward) back buffer (further b 0 0 [])
 lose-forward-live {b = b} (resting h) = resting (had-further b 0 [] h)
 lose-forward-live {forward = []} (long {n = n} wide fits young v s) = rw (add-zero n) (long wide fits young v s)
-lose-forward-live {forward = f ∷ rest} (long {n = n} wide fits young v s) = rw (add-zero n) (long wide fits young v (stage-leaving gone s))
+lose-forward-live {forward = f ∷ rest} (long {n = n} wide fits young v s) =
+    rw (add-zero n) (long wide fits young v (stage-leaving gone s))
 lose-forward-live {forward = []} (short {n = n} w young v l e c) = rw (add-zero n) (short w young v l e c)
 lose-forward-live {forward = f ∷ rest} (short {n = n} w young v l e c) = rw (add-zero n) (short w young v (behind l) e c)
 

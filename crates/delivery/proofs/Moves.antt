@@ -26,7 +26,8 @@ use Rattle.transport.specs.Step.{emission, wasRefused, bufferAfter, Rest, gone,
 
 -- the stage after a call of the receiver that told h: forward as the call left it, back, the buffer and the deliveries as
 -- they were before it
-pub record Took (m : List ℕ) (isOpening : Bool) (forward back : List Frame) (buffer : List ℕ) (ds : List (List ℕ)) (h : Heard) : Type 0 where
+pub record Took (m : List ℕ) (isOpening : Bool) (forward back : List Frame) (buffer : List ℕ) (ds : List (List ℕ))
+    (h : Heard) : Type 0 where
   pub stage :
       Stage m isOpening (h .told .next .phase) forward (back ++ emission (h .told .emits) (h .told .frame))
       (bufferAfter (wasRefused (h .told .outcome)) buffer (h .buffer))
@@ -45,21 +46,28 @@ declined-is f (stages.Declines.refuses cause) = stages.Replies.refuses cause
 declined-is f (stages.later start count _) = grants start count
 
 module _ {m : List ℕ} {rs : Settings} {forward back : List Frame} {buffer : List ℕ} where
-  asked-goes : {h : Heard} → Line (Announces m) forward → Line Replies back → Goes m rs h → Took m true forward back buffer [] h
+  asked-goes : {h : Heard} → Line (Announces m) forward → Line Replies back → Goes m rs h
+      → Took m true forward back buffer [] h
   asked-goes l b (silent h) = record { stage = asked h l (same b) }
   asked-goes l b (replies h r) = record { stage = asked h l (joins b r) }
   asked-goes l b (fails cause) = record { stage = asked closed l (joins b (stages.Replies.refuses cause)) }
 
-  going-goes : {h : Heard} → Ordered (Announces m) (Carries m) forward → Line Replies back → Goes m rs h → Took m false forward back buffer [] h
+  going-goes : {h : Heard} → Ordered (Announces m) (Carries m) forward → Line Replies back → Goes m rs h
+      → Took m false forward back buffer [] h
   going-goes l b (silent h) = record { stage = going h l (same b) }
   going-goes l b (replies h r) = record { stage = going h l (joins b r) }
   going-goes l b (fails cause) = record { stage = going closed l (joins b (stages.Replies.refuses cause)) }
 
   -- the last frame: m has been delivered, and only information frames are left on forward
-  going-ends : {h : Heard} → Line (Carries m) forward → Line Replies back → Ends m rs h → Took m false forward back buffer [] h
+  going-ends : {h : Heard} → Line (Carries m) forward → Line Replies back → Ends m rs h
+      → Took m false forward back buffer [] h
   going-ends l b (goes g) = going-goes (late l) b g
   going-ends l b (astray x other small) =
-      record { stage = lost other small l (joins (widens (λ f r. stages.Strays.replies r) b) (stages.Strays.ends _ _ other small)) }
+      record {
+        stage =
+            lost other small l
+            (joins (widens (λ f r. stages.Strays.replies r) b) (stages.Strays.ends _ _ other small));
+      }
   going-ends l b (ends x many long whole) =
       record {
         stage =
@@ -68,9 +76,11 @@ module _ {m : List ℕ} {rs : Settings} {forward back : List Frame} {buffer : Li
 
 module _ {m : List ℕ} {rs : Settings} {forward back : List Frame} {buffer : List ℕ} where
   -- the announcement of m, heard while the receiver is shut and has not opened: refused, or it opens
-  fresh-announcement : {q : Phase} {lent : List ℕ} {h : Heard} → 1 ≤ framesOf m → Shut q → Line (Announces m) forward → Line Declines back
+  fresh-announcement : {q : Phase} {lent : List ℕ} {h : Heard} → 1 ≤ framesOf m → Shut q → Line (Announces m) forward
+      → Line Declines back
       → Announced rs (framesOf m) (length m) lent q h → Took m true forward back buffer [] h
-  fresh-announcement some shut l b (nacks _ cause) = record { stage = fresh shut l (joins b (stages.Declines.refuses cause)) }
+  fresh-announcement some shut l b (nacks _ cause) =
+      record { stage = fresh shut l (joins b (stages.Declines.refuses cause)) }
   fresh-announcement some shut l b (opens _ _ _ _ _) =
       let one : 1 ≤ 1 = omega arith in
       record { stage = asked (opened refl refl one some refl) l (joins (widens declined-is b) (grants 1 _)) }
@@ -82,10 +92,12 @@ module _ {m : List ℕ} {rs : Settings} {forward back : List Frame} {buffer : Li
   there-information l b (ended _) = record { stage = there l (joins b (stages.Closes.ends refl)) }
 
   -- so it does where another delivery came of the transfer
-  lost-information : {y : Delivery} {ds : List (List ℕ)} {lent bytes : List ℕ} {number : ℕ} {h : Heard} → Other m (y .frames) (y .length) → y .length ≤ 1785
+  lost-information : {y : Delivery} {ds : List (List ℕ)} {lent bytes : List ℕ} {number : ℕ} {h : Heard}
+      → Other m (y .frames) (y .length) → y .length ≤ 1785
       → Line (Carries m) forward → Line (Strays m) back
       → Informed rs number bytes lent (Done y) h → Took m false forward back buffer ds h
-  lost-information other small l b (ended _) = record { stage = lost other small l (joins b (stages.Strays.ends _ _ other small)) }
+  lost-information other small l b (ended _) =
+      record { stage = lost other small l (joins b (stages.Strays.ends _ _ other small)) }
 
 -- ---- every stage
 
@@ -94,7 +106,8 @@ early-open Idle e s = e
 early-open (Done y) e s = e
 early-open (Open x) e s = s
 
-ticked : {m : List ℕ} {isOpening : Bool} {q : Phase} {forward back : List Frame} {buffer : List ℕ} {ds : List (List ℕ)} {rs : Settings} {t : Told}
+ticked : {m : List ℕ} {isOpening : Bool} {q : Phase} {forward back : List Frame} {buffer : List ℕ} {ds : List (List ℕ)}
+    {rs : Settings} {t : Told}
     → Stage m isOpening q forward back buffer ds → Ticks rs q t → Took m isOpening forward back buffer ds (heard t buffer)
 ticked (early {p} past l b) (rests shut) = absurd (early-open p past shut)
 ticked (early past l b) (waits _) = record { stage = early past l (same b) }
@@ -111,7 +124,8 @@ ticked {m} {rs = rs} (going h l b) v = going-goes l b (half-tick m rs v h)
 ticked (there l b) (rests _) = record { stage = there l (same b) }
 ticked (lost other small l b) (rests _) = record { stage = lost other small l (same b) }
 
-pub stage-tick : {m : List ℕ} {isOpening : Bool} {q : Phase} {forward back : List Frame} {buffer : List ℕ} {ds : List (List ℕ)} (rs : Settings)
+pub stage-tick : {m : List ℕ} {isOpening : Bool} {q : Phase} {forward back : List Frame} {buffer : List ℕ}
+    {ds : List (List ℕ)} (rs : Settings)
     → Stage m isOpening q forward back buffer ds
     → Took m isOpening forward back buffer ds (heard (tickOf (receiverIn rs q)) buffer)
 stage-tick {q = q} rs s = ticked s (tick-does (receiverIn rs q))
@@ -121,12 +135,14 @@ pub left-line : {P : Frame → Type 0} {f : Frame} {fs : List Frame} (k : Rest) 
 left-line gone l = behind l
 left-line still l = l
 
-left-ordered : {P Q : Frame → Type 0} {f : Frame} {fs : List Frame} (k : Rest) → Ordered P Q (f ∷ fs) → Ordered P Q (leaving k f fs)
+left-ordered : {P Q : Frame → Type 0} {f : Frame} {fs : List Frame} (k : Rest) → Ordered P Q (f ∷ fs)
+    → Ordered P Q (leaving k f fs)
 left-ordered gone o = behind-ordered o
 left-ordered still o = o
 
 -- the first frame of forward has been taken away, or kept
-pub stage-leaving : {m : List ℕ} {isOpening : Bool} {q : Phase} {f : Frame} {rest back : List Frame} {buffer : List ℕ} {ds : List (List ℕ)} (k : Rest)
+pub stage-leaving : {m : List ℕ} {isOpening : Bool} {q : Phase} {f : Frame} {rest back : List Frame} {buffer : List ℕ}
+    {ds : List (List ℕ)} (k : Rest)
     → Stage m isOpening q (f ∷ rest) back buffer ds
     → Stage m isOpening q (leaving k f rest) back buffer ds
 stage-leaving k (early past l b) = early past (left-line k l) b
@@ -137,7 +153,8 @@ stage-leaving k (there l b) = there (left-line k l) b
 stage-leaving k (lost other small l b) = lost other small (left-line k l) b
 
 -- the first frame of back has been lost
-pub stage-back : {m : List ℕ} {isOpening : Bool} {q : Phase} {f : Frame} {forward rest : List Frame} {buffer : List ℕ} {ds : List (List ℕ)}
+pub stage-back : {m : List ℕ} {isOpening : Bool} {q : Phase} {f : Frame} {forward rest : List Frame} {buffer : List ℕ}
+    {ds : List (List ℕ)}
     → Stage m isOpening q forward (f ∷ rest) buffer ds
     → Stage m isOpening q forward rest buffer ds
 stage-back (early past l b) = early past l (behind b)
@@ -157,11 +174,13 @@ unfolding frameCountOf
 some-frames m w = omega arith
 
 module _ {m : List ℕ} (w : Fits m) {rs : Settings} {lent : List ℕ} (k : Rest) where
-  announcement : {q : Phase} {f : Frame} {h : Heard} → Announces m f → Hears rs f lent q h → Read rs q lent (Announced rs (framesOf m) (length m) lent q) h
+  announcement : {q : Phase} {f : Frame} {h : Heard} → Announces m f → Hears rs f lent q h
+      → Read rs q lent (Announced rs (framesOf m) (length m) lent q) h
   announcement (announces e) v = let small = w .fits in reads-announcement _ _ (omega arith) (rw e at v)
 
   -- the stage stays where the hearing is refused or ignored; else its buffer is the world's, and what is read decides
-  taken : {isOpening : Bool} {q : Phase} {f : Frame} {rest back : List Frame} {buffer : List ℕ} {ds : List (List ℕ)} {h : Heard} {P : Heard → Type 0}
+  taken : {isOpening : Bool} {q : Phase} {f : Frame} {rest back : List Frame} {buffer : List ℕ} {ds : List (List ℕ)}
+      {h : Heard} {P : Heard → Type 0}
       → Stage m isOpening q (f ∷ rest) back buffer ds
       → (Unrefused h → lent ≡ buffer)
       → Read rs q lent P h
@@ -172,7 +191,8 @@ module _ {m : List ℕ} (w : Fits m) {rs : Settings} {lent : List ℕ} (k : Rest
   taken s c (read u p) t = t (c u) p
 
   -- the hearing of the first frame of forward, whatever the stage
-  heard-stage : {isOpening : Bool} {q : Phase} {f : Frame} {rest back : List Frame} {buffer : List ℕ} {ds : List (List ℕ)} {h : Heard}
+  heard-stage : {isOpening : Bool} {q : Phase} {f : Frame} {rest back : List Frame} {buffer : List ℕ} {ds : List (List ℕ)}
+      {h : Heard}
       → Stage m isOpening q (f ∷ rest) back buffer ds
       → (Unrefused h → lent ≡ buffer)
       → (Announces m f → Early q → Read rs q lent (λ _. ⊥) h)
@@ -180,16 +200,19 @@ module _ {m : List ℕ} (w : Fits m) {rs : Settings} {lent : List ℕ} (k : Rest
       → Took m isOpening (leaving k f rest) back buffer ds h
   heard-stage (early past (more a l) b) c z v = taken (early past (more a l) b) c (z a past) (λ e n. absurd n)
   heard-stage (fresh shut (more a l) b) c z v =
-      taken (fresh shut (more a l) b) c (announcement a v) (λ e n. fresh-announcement (some-frames m w) shut (left-line k (more a l)) b n)
+      taken (fresh shut (more a l) b) c (announcement a v)
+      (λ e n. fresh-announcement (some-frames m w) shut (left-line k (more a l)) b n)
   heard-stage {q = q} (asked h (more a l) b) c z v =
       taken (asked h (more a l) b) c (announcement a v)
       (λ e n. asked-goes (left-line k (more a l)) b (half-announcement m rs (some-frames m w) n (subst⁻¹ (Halfway m q) e h)))
   heard-stage {q = q} (going h (lines.early a o) b) c z v =
       taken (going h (lines.early a o) b) c (announcement a v)
-      (λ e n. going-goes (left-ordered k (lines.early a o)) b (half-announcement m rs (some-frames m w) n (subst⁻¹ (Halfway m q) e h)))
+      (λ e n. going-goes (left-ordered k (lines.early a o)) b
+      (half-announcement m rs (some-frames m w) n (subst⁻¹ (Halfway m q) e h)))
   heard-stage {q = q} (going h (late (more (carries number low high) l)) b) c z v =
       taken (going h (late (more (carries number low high) l)) b) c (reads-information number m low v)
-      (λ e n. going-ends (left-line k (more (carries number low high) l)) b (half-information m rs number lent (n .0) (w .fits) high (n .1) (subst⁻¹ (Halfway m q) e h)))
+      (λ e n. going-ends (left-line k (more (carries number low high) l)) b
+      (half-information m rs number lent (n .0) (w .fits) high (n .1) (subst⁻¹ (Halfway m q) e h)))
   heard-stage (lost other small (more (carries number low high) l) b) c z v =
       taken (lost other small (more (carries number low high) l) b) c (reads-information number m low v)
       (λ e n. lost-information other small (left-line k (more (carries number low high) l)) b (n .1))
@@ -203,9 +226,11 @@ early-reading rs q lent (announces e) past =
     subst⁻¹ (λ (g : Frame). Read rs q lent (λ _. ⊥) (hearOf (receiverIn rs q) g lent)) e (early-reads rs _ _ lent q past)
 
 -- a hearing of the first frame of forward
-pub stage-hear : {m : List ℕ} → Fits m → {isOpening : Bool} {q : Phase} {f : Frame} {rest back : List Frame} {buffer : List ℕ} {ds : List (List ℕ)}
+pub stage-hear : {m : List ℕ} → Fits m → {isOpening : Bool} {q : Phase} {f : Frame} {rest back : List Frame}
+    {buffer : List ℕ} {ds : List (List ℕ)}
     (rs : Settings) (lent : List ℕ) (k : Rest)
     → Stage m isOpening q (f ∷ rest) back buffer ds
     → (Unrefused (hearOf (receiverIn rs q) f lent) → lent ≡ buffer)
     → Took m isOpening (leaving k f rest) back buffer ds (hearOf (receiverIn rs q) f lent)
-stage-hear w {q = q} {f = f} rs lent k s c = heard-stage w k s c (early-reading rs q lent) (hear-does (receiverIn rs q) f lent)
+stage-hear w {q = q} {f = f} rs lent k s c =
+    heard-stage w k s c (early-reading rs q lent) (hear-does (receiverIn rs q) f lent)

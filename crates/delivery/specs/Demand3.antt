@@ -6,8 +6,8 @@
 --   finished   a connection of N frames is reported once, at the receiver's tick 3 × T × N after its opening at the latest
 --   Demand3    this after any calls whatever, refused ones among them, by ends just made and over a line that starts empty
 --   stepOf     the line gives frames in the order and shape in which they were emitted, and no others
---   Conditions what is asked of whoever makes the calls: to begin only where nothing of an earlier transfer is under way, and
---              to lend one message and one buffer
+--   Conditions what is asked of whoever makes the calls: to begin only where nothing of an earlier transfer is under way,
+--              and to lend one message and one buffer
 use Prim.Native.Nat.{ℕ, _≤_, _<_, _*_}
 use mathlib.Core.Bool.{Bool, true, false}
 use mathlib.Core.List.{List, [], _∷_}

@@ -1,7 +1,7 @@
--- Demand 3 asks more of its caller than its promise needs: a begin may find a connection open, so long as both lists are empty.
--- The promise then holds all the same. An Opening sender goes on with LM_ACK 1 alone, so the open connection stands at its
--- first frame if it gets any of the new message; and its EndofACK names its own N and L, so that it says sent only where
--- these are the new message's.
+-- Demand 3 asks more of its caller than its promise needs: a begin may find a connection open, so long as both lists are
+-- empty. The promise then holds all the same. An Opening sender goes on with LM_ACK 1 alone, so the open connection stands
+-- at its first frame if it gets any of the new message; and its EndofACK names its own N and L, so that it says sent only
+-- where these are the new message's.
 use mathlib.Core.Bool.{true}
 use mathlib.Core.List.{List, [], _∷_}
 use mathlib.Core.Path.{_≡_}

@@ -1,5 +1,6 @@
--- Demand 1 at the transport. Of all that the ends can tell only a refusal says so, and a refusal holds the state it found and
--- no frame; what is left is what the call does to the lines, which are at most 64 long as they are.
+-- Demand 1 at the transport. Of all that the ends can tell only a refusal says so, and a refusal holds the state it found
+-- and no frame; what is left is what the call does to the lines, which are at most 64 long as they are. A making is refused
+-- only where a setting of an end does not fit.
 -- Assumes nothing.
 use Prim.Native.Nat.{ℕ, _≤_}
 use mathlib.Core.Bool.{Bool, true, false, _||_, false≢true}
@@ -57,7 +58,8 @@ data RefusedHearing (r : Receiver) (lent : List ℕ) : receiver.Heard → Type 0
   refusal : (number : ℕ) → RefusedHearing r lent (receiver.heard (receiver.refusing r number) lent)
 
 -- by the case view: no other case says so
-hearing-honest : {rs : Settings} {f : Frame} {lent : List ℕ} {p : receiver-phase.Phase} {h : receiver.Heard} → view.Hears rs f lent p h
+hearing-honest : {rs : Settings} {f : Frame} {lent : List ℕ} {p : receiver-phase.Phase} {h : receiver.Heard}
+    → view.Hears rs f lent p h
     → wasRefused (h .told .outcome) ≡ true
     → RefusedHearing (view.receiverIn rs p) lent h
 hearing-honest (view.refuses number) e = refusal number
@@ -74,7 +76,8 @@ hearing-honest (view.closes _) e = absurd (false≢true e)
 hearing-honest (view.short _) e = absurd (false≢true e)
 hearing-honest (view.short-only _) e = absurd (false≢true e)
 
-tick-unrefused : {rs : Settings} {p : receiver-phase.Phase} {t : receiver.Told} → view.Ticks rs p t → wasRefused (t .outcome) ≡ false
+tick-unrefused : {rs : Settings} {p : receiver-phase.Phase} {t : receiver.Told} → view.Ticks rs p t
+    → wasRefused (t .outcome) ≡ false
 tick-unrefused (view.rests _) = refl
 tick-unrefused (view.waits _) = refl
 tick-unrefused (view.retries _ _) = refl
@@ -104,7 +107,8 @@ sender-told : (c : Call) (w : World) (given : Given) (left : List Frame) {a : se
 unfolding capped
 sender-told c w given left {a} honest f b l n e = go (honest (or-false _ e))
   where
-    go : {a : sender.Told} → Refused (w .sender) a → atLine (bySender c w given left a) ≡ refusedStep w c (bySender c w given left a .event)
+    go : {a : sender.Told} → Refused (w .sender) a
+        → atLine (bySender c w given left a) ≡ refusedStep w c (bySender c w given left a .event)
     go (refusal number) = rw (append-nil, take-all 64 (w .forward) f, take-all 64 left b, l, n) refl
 
 -- the receiver has told h, and forward is left so
@@ -146,7 +150,8 @@ given-back : (k : Rest) (c : Call) (w : World) (fs : List Frame) → w .back ≡
 unfolding givenBack
 given-back k c w [] e n l fits r = absurd (false≢true r)
 given-back k c w (f ∷ rest) e n l fits r =
-    sender-told c w (toSender f) (leaving k f rest) (hear-tells (Honest (w .sender)) (w .sender) (honest-forms (w .sender)) f)
+    sender-told c w (toSender f) (leaving k f rest)
+    (hear-tells (Honest (w .sender)) (w .sender) (honest-forms (w .sender)) f)
     (fits .forward) (left-short k f rest (rw e at (fits .back)))
     (l f rest e) n r
 
@@ -154,13 +159,16 @@ given-back k c w (f ∷ rest) e n l fits r =
 call-only : (w : World) (c : Call) → Fits w → Only w c (stepOf w c)
 unfolding stepOf
 call-only w (begin m) fits =
-    sender-told (begin m) w nobody (w .back) (begin-tells (Honest (w .sender)) (w .sender) (honest-forms (w .sender)) m) (fits .forward) (fits .back) refl refl
+    sender-told (begin m) w nobody (w .back) (begin-tells (Honest (w .sender)) (w .sender) (honest-forms (w .sender)) m)
+    (fits .forward) (fits .back) refl refl
 call-only w (senderTick m) fits =
-    sender-told (senderTick m) w nobody (w .back) (tick-tells (Honest (w .sender)) (w .sender) (honest-forms (w .sender)) m) (fits .forward) (fits .back) refl refl
+    sender-told (senderTick m) w nobody (w .back) (tick-tells (Honest (w .sender)) (w .sender) (honest-forms (w .sender)) m)
+    (fits .forward) (fits .back) refl refl
 call-only w receiverTick fits =
     λ e. absurd (false≢true (sym (tick-unrefused (view.tick-does (w .receiver))) ∙ e))
 call-only w (hearForward b) fits = given-forward gone (hearForward b) b w (w .forward) refl refl (λ f rest e. rw e refl) fits
-call-only w (repeatForward b) fits = given-forward still (repeatForward b) b w (w .forward) refl refl (λ f rest e. rw (sym e) refl) fits
+call-only w (repeatForward b) fits =
+    given-forward still (repeatForward b) b w (w .forward) refl refl (λ f rest e. rw (sym e) refl) fits
 call-only w loseForward fits = λ e. absurd (false≢true e)
 call-only w hearBack fits = given-back gone hearBack w (w .back) refl refl (λ f rest e. rw e refl) fits
 call-only w repeatBack fits = given-back still repeatBack w (w .back) refl refl (λ f rest e. rw (sym e) refl) fits
@@ -182,7 +190,8 @@ joined-numbered (refused n) y s r number e = s number cc
 joined-numbered (accepted a) (refused n) s r number e = r number cc
 joined-numbered (accepted a) (accepted b) s r number e = let z : _≡_ {A = ℕ} 0 1 = cc in absurd (omega arith)
 
-make-numbered : (gap timeout limit patience window capacity : ℕ) → Numbered (makeOf gap timeout limit patience window capacity)
+make-numbered : (gap timeout limit patience window capacity : ℕ)
+    → Numbered (makeOf gap timeout limit patience window capacity)
 unfolding makeOf sender-making.makeOf receiver-making.makeOf
 make-numbered gap timeout limit patience window capacity =
     joined-numbered _ _ (fitting-numbered _ _) (fitting-numbered _ _)
@@ -191,7 +200,9 @@ pub demand-1 : Demand1
 unfolding worldOf cappedStep lentOf pick
 demand-1 =
     record {
-      refused = λ ends forward back buffer c e. call-only (worldOf ends forward back buffer) c (record { forward = frames-limit (ends .forward) forward; back = frames-limit (ends .back) back }) e;
+      refused =
+          λ ends forward back buffer c e. call-only (worldOf ends forward back buffer) c
+          (record { forward = frames-limit (ends .forward) forward; back = frames-limit (ends .back) back }) e;
       misfit = λ w c. refl;
       make = make-numbered;
     }

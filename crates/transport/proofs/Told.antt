@@ -10,11 +10,9 @@ use Rattle.frame.specs.declared.Frame.{Frame}
 use Rattle.receiver.proofs.Told as receiver
 use Rattle.receiver.specs.Told as receiver-told
 use Rattle.receiver.specs.declared.Answer as receiver-answer
-use Rattle.receiver.specs.declared.Outcome as receiver-outcome
 use Rattle.sender.proofs.Told as sender
 use Rattle.sender.specs.Told as sender-told
 use Rattle.sender.specs.declared.Answer as sender-answer
-use Rattle.sender.specs.declared.Outcome as sender-outcome
 use Rattle.transport.specs.Answer.{worldOf, Told, told}
 use Rattle.transport.specs.Make.{toldMade}
 use Rattle.transport.specs.Step.{emission}
