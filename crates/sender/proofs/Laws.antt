@@ -241,17 +241,16 @@ takes s t start count misses end phase next e = cc
 
 -- A sender is its settings and its phase. So the state that is handed to a step may be the sender or be built anew from it,
 -- and is judged by its parts: edits/ has one that builds it anew with another wait.
-pub same-sender : {t s : Sender} → s .settings ≡ t .settings → s .phase ≡ t .phase → t ≡ s
+same-sender : {t s : Sender} → s .settings ≡ t .settings → s .phase ≡ t .phase → t ≡ s
 same-sender {t} {s} same is =
     let in-old-phase : Settings → Sender = λ r. record { settings = r; phase = s .phase } in
     ap (inPhase t) (sym is) ∙ ap in-old-phase (sym same)
 
-pub ack-waiting : (s : Sender) (start count : ℕ) {a : Told} {p : Phase} {t : Sender} {x : Awaited} → p ≡ Waiting x
-    → a ≡ ackWindow t (x .transfer) (x .start) (x .misses) start count → t ≡ s → a ≡ hearAck s p start count
+pub ack-waiting : (s : Sender) (start count : ℕ) {a : Told} {p : Phase} {t : Sender} {x : Awaited}
+    → p ≡ Waiting x → p ≡ s .phase → a ≡ ackWindow t (x .transfer) (x .start) (x .misses) start count
+    → s .settings ≡ t .settings → p ≡ t .phase → a ≡ hearAck s p start count
 unfolding hearAck
-ack-waiting s start count is e same = rw is (cc)
-
-pub ruleset waiting-acks = (ack-waiting, same-sender)
+ack-waiting s start count is own e same phase = let u = same-sender same (sym own ∙ phase) in rw is (cc)
 
 -- by the phase
 module _ (s : Sender) {a : Told} {p q : Phase} (is : p ≡ q) where

@@ -80,10 +80,11 @@ impl Sender {
         self.taking(transfer, start, count, misses)
     }
 
-    pub(crate) fn hear_ack(self, start: u8, count: u8) -> Answer
-        ensures { λ r. ⌜ told r ≡ hearAck self (self .phase) start count ⌝ }
+    // `phase` is the sender's own, read once for every kind of frame.
+    pub(crate) fn hear_ack(self, phase: Phase, start: u8, count: u8) -> Answer
+        requires { ⌜ phase ≡ self .phase ⌝ }
+        ensures { λ r. ⌜ told r ≡ hearAck self phase start count ⌝ }
     {
-        let phase = self.phase;
         match phase {
             Phase::Idle => self.silently(),
             Phase::Opening(x) => self.ack_opening(x.transfer, start, count),

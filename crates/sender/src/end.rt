@@ -26,10 +26,9 @@ impl Sender {
         }
     }
 
-    pub(crate) fn hear_end(self, frames: u8, length: u16) -> Answer
-        ensures { λ r. ⌜ told r ≡ hearEnd self (self .phase) frames length ⌝ }
+    pub(crate) fn hear_end(self, phase: Phase, frames: u8, length: u16) -> Answer
+        ensures { λ r. ⌜ told r ≡ hearEnd self phase frames length ⌝ }
     {
-        let phase = self.phase;
         match phase {
             Phase::Idle => self.silently(),
             Phase::Opening(_) => self.silently(),

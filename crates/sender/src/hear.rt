@@ -17,15 +17,16 @@ impl Sender {
         ensures { λ r. ⌜ told r ≡ hearKind self f parsed ⌝ }
     {
         let kind = parsed.kind;
+        let phase = self.phase;
         let bytes = f.bytes;
         match kind {
-            2 => self.hear_ack(bytes[0], bytes[1]),
-            3 => self.hear_nack(),
+            2 => self.hear_ack(phase, bytes[0], bytes[1]),
+            3 => self.hear_nack(phase),
             4 => {
                 let length = word(bytes[1], bytes[2]);
-                self.hear_end(bytes[0], length)
+                self.hear_end(phase, bytes[0], length)
             }
-            6 => self.hear_short_ack(bytes[0]),
+            6 => self.hear_short_ack(phase, bytes[0]),
             0..=1 | 5 | 7..=255 => self.refusing(7),
         }
     }

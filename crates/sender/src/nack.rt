@@ -7,10 +7,9 @@ use crate::Phase;
 use crate::Sender;
 
 impl Sender {
-    pub(crate) fn hear_nack(self) -> Answer
-        ensures { λ r. ⌜ told r ≡ hearNack self (self .phase) ⌝ }
+    pub(crate) fn hear_nack(self, phase: Phase) -> Answer
+        ensures { λ r. ⌜ told r ≡ hearNack self phase ⌝ }
     {
-        let phase = self.phase;
         match phase {
             Phase::Idle => self.silently(),
             Phase::Opening(x) => self.failing(x.transfer, 1),

@@ -53,10 +53,9 @@ impl Sender {
         }
     }
 
-    pub(crate) fn hear_short_ack(self, first: u8) -> Answer
-        ensures { λ r. ⌜ told r ≡ hearShortAck self (self .phase) first ⌝ }
+    pub(crate) fn hear_short_ack(self, phase: Phase, first: u8) -> Answer
+        ensures { λ r. ⌜ told r ≡ hearShortAck self phase first ⌝ }
     {
-        let phase = self.phase;
         match phase {
             Phase::Idle => self.silently(),
             Phase::Opening(_) => self.silently(),

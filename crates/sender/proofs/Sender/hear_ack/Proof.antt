@@ -3,7 +3,7 @@
 -- Assumes nothing.
 use borrow.Author.Needs.{needs}
 use Rattle.sender.specs.Hear.{hearAck}
-use Rattle.sender.proofs.Laws.{ack-in, waiting-acks}
+use Rattle.sender.proofs.Laws.{ack-in, ack-waiting}
 use Rattle.sender.proofs.Sender.hear_ack.Statement.{statement}
 use Rattle.sender.proofs.Sender.hear_ack.Tie as tie
 
@@ -50,7 +50,7 @@ unfolding hearAck
 returns-3 c = search ack-in
 
 returns-4 : tie.Need-returns-4
-returns-4 c = search waiting-acks
+returns-4 c = search ack-waiting
 
 returns-5 : tie.Need-returns-5
 unfolding hearAck
