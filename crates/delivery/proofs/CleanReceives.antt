@@ -45,8 +45,14 @@ module _ (rs : Settings) (m : List ℕ) where
       ≡ heard (emitting (receiverIn rs (Open (connected m 1 (windowOf rs 1 (framesOf m)) 0))) (lmAckOf 1 (windowOf rs 1 (framesOf m)))) buffer
   unfolding hearOf hearRead hearKind hearNumbered hearAnnouncement announceIdle readOf namedOf allFiller announcementOf pick
   hears-announcement buffer held long fits space =
-      rw (held, word-whole (length m) (omega arith), le-leb 9 (length m) long, le-leb (length m) 1785 fits,
-      eq-eqb (framesOf m) (framesOf m) refl, le-leb (length m) (rs .capacity) space)
+      rw (
+        held,
+        word-whole (length m) (omega arith),
+        le-leb 9 (length m) long,
+        le-leb (length m) 1785 fits,
+        eq-eqb (framesOf m) (framesOf m) refl,
+        le-leb (length m) (rs .capacity) space,
+      )
 
   pub waits-on : (expected last wait : ℕ) → wait + 1 < rs .timeout → rs .timeout ≤ 10000
       → tickOf (receiverIn rs (Open (connected m expected last wait)))

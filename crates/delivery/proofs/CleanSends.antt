@@ -68,8 +68,13 @@ module _ (st : Settings) (m : List ℕ) where
         ≡ silently (senderIn st (Sending (streamed m (ticks + 1) start number last (gap + 1))))
     unfolding tickOf lentTo tickPhase tickSending unlessOver atLimit pick
     ticks-on g h =
-        rw (eq-eqb (length m) (length m) refl, increment-is ticks (omega arith), lt-leb (st .limit) (ticks + 1) early,
-        increment-is gap h, lt-leb (st .gap) (gap + 1) g)
+        rw (
+          eq-eqb (length m) (length m) refl,
+          increment-is ticks (omega arith),
+          lt-leb (st .limit) (ticks + 1) early,
+          increment-is gap h,
+          lt-leb (st .gap) (gap + 1) g,
+        )
 
     -- at the gap
     pub ticks-frame : gap + 1 ≡ st .gap → gap < 65535 → number < 65535
@@ -77,8 +82,15 @@ module _ (st : Settings) (m : List ℕ) where
         ≡ emitting (senderIn st (outPhase m (ticks + 1) start number last)) (informationAt number m)
     unfolding tickOf lentTo tickPhase tickSending unlessOver atLimit afterFrame pick
     ticks-frame g h k =
-        rw (eq-eqb (length m) (length m) refl, increment-is ticks (omega arith), lt-leb (st .limit) (ticks + 1) early,
-        increment-is gap h, g, le-leb (st .gap) (st .gap) (omega arith), increment-is number k)
+        rw (
+          eq-eqb (length m) (length m) refl,
+          increment-is ticks (omega arith),
+          lt-leb (st .limit) (ticks + 1) early,
+          increment-is gap h,
+          g,
+          le-leb (st .gap) (st .gap) (omega arith),
+          increment-is number k,
+        )
 
   -- ---- hearings
 
@@ -93,8 +105,13 @@ module _ (st : Settings) (m : List ℕ) where
       ≡ silently (senderIn st (Sending (streamed m ticks (number + 1) (number + 1) (windowLast (number + 1) count (framesOf m)) 0)))
   unfolding hearOf hearRead hearKind hearAck ackWindow taking readOf namedOf allFiller lmAckOf pick
   hears-next ticks start number last count old more some =
-      rw (ne-eqb (number + 1) 0 (omega arith), ne-eqb count 0 (omega arith), le-ltb (framesOf m) (number + 1) (omega arith),
-      le-ltb (number + 1) start (omega arith), ne-eqb (number + 1) start (omega arith))
+      rw (
+        ne-eqb (number + 1) 0 (omega arith),
+        ne-eqb count 0 (omega arith),
+        le-ltb (framesOf m) (number + 1) (omega arith),
+        le-ltb (number + 1) start (omega arith),
+        ne-eqb (number + 1) start (omega arith),
+      )
 
   pub hears-end : (ticks start number last : ℕ) → length m < 65536
       → hearOf (senderIn st (awaitedPhase m ticks start number last)) (endOfAckOf (framesOf m) (length m))

@@ -127,8 +127,11 @@ module _ {st : Settings} {rs : receiver-settings.Settings} {m : List ℕ} (c : C
         heard-first w same (hears-last rs m number last wait buffer (f .size) (i .first) whole)
         (record {
           stage =
-              rw (le-leb last number (omega arith), add-zero,
-              last-stored m buffer number (f .size) (c .fits) (i .first) (omega arith) (f .before) whole)
+              rw (
+                le-leb last number (omega arith),
+                add-zero,
+                last-stored m buffer number (f .size) (c .fits) (i .first) (omega arith) (f .before) whole,
+              )
               (ended whole t);
         })
 

@@ -13,3 +13,4 @@ pub mod CleanSends
 pub mod CleanReceives
 pub mod CleanStages
 pub mod CleanSteps
+pub mod Clean
