@@ -229,6 +229,10 @@ fn another_header_is_found() {
             "uint16_t timeout, uint16_t window",
             "uint16_t window, uint16_t timeout",
         ),
+        (
+            "uint32_t length, uint32_t gap",
+            "uint32_t gap, uint32_t length",
+        ),
         ("uint8_t *buffer,", "const uint8_t *buffer,"),
         ("uint8_t *buffer,", "uint8_t *bytes,"),
         ("uint8_t bytes[8]; /* d0", "uint8_t bytes[7]; /* d0"),
