@@ -291,6 +291,27 @@ fn receiver_timeout_equal_to_the_gap() {
     );
 }
 
+/// The same in every list of short messages: with G = T = 1 the frame still goes at the next tick, from
+/// 2 on no report has the figures.
+#[test]
+fn receiver_timeout_equal_to_every_gap() {
+    for length in [9, 15, 22] {
+        let message = message(length);
+        for gap in 1..=10 {
+            let Figures { ticks, frames } = figures(length as u32, gap.into()).unwrap();
+            let met = sender::Report::Sent { ticks, frames };
+            for window in [1, 2, 255] {
+                let s = settings([gap, gap + 1, 60000, gap, window, 1785]);
+                let begun = Session::begun(&s, &message);
+                let sessions = reached(begun, &message, 2 * ticks, Session::is_clean);
+                let mut reports = sessions.iter().flat_map(|session| &session.sent);
+                assert!(reports.clone().count() > 0);
+                assert!(reports.all(|&report| (report == met) == (gap == 1)));
+            }
+        }
+    }
+}
+
 /// G 2 and M 4 = N × G. At tick 4 the time is over: NACK 3 goes in place of frame 2, after frames 0
 /// and 1.
 #[test]
