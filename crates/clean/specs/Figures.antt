@@ -7,7 +7,7 @@ use Rattle.clean.specs.declared.Figures.{Figures}
 use Rattle.clean.specs.declared.Clean.{Clean}
 use Rattle.clean.specs.declared.Clean.the-variants.{Takes, Refused}
 
--- E1, the tick and the frames: the first of the N information frames goes out a gap after the begin, each of the others a gap
+-- E1, the tick and the frames: the first of the N information frames goes out a gap after the begin, each other one a gap
 -- after the one before it, and sent is reported before the next tick; the announcement is one frame more
 unfoldable pub figuresFor : ℕ → ℕ → Figures
 figuresFor length gap =
