@@ -242,8 +242,8 @@ kospelna_receiver_answer kospelna_receiver_hear(kospelna_receiver receiver, kosp
 
 /* ---- Clean figures ----
  *
- * What a long transfer takes where nothing goes wrong. A table's row of a session with losses or repeats is rated against
- * the clean figures of its length and gap: how many ticks and frames its report has above them. A session is clean if
+ * What a long transfer takes where nothing goes wrong: a session in which frames were lost or repeated is rated by how its
+ * report stands against the clean figures of its length and gap. A session is clean if, with what `sent` asks above,
  *   - both ends were just made when the transfer began, and nothing was on the line;
  *   - every frame is heard before the next tick of either end, and none is lost or repeated;
  *   - the two ends tick by turns, either of them first;
@@ -257,8 +257,8 @@ typedef struct kospelna_clean_figures {
     uint16_t frames; /* frames emitted by the sender since begin: N + 1, the announcement and the information frames */
 } kospelna_clean_figures;
 
-/* The figures of a message of this length at this gap. Refused 2: a length that is not 9 to 1785, so does not go long; then 1:
- * a gap that no sender has. */
+/* The figures of a message of this length at this gap. Refused 2: a length that does not go long, 9 to 1785; then 1: a gap
+ * that no sender has. */
 kospelna_clean_figures kospelna_clean_figures_of(uint32_t length, uint32_t gap);
 
 /* ---- Identifier: 29 bits, P 3, EDP 1, DP 1, PF 8, PS 8, SA 8, the first in the highest bits ---- */

@@ -42,7 +42,8 @@ pub clean-written : (f : FlatCleanFigures) → CleanMade f → cleanOut (cleanIn
 clean-written f made =
     rw (
       number-again (λ (x : Figures). x) (f .refusal) (figuresIn f),
-      value-again (λ (x : Figures). x) (λ (x : Figures). x) noFigures (λ (x : Figures). Unit) (λ x h. refl) (f .refusal) (figuresIn f) made,
+      value-again (λ (x : Figures). x) (λ (x : Figures). x) noFigures (λ (x : Figures). Unit) (λ x h. refl)
+          (f .refusal) (figuresIn f) made,
     )
 
 -- no refusal is numbered 0
