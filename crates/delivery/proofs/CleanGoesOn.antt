@@ -16,6 +16,8 @@ use Rattle.frame.specs.declared.Frame.{Frame}
 use Rattle.receiver.specs.Hear as hearing
 use Rattle.receiver.specs.Tick as ticking
 use Rattle.receiver.specs.Told as receiver
+use Rattle.receiver.specs.Window.{windowAck}
+use Rattle.receiver.specs.declared.Phase.the-variants as at
 use Rattle.receiver.specs.declared.Settings as receiver-settings
 use Rattle.sender.specs.Hear.{hearOf}
 use Rattle.sender.specs.Told as sender
@@ -23,11 +25,11 @@ use Rattle.sender.specs.Tick.{lentTo, tickOf}
 use Rattle.sender.specs.declared.Phase.the-variants.{Sending}
 use Rattle.sender.specs.declared.Settings.{Settings}
 use Rattle.sender.specs.declared.Streamed.{Streamed}
-use Rattle.delivery.proofs.Clean.{Stands, plain, next-stands, not-yet, cleanly}
-use Rattle.delivery.proofs.CleanReceives.{hears-announcement, hears-accepted, waits-on}
-use Rattle.delivery.proofs.CleanSends.{hears-first, hears-next, hears-end}
-use Rattle.delivery.proofs.CleanStages.{Clear, Paced, Inside, sendingWorld, cleanReport, Stage, After, announced, granted, sending, out, asked, ended, over}
-use Rattle.delivery.proofs.CleanSteps.{window-inside, some-frames}
+use Rattle.delivery.proofs.Clean.{plain, next-stands, not-yet, cleanly, fitting, clean-allowed}
+use Rattle.delivery.proofs.CleanReceives.{connected, hears-announcement, hears-accepted, waits-on}
+use Rattle.delivery.proofs.CleanSends.{streamed, hears-ack, hears-end}
+use Rattle.delivery.proofs.CleanStages.{Clear, Paced, Inside, worldAt, endOfAck, cleanReport, none-kept, no-copies, none-passed, none-answered, Stage, opens, asks, sends, sent, ends, over}
+use Rattle.delivery.proofs.CleanSteps.{Stands}
 use Rattle.delivery.proofs.Sends.{tick-taken}
 use Rattle.delivery.proofs.Stages.{senderIn, framesOf}
 use Rattle.delivery.specs.Clean.{Turn, anyone, senders, receivers, turnIn, SenderMayTick, ReceiverMayTick, Empty, CleanCall, reportsIn, ticksSince, sentWith, GoesOn, CleanGoesOn}
@@ -84,44 +86,51 @@ module _ {st : Settings} {rs : receiver-settings.Settings} {m : List ℕ} (c : C
 
   due : {ticks start number last gap : ℕ} → Inside m start number last → gap < st .gap
       → ticks + st .gap ≡ number * st .gap + gap → ticks < framesOf m * st .gap
-  due i g t = let inside = i .inside in let final = i .final in not-yet c (omega arith) g t
+  due i g t =
+      let inside = i .inside in
+      let final = i .final in
+      not-yet c false (omega arith) g t
 
   -- a tick that is lent the message is taken
   lent-taken : (x : Streamed) → x .transfer .length ≡ length m → taken (tickOf (senderIn st (Sending x)) m .outcome) ≡ true
   unfolding tickOf lentTo pick
   lent-taken x e = rw (eq-eqb (length m) (x .transfer .length) (sym e)) (tick-taken (senderIn st (Sending x)) (Sending x) m)
 
-  -- a frame of the message is next: it is an end's turn
-  advice-sending : (turn : Turn) {ticks start number last gap wait : ℕ} {buffer : List ℕ}
+  -- a frame of the message is next, and nothing is on the lines: it is an end's turn
+  advice-sends : (turn : Turn) {ticks start number last gap wait : ℕ} {forward back : List Frame} {buffer : List ℕ}
       → Inside m start number last
       → gap < st .gap
       → Paced turn gap wait
       → ticks + st .gap ≡ number * st .gap + gap
-      → Advice (sendingWorld st rs m ticks start number last gap wait buffer) turn (since m ticks 0 []) []
-  advice-sending anyone i g p t = tick-sender (refl, refl) tt refl (due i g t) (lent-taken _ refl)
-  advice-sending senders i g p t = tick-sender (refl, refl) tt refl (due i g t) (lent-taken _ refl)
-  advice-sending receivers {number = number} {last} {gap} {wait} i g p t =
+      → forward ≡ []
+      → back ≡ []
+      → Advice
+      (worldAt st rs m (Sending (streamed m ticks start number last gap)) (at.Open (connected m number last wait)) forward back buffer)
+      turn (since m ticks 0 []) []
+  advice-sends anyone i g p t d e = tick-sender (d, e) tt refl (due i g t) (lent-taken _ refl)
+  advice-sends senders i g p t d e = tick-sender (d, e) tt refl (due i g t) (lent-taken _ refl)
+  advice-sends receivers {number = number} {last} {gap} {wait} i g p t d e =
       let patient = c .patient in
-      tick-receiver (refl, refl) refl (ap (λ (a : receiver.Told). a .emits) (waits-on rs m number last wait (omega arith) (c .timeouts)))
+      tick-receiver (d, e) refl (ap (λ (a : receiver.Told). a .emits) (waits-on rs m number last wait (omega arith) (c .timeouts)))
 
-  advice : {w : World} {turn : Turn} {b : Begun} {reports : List sender.Outcome} → Stage st rs m w turn b reports → Advice w turn b reports
-  advice (announced {buffer} held) =
-      hear-forward refl (ap (λ (h : receiver.Heard). wasRefused (h .told .outcome)) (hears-announcement rs m buffer held (c .long) (c .fits) (c .space)))
-  advice (granted {last} held e) =
-      let (some, final) = window-inside c 1 (omega arith) (some-frames c) in
-      hear-back refl refl (ap (λ (a : sender.Told). a .emits) (hears-first st m last (omega arith) (some-frames c)))
-  advice (sending {turn} i f g p t) = advice-sending turn i g p t
-  advice (out {number = number} {last} {wait} {buffer} i f t) =
+  advice : {w : World} {turn : Turn} {b : Begun} {reports : List sender.Outcome} → Stage st rs m false w turn b reports
+      → Advice w turn b reports
+  advice (opens {buffer} size) =
+      hear-forward refl
+      (ap (λ (h : receiver.Heard). wasRefused (h .told .outcome)) (hears-announcement rs m buffer size (c .long) (c .fits) (c .space)))
+  advice (asks {number = number} {last} a i f t p q) =
+      hear-back (none-passed st rs m p) (ap (λ (fs : List Frame). windowAck number last ∷ fs) (none-answered st rs m q))
+      (ap (λ (a : sender.Told). a .emits) (hears-ack st m a (i .first) (i .inside) (i .final)))
+  advice (sends {turn} i f g e t p q) = advice-sends turn i g e t (none-passed st rs m p) (none-answered st rs m q)
+  advice (sent {number = number} {last} {wait} {buffer} i f t) =
       let inside = i .inside in
       let final = i .final in
       hear-forward refl (hears-accepted rs m number last wait buffer (f .size) (i .first) (omega arith))
-  advice (asked {ticks} {start} {number} {last} {next} o n f e t) =
-      let (some, final) = window-inside c (number + 1) (omega arith) (omega arith) in
-      hear-back refl refl (ap (λ (a : sender.Told). a .emits) (hears-next st m ticks start number last (next - (number + 1 - 1)) o n (omega arith)))
-  advice (ended {ticks} {start} {number} {last} n t) =
+  advice (ends {ticks} {start} {last} size t u cs) =
       let fits = c .fits in
-      hear-back refl refl (ap (λ (a : sender.Told). a .emits) (hears-end st m ticks start number last (omega arith)))
-  advice (over t) = done refl
+      hear-back (none-kept st rs m u) (ap (λ (fs : List Frame). endOfAck st rs m ∷ fs) (no-copies st rs m cs))
+      (ap (λ (a : sender.Told). a .emits) (hears-end st m ticks start (framesOf m) last (omega arith)))
+  advice (over _ _ _ _) = done refl
 
   -- ---- what is left
 
@@ -189,7 +198,7 @@ module _ {st : Settings} {rs : receiver-settings.Settings} {m : List ℕ} (c : C
   carried p d a q rest = record { calls = d ∷ rest .calls; clean = (a, q, rest .clean); reported = rest .reported }
 
   -- by the advice, where every past that is nearer can be carried on
-  follow : (p : Past) → Stands c p → ((later : Past) → Stands c later → leftOf later < leftOf p → Goes later)
+  follow : (p : Past) → Stands c false p → ((later : Past) → Stands c false later → leftOf later < leftOf p → Goes later)
       → Advice (p .world) (turnIn (p .events)) (begunIn (p .events)) (reportsIn (p .events))
       → Goes p
   unfolding figuresFor runOf stepOf givenForward
@@ -198,7 +207,7 @@ module _ {st : Settings} {rs : receiver-settings.Settings} {m : List ℕ} (c : C
       on : (d : Call) → Condition p d (stepOf (p .world) d .event) → CleanCall p d (stepOf (p .world) d .event)
           → leftOf (next stepOf p d) < leftOf p
           → Goes p
-      on d a q nearer = carried p d a q (rest (next stepOf p d) (next-stands c stepOf (plain c) p d s a q) nearer)
+      on d a q nearer = carried p d a q (rest (next stepOf p d) (next-stands c false stepOf (plain c false) p d s a (clean-allowed p d _ q)) nearer)
 
       go : Advice (p .world) (turnIn (p .events)) (begunIn (p .events)) (reportsIn (p .events)) → Goes p
       go (done e) = record { calls = []; clean = tt; reported = e }
@@ -208,10 +217,12 @@ module _ {st : Settings} {rs : receiver-settings.Settings} {m : List ℕ} (c : C
       go (tick-sender e may b early t) =
           on (senderTick m) (λ _. rw b (λ _. refl)) (λ _. (e, may)) (nearer-sender p e may b early t)
 
-  finish : (n : ℕ) (p : Past) → Stands c p → leftOf p < n → Goes p
+  finish : (n : ℕ) (p : Past) → Stands c false p → leftOf p < n → Goes p
   finish zero p s near = absurd (omega arith)
   finish (suc n) p s near = follow p s (λ later t nearer. finish n later t (omega arith)) (advice s)
 
 pub clean-goes-on : CleanGoesOn
 clean-goes-on =
-    cleanly stepOf (λ st rs m c. plain c) GoesOn (λ st rs m c p s. finish c (leftOf c p + 1) p s (omega arith))
+    fitting stepOf CleanCall GoesOn
+    (cleanly false stepOf (λ st rs m c. plain c false) CleanCall clean-allowed GoesOn
+    (λ st rs m c p s. finish c (leftOf c p + 1) p s (omega arith)))

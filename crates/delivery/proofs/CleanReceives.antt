@@ -16,7 +16,7 @@ use Rattle.frame.specs.Frames.{fillTo, partFrom, announcementOf, informationOf,
 use Rattle.frame.specs.Reading.{parsedOf, readOf, namedOf, allFiller}
 use Rattle.frame.specs.Result.{accepted}
 use Rattle.receiver.proofs.View.{receiverIn}
-use Rattle.receiver.specs.Hear.{announceIdle, hearAnnouncement, ending, askingNext, expectingNext, stored, storing, informationOpen, hearInformation, hearNumbered, hearKind, hearRead, hearOf}
+use Rattle.receiver.specs.Hear.{announceIdle, announceOpen, hearAnnouncement, ending, askingNext, expectingNext, stored, storing, informationOpen, informationDone, hearInformation, hearNumbered, hearKind, hearRead, hearOf}
 use Rattle.receiver.specs.Tick.{tickOpen, tickPhase, tickOf}
 use Rattle.receiver.specs.Told.{Told, Heard, heard, silently, emitting, delivering}
 use Rattle.receiver.specs.Window.{windowOf, windowAck}
@@ -41,10 +41,14 @@ donePhase m = Done (record { frames = framesOf m; length = length m })
 abbrev pub storedIn : List ℕ → ℕ → List ℕ → List ℕ
 storedIn m number buffer = storing buffer number (length m) (fillTo 7 (partFrom number m))
 
+-- the LM_ACK of the first window
+first-ack : (last : ℕ) → lmAckOf 1 last ≡ windowAck 1 last
+first-ack last = let whole : last ≡ last - (1 - 1) = omega arith in ap (lmAckOf 1) whole
+
 module _ (rs : Settings) (m : List ℕ) where
   pub hears-announcement : (buffer : List ℕ) → length buffer ≡ 1785 → 8 < length m → length m ≤ 1785 → length m ≤ rs .capacity
       → hearOf (receiverIn rs Idle) (announcementOf (framesOf m) (length m)) buffer
-      ≡ heard (emitting (receiverIn rs (Open (connected m 1 (windowOf rs 1 (framesOf m)) 0))) (lmAckOf 1 (windowOf rs 1 (framesOf m)))) buffer
+      ≡ heard (emitting (receiverIn rs (Open (connected m 1 (windowOf rs 1 (framesOf m)) 0))) (windowAck 1 (windowOf rs 1 (framesOf m)))) buffer
   unfolding hearOf hearRead hearKind hearNumbered hearAnnouncement announceIdle readOf namedOf allFiller announcementOf pick
   hears-announcement buffer held long fits space =
       rw (
@@ -54,6 +58,21 @@ module _ (rs : Settings) (m : List ℕ) where
         le-leb (length m) 1785 fits,
         eq-eqb (framesOf m) (framesOf m) refl,
         le-leb (length m) (rs .capacity) space,
+        ← first-ack (windowOf rs 1 (framesOf m)),
+      )
+
+  -- it comes again before frame 1: the same answer, and nothing else
+  pub hears-announcement-again : (last wait : ℕ) (buffer : List ℕ) → length buffer ≡ 1785 → length m ≤ 1785
+      → hearOf (receiverIn rs (Open (connected m 1 last wait))) (announcementOf (framesOf m) (length m)) buffer
+      ≡ heard (emitting (receiverIn rs (Open (connected m 1 last wait))) (windowAck 1 last)) buffer
+  unfolding hearOf hearRead hearKind hearNumbered hearAnnouncement announceOpen readOf namedOf allFiller announcementOf pick
+  hears-announcement-again last wait buffer held fits =
+      rw (
+        held,
+        word-whole (length m) (omega arith),
+        eq-eqb (framesOf m) (framesOf m) refl,
+        eq-eqb (length m) (length m) refl,
+        ← first-ack last,
       )
 
   pub waits-on : (expected last wait : ℕ) → wait + 1 < rs .timeout → rs .timeout ≤ 10000
@@ -67,6 +86,28 @@ module _ (rs : Settings) (m : List ℕ) where
   unfolding readOf namedOf informationOf pick
   reads number low =
       rw (ne-eqb number 0 (omega arith), filler-ends (number ∷ fillTo 7 (partFrom number m)) 8 (rw length-fill (omega arith)))
+
+  -- the frame before the one that is expected is ignored
+  pub hears-passed : (number last wait : ℕ) (buffer : List ℕ) → length buffer ≡ 1785 → 1 ≤ number → number < framesOf m
+      → hearOf (receiverIn rs (Open (connected m (number + 1) last wait))) (informationAt number m) buffer
+      ≡ heard (silently (receiverIn rs (Open (connected m (number + 1) last wait)))) buffer
+  unfolding hearOf hearRead hearKind hearNumbered hearInformation informationOpen informationOf pick
+  hears-passed number last wait buffer held low high =
+      rw (
+        held,
+        reads number low,
+        ne-eqb number 0 (omega arith),
+        le-ltb (framesOf m) number (omega arith),
+        ne-eqb number (number + 1) (omega arith),
+      )
+
+  -- after the delivery the last frame draws the same answer
+  pub hears-delivered : (buffer : List ℕ) → length buffer ≡ 1785 → 1 ≤ framesOf m
+      → hearOf (receiverIn rs (donePhase m)) (informationAt (framesOf m) m) buffer
+      ≡ heard (emitting (receiverIn rs (donePhase m)) (endOfAckOf (framesOf m) (length m))) buffer
+  unfolding hearOf hearRead hearKind hearNumbered hearInformation informationDone informationOf pick
+  hears-delivered buffer held some =
+      rw (held, reads (framesOf m) some, ne-eqb (framesOf m) 0 (omega arith), eq-eqb (framesOf m) (framesOf m) refl)
 
   -- the frame that is expected is stored
   hears-frame : (number last wait : ℕ) (buffer : List ℕ) → length buffer ≡ 1785 → 1 ≤ number → number ≤ framesOf m

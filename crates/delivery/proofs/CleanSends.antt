@@ -23,6 +23,8 @@ use Rattle.sender.specs.declared.Settings.{Settings}
 use Rattle.sender.specs.declared.Streamed.{Streamed}
 use Rattle.sender.specs.declared.Transfer.{Transfer}
 use Rattle.delivery.proofs.Stages.{senderIn, framesOf}
+use Rattle.delivery.specs.Clean.{Turn, anyone, receivers}
+use Rattle.receiver.specs.Window.{windowAck}
 use Rattle.frame.specs.Frames.{blankOf}
 use mathlib.Core.Bool.{false}
 
@@ -51,6 +53,15 @@ awaitedPhase m ticks start number last =
 abbrev pub outPhase : List ℕ → ℕ → ℕ → ℕ → ℕ → Phase
 outPhase m ticks start number last =
     pick (leb last number) (awaitedPhase m ticks start number last) (Sending (streamed m ticks start (number + 1) last 0))
+
+-- the phases that wait for the LM_ACK of the window from a frame on, or have just taken it, by the sender's ticks and by whose
+-- tick is next
+pub data Awaits (m : List ℕ) : ℕ → ℕ → ℕ → Turn → Phase → Type 0 where
+  opening : {last : ℕ} → Awaits m 0 1 last anyone (announcedPhase m)
+  window : {ticks start number before last : ℕ}
+      → start ≤ number
+      → Awaits m ticks (number + 1) last receivers (awaitedPhase m ticks start number before)
+  again : {ticks number last : ℕ} {turn : Turn} → Awaits m ticks number last turn (Sending (streamed m ticks number number last 0))
 
 module _ (st : Settings) (m : List ℕ) where
   pub begins-long : 8 < length m → length m ≤ 1785
@@ -94,23 +105,35 @@ module _ (st : Settings) (m : List ℕ) where
 
   -- ---- hearings
 
-  pub hears-first : (count : ℕ) → 1 ≤ count → 1 ≤ framesOf m
-      → hearOf (senderIn st (announcedPhase m)) (lmAckOf 1 count)
-      ≡ silently (senderIn st (Sending (streamed m 0 1 1 (windowLast 1 count (framesOf m)) 0)))
-  unfolding hearOf hearRead hearKind hearAck ackOpening taking readOf namedOf allFiller lmAckOf pick
-  hears-first count some more = rw (ne-eqb count 0 (omega arith), le-ltb (framesOf m) 1 more)
+  -- the LM_ACK that is awaited, or the one just taken, asks for the window that is then sent
+  window-is : (number last : ℕ) → 1 ≤ number → number ≤ last → last ≤ framesOf m
+      → windowLast number (last - (number - 1)) (framesOf m) ≡ last
+  window-is number last low inside final = omega arith
 
-  pub hears-next : (ticks start number last count : ℕ) → start ≤ number → number < framesOf m → 1 ≤ count
-      → hearOf (senderIn st (awaitedPhase m ticks start number last)) (lmAckOf (number + 1) count)
-      ≡ silently (senderIn st (Sending (streamed m ticks (number + 1) (number + 1) (windowLast (number + 1) count (framesOf m)) 0)))
-  unfolding hearOf hearRead hearKind hearAck ackWindow taking readOf namedOf allFiller lmAckOf pick
-  hears-next ticks start number last count old more some =
+  pub hears-ack : {ticks number last : ℕ} {turn : Turn} {p : Phase} → Awaits m ticks number last turn p
+      → 1 ≤ number → number ≤ last → last ≤ framesOf m
+      → hearOf (senderIn st p) (windowAck number last)
+      ≡ silently (senderIn st (Sending (streamed m ticks number number last 0)))
+  unfolding hearOf hearRead hearKind hearAck ackOpening ackWindow taking readOf namedOf allFiller lmAckOf pick
+  hears-ack (opening {last}) low inside final =
+      rw (ne-eqb (last - 0) 0 (omega arith), le-ltb (framesOf m) 1 (omega arith), window-is 1 last low inside final)
+  hears-ack (window {start = start} {number = n} {last = last} old) low inside final =
       rw (
-        ne-eqb (number + 1) 0 (omega arith),
-        ne-eqb count 0 (omega arith),
-        le-ltb (framesOf m) (number + 1) (omega arith),
-        le-ltb (number + 1) start (omega arith),
-        ne-eqb (number + 1) start (omega arith),
+        ne-eqb (n + 1) 0 (omega arith),
+        ne-eqb (last - (n + 1 - 1)) 0 (omega arith),
+        le-ltb (framesOf m) (n + 1) (omega arith),
+        le-ltb (n + 1) start (omega arith),
+        ne-eqb (n + 1) start (omega arith),
+        window-is (n + 1) last low inside final,
+      )
+  hears-ack (again {number = n} {last = last}) low inside final =
+      rw (
+        ne-eqb n 0 (omega arith),
+        ne-eqb (last - (n - 1)) 0 (omega arith),
+        le-ltb (framesOf m) n (omega arith),
+        le-ltb n n (omega arith),
+        eq-eqb n n refl,
+        window-is n last low inside final,
       )
 
   pub hears-end : (ticks start number last : ℕ) → length m < 65536
@@ -119,3 +142,8 @@ module _ (st : Settings) (m : List ℕ) where
   unfolding hearOf hearRead hearKind hearEnd ifWhole readOf namedOf allFiller endOfAckOf pick
   hears-end ticks start number last small =
       rw (word-whole (length m) small, eq-eqb (framesOf m) (framesOf m) refl, eq-eqb (length m) (length m) refl)
+
+  -- once it has reported, the sender hears it in vain
+  pub hears-idle : hearOf (senderIn st Idle) (endOfAckOf (framesOf m) (length m)) ≡ silently (senderIn st Idle)
+  unfolding hearOf hearRead hearKind hearEnd readOf namedOf allFiller endOfAckOf pick
+  hears-idle = refl

@@ -2,6 +2,7 @@
 -- been seen since the begin. Every clean call leads from one stage to another.
 -- Assumes nothing.
 use Prim.Native.Nat.{ℕ, _+_, _-_, _*_, _≤_, _<_}
+use mathlib.Core.Bool.{Bool, true, false, false≢true}
 use mathlib.Core.Path.{_≡_, refl, ap, _∙_}
 use mathlib.Core.List.{List, [], _∷_, _++_}
 use native.Mathlib.Omega.{arith}
@@ -20,7 +21,7 @@ use Rattle.sender.specs.declared.Phase.{Phase}
 use Rattle.sender.specs.declared.Phase.the-variants.{Idle, Sending}
 use Rattle.sender.specs.declared.Settings.{Settings}
 use Rattle.delivery.proofs.CleanReceives.{connected, donePhase, storedIn}
-use Rattle.delivery.proofs.CleanSends.{announcedPhase, streamed, awaitedPhase, outPhase}
+use Rattle.delivery.proofs.CleanSends.{announcedPhase, streamed, awaitedPhase, outPhase, Awaits}
 use Rattle.delivery.proofs.Stages.{senderIn, framesOf}
 use Rattle.delivery.specs.Clean.{Turn, anyone, senders, receivers, turnBy, reportsOf}
 use Rattle.delivery.specs.Seen.{taken, Begun, since, begunAfter, sortOf}
@@ -63,82 +64,120 @@ module _ (st : Settings) (rs : receiver-settings.Settings) (m : List ℕ) where
   worldAt p q forward back buffer =
       record { sender = senderIn st p; receiver = receiverIn rs q; forward = forward; back = back; buffer = buffer }
 
-  -- the announcement is on its way
-  abbrev pub announcedWorld : List ℕ → World
-  announcedWorld buffer =
-      worldAt (announcedPhase m) at.Idle (announcementOf (framesOf m) (length m) ∷ []) [] buffer
+  abbrev pub announcement : Frame
+  announcement = announcementOf (framesOf m) (length m)
 
-  -- its answer is
-  abbrev pub grantedWorld : ℕ → List ℕ → World
-  grantedWorld last buffer =
-      worldAt (announcedPhase m) (at.Open (connected m 1 last 0)) [] (lmAckOf 1 last ∷ []) buffer
-
-  -- a frame of a window is next
-  abbrev pub sendingWorld : ℕ → ℕ → ℕ → ℕ → ℕ → ℕ → List ℕ → World
-  sendingWorld ticks start number last gap wait buffer =
-      worldAt (Sending (streamed m ticks start number last gap)) (at.Open (connected m number last wait)) [] [] buffer
-
-  -- it is on its way
-  abbrev pub outWorld : ℕ → ℕ → ℕ → ℕ → ℕ → List ℕ → World
-  outWorld ticks start number last wait buffer =
-      worldAt (outPhase m ticks start number last) (at.Open (connected m number last wait)) (informationAt number m ∷ []) []
-      buffer
-
-  -- it was the window's last and has been heard, and the answer is on its way
-  abbrev pub askedWorld : ℕ → ℕ → ℕ → ℕ → ℕ → List ℕ → World
-  askedWorld ticks start number last next buffer =
-      worldAt (awaitedPhase m ticks start number last) (at.Open (connected m (number + 1) next 0)) []
-      (windowAck (number + 1) next ∷ []) buffer
-
-  -- it was the message's last and has been heard, and the answer is on its way
-  abbrev pub endedWorld : ℕ → ℕ → ℕ → ℕ → List ℕ → World
-  endedWorld ticks start number last buffer =
-      worldAt (awaitedPhase m ticks start number last) (donePhase m) [] (endOfAckOf (framesOf m) (length m) ∷ []) buffer
-
-  -- sent has been reported
-  abbrev pub overWorld : List ℕ → World
-  overWorld buffer = worldAt Idle (donePhase m) [] [] buffer
+  abbrev pub endOfAck : Frame
+  endOfAck = endOfAckOf (framesOf m) (length m)
 
   -- the report of the clean figures
   abbrev pub cleanReport : sender.Outcome
   cleanReport = sender.sent (framesOf m * st .gap) (framesOf m + 1)
 
-  -- the world, whose tick is next, what was seen since the begin, and the sender's reports
-  pub data Stage : World → Turn → Begun → List sender.Outcome → Type 0 where
-    announced : {buffer : List ℕ} → length buffer ≡ 1785 → Stage (announcedWorld buffer) anyone (since m 0 0 []) []
-    granted : {last : ℕ} {buffer : List ℕ}
-        → length buffer ≡ 1785
-        → last ≡ windowOf rs 1 (framesOf m)
-        → Stage (grantedWorld last buffer) anyone (since m 0 0 []) []
-    sending : {turn : Turn} {ticks start number last gap wait : ℕ} {buffer : List ℕ}
-        → Inside m start number last
-        → Filled m number buffer
-        → gap < st .gap
-        → Paced turn gap wait
-        → ticks + st .gap ≡ number * st .gap + gap
-        → Stage (sendingWorld ticks start number last gap wait buffer) turn (since m ticks 0 []) []
-    out : {ticks start number last wait : ℕ} {buffer : List ℕ}
-        → Inside m start number last
-        → Filled m number buffer
-        → ticks ≡ number * st .gap
-        → Stage (outWorld ticks start number last wait buffer) receivers (since m ticks 0 []) []
-    asked : {ticks start number last next : ℕ} {buffer : List ℕ}
-        → start ≤ number
-        → number < framesOf m
-        → Filled m (number + 1) buffer
-        → next ≡ windowOf rs (number + 1) (framesOf m)
-        → ticks ≡ number * st .gap
-        → Stage (askedWorld ticks start number last next buffer) receivers (since m ticks 0 []) []
-    ended : {ticks start number last : ℕ} {buffer : List ℕ}
-        → number ≡ framesOf m
-        → ticks ≡ number * st .gap
-        → Stage (endedWorld ticks start number last buffer) receivers (since m ticks 0 (m ∷ [])) []
-    over : {turn : Turn} {ticks : ℕ} {buffer : List ℕ}
-        → framesOf m * st .gap ≤ ticks
-        → Stage (overWorld buffer) turn (since m ticks 1 (m ∷ [])) (cleanReport ∷ [])
+  module _ (repeats : Bool) where
+    -- ---- what is on a line though it has been heard, where frames may be repeated
 
-  -- the stage after a call, by what was seen before it
-  pub record After (x : Stepped) (turn : Turn) (b : Begun) (reports : List sender.Outcome) : Type 0 where
-    pub stage :
-        Stage (x .world) (turnBy (sortOf (x .event .call)) (taken (x .event .sender)) turn) (begunAfter (x .event) b)
-        (reportsOf (x .event .sender) ++ reports)
+    -- a frame that was kept
+    pub data Kept (f : Frame) : List Frame → Type 0 where
+      none : Kept f []
+      kept : repeats ≡ true → Kept f (f ∷ [])
+
+    -- copies of an answer
+    pub data Copies (f : Frame) : List Frame → Type 0 where
+      none : Copies f []
+      more : {fs : List Frame} → repeats ≡ true → Copies f fs → Copies f (f ∷ fs)
+
+    -- on forward, where frame number of a window that starts at start is next, after so many ticks of the gap: the frame before
+    -- it, or the announcement
+    pub data Passed : ℕ → ℕ → ℕ → List Frame → Type 0 where
+      none : {start number gap : ℕ} → Passed start number gap []
+      announced : repeats ≡ true → Passed 1 1 0 (announcement ∷ [])
+      informed : {start before gap : ℕ} → repeats ≡ true → 1 ≤ before → Passed start (before + 1) gap (informationAt before m ∷ [])
+
+    -- on back, copies of that window's LM_ACK
+    pub data Answered : ℕ → ℕ → ℕ → ℕ → List Frame → Type 0 where
+      none : {start number last gap : ℕ} → Answered start number last gap []
+      more : {number last : ℕ} {fs : List Frame}
+          → repeats ≡ true
+          → Answered number number last 0 fs
+          → Answered number number last 0 (windowAck number last ∷ fs)
+
+    -- ---- the world, whose tick is next, what was seen since the begin, and the sender's reports
+
+    pub data Stage : World → Turn → Begun → List sender.Outcome → Type 0 where
+      -- the announcement is on its way
+      opens : {buffer : List ℕ}
+          → length buffer ≡ 1785
+          → Stage (worldAt (announcedPhase m) at.Idle (announcement ∷ []) [] buffer) anyone (since m 0 0 []) []
+      -- the LM_ACK of a window is
+      asks : {turn : Turn} {ticks number last : ℕ} {p : Phase} {forward back : List Frame} {buffer : List ℕ}
+          → Awaits m ticks number last turn p
+          → Inside m number number last
+          → Filled m number buffer
+          → ticks + st .gap ≡ number * st .gap + 0
+          → Passed number number 0 forward
+          → Answered number number last 0 back
+          → Stage (worldAt p (at.Open (connected m number last 0)) forward (windowAck number last ∷ back) buffer)
+          turn (since m ticks 0 []) []
+      -- a frame of the window is next
+      sends : {turn : Turn} {ticks start number last gap wait : ℕ} {forward back : List Frame} {buffer : List ℕ}
+          → Inside m start number last
+          → Filled m number buffer
+          → gap < st .gap
+          → Paced turn gap wait
+          → ticks + st .gap ≡ number * st .gap + gap
+          → Passed start number gap forward
+          → Answered start number last gap back
+          → Stage
+          (worldAt (Sending (streamed m ticks start number last gap)) (at.Open (connected m number last wait)) forward back buffer)
+          turn (since m ticks 0 []) []
+      -- it is on its way
+      sent : {ticks start number last wait : ℕ} {buffer : List ℕ}
+          → Inside m start number last
+          → Filled m number buffer
+          → ticks ≡ number * st .gap
+          → Stage
+          (worldAt (outPhase m ticks start number last) (at.Open (connected m number last wait)) (informationAt number m ∷ []) []
+          buffer)
+          receivers (since m ticks 0 []) []
+      -- it was the message's last, and the EndofACK is on its way
+      ends : {ticks start last : ℕ} {forward back : List Frame} {buffer : List ℕ}
+          → length buffer ≡ 1785
+          → ticks ≡ framesOf m * st .gap
+          → Kept (informationAt (framesOf m) m) forward
+          → Copies endOfAck back
+          → Stage
+          (worldAt (awaitedPhase m ticks start (framesOf m) last) (donePhase m) forward (endOfAck ∷ back) buffer)
+          receivers (since m ticks 0 (m ∷ [])) []
+      -- sent has been reported
+      over : {turn : Turn} {ticks : ℕ} {forward back : List Frame} {buffer : List ℕ}
+          → length buffer ≡ 1785
+          → framesOf m * st .gap ≤ ticks
+          → Kept (informationAt (framesOf m) m) forward
+          → Copies endOfAck back
+          → Stage (worldAt Idle (donePhase m) forward back buffer) turn (since m ticks 1 (m ∷ [])) (cleanReport ∷ [])
+
+    -- the stage after a call, by what was seen before it
+    pub record After (x : Stepped) (turn : Turn) (b : Begun) (reports : List sender.Outcome) : Type 0 where
+      pub stage :
+          Stage (x .world) (turnBy (sortOf (x .event .call)) (taken (x .event .sender)) turn) (begunAfter (x .event) b)
+          (reportsOf (x .event .sender) ++ reports)
+
+  -- ---- where none is repeated, nothing that was heard is on a line
+
+  pub none-kept : {f : Frame} {fs : List Frame} → Kept false f fs → fs ≡ []
+  none-kept Kept.none = refl
+  none-kept (kept e) = absurd (false≢true e)
+
+  pub no-copies : {f : Frame} {fs : List Frame} → Copies false f fs → fs ≡ []
+  no-copies Copies.none = refl
+  no-copies (Copies.more e _) = absurd (false≢true e)
+
+  pub none-passed : {start number gap : ℕ} {fs : List Frame} → Passed false start number gap fs → fs ≡ []
+  none-passed Passed.none = refl
+  none-passed (announced e) = absurd (false≢true e)
+  none-passed (informed e _) = absurd (false≢true e)
+
+  pub none-answered : {start number last gap : ℕ} {fs : List Frame} → Answered false start number last gap fs → fs ≡ []
+  none-answered Answered.none = refl
+  none-answered (Answered.more e _) = absurd (false≢true e)

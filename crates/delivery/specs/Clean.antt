@@ -79,13 +79,16 @@ CleanCall p hearBack e = Unit
 CleanCall p repeatBack e = p .world .back ≡ []
 CleanCall p loseBack e = p .world .back ≡ []
 
--- along the whole list, on a line
-abbrev pub CleanCalls : Line → Past → List Call → Type 0
-CleanCalls line p [] = Unit
-CleanCalls line p (c ∷ calls) =
+-- along the whole list, on a line: what demand 3 asks of each call, and what is asked besides
+abbrev pub CallsMeet : (Past → Call → Event → Type 0) → Line → Past → List Call → Type 0
+CallsMeet Asked line p [] = Unit
+CallsMeet Asked line p (c ∷ calls) =
     Condition p c (line (p .world) c .event)
-    × CleanCall p c (line (p .world) c .event)
-    × CleanCalls line (next line p c) calls
+    × Asked p c (line (p .world) c .event)
+    × CallsMeet Asked line (next line p c) calls
+
+abbrev pub CleanCalls : Line → Past → List Call → Type 0
+CleanCalls = CallsMeet CleanCall
 
 -- E1's other conditions, in its order; limit is M, patience the receiver's T, capacity K
 pub record Fits (gap timeout limit patience capacity : ℕ) (message : List ℕ) : Type 0 where
@@ -140,10 +143,16 @@ pub record CleanPromise (f : Figures) (message : List ℕ) (p : Past) : Type 0 w
 
 -- ---- the claim
 
--- on a line, for the ends that making answers, every buffer of 1785 bytes, and every message that is begun by them and is
--- followed by a list of clean calls: what is said of its figures, of the message, and of where the calls lead
-abbrev pub Cleanly : Line → (Figures → List ℕ → Past → Type 0) → Type 0
-Cleanly line Says =
+-- On a line, for the ends that making answers, every buffer of 1785 bytes, every message that fits the settings, and every
+-- list of calls after its begin that meets what is asked: what is said of the figures, of the message, and of where the calls
+-- lead.
+abbrev pub Cleanly :
+    Line
+    → (ℕ → ℕ → ℕ → ℕ → ℕ → List ℕ → Type 0)
+    → (Past → Call → Event → Type 0)
+    → (Figures → List ℕ → Past → Type 0)
+    → Type 0
+Cleanly line Fitting Asked Says =
     (gap timeout limit : ℕ) (s : Sender)
     → sender-making.makeOf gap timeout limit ≡ accepted s
     → (patience window capacity : ℕ) (r : Receiver)
@@ -151,17 +160,17 @@ Cleanly line Says =
     → (buffer : List ℕ)
     → length buffer ≡ 1785
     → (message : List ℕ)
-    → Fits gap timeout limit patience capacity message
+    → Fitting gap timeout limit patience capacity message
     → (calls : List Call)
-    → CleanCalls line (next line (fresh s r buffer) (begin message)) calls
+    → CallsMeet Asked line (next line (fresh s r buffer) (begin message)) calls
     → Says (figuresFor (length message) gap) message (runOf line (fresh s r buffer) (begin message ∷ calls))
 
 abbrev pub Clean : Type 0
-Clean = Cleanly stepOf CleanPromise
+Clean = Cleanly stepOf Fits CleanCall CleanPromise
 
 -- it holds at a line of 64 too
 abbrev pub CappedClean : Type 0
-CappedClean = Cleanly cappedStep CleanPromise
+CappedClean = Cleanly cappedStep Fits CleanCall CleanPromise
 
 -- ---- the conditions can be met
 
@@ -173,4 +182,4 @@ pub record GoesOn (f : Figures) (message : List ℕ) (p : Past) : Type 0 where
 
 -- every list of clean calls can be carried on to the report
 abbrev pub CleanGoesOn : Type 0
-CleanGoesOn = Cleanly stepOf GoesOn
+CleanGoesOn = Cleanly stepOf Fits CleanCall GoesOn

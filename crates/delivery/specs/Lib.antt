@@ -4,4 +4,5 @@ pub mod Demand3
 pub mod WhileOpen
 pub mod Capped
 pub mod Clean
+pub mod Repeats
 pub mod Example
