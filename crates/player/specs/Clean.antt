@@ -1,0 +1,92 @@
+-- Document 02, E1, of what the player prints: a pack whose events are clean calls has the line `S sent` with the clean figures,
+-- once. What is printed is `played`, and the player's calls joined print just that (`PrintsPlayed`).
+--   PackClean    what E1 promises holds of the pack's run
+--   PrintsClean  that report or none is printed of the sender, and it once all its ticks are over and all frames heard
+use Prim.Native.Nat.{ℕ, suc, _≤_}
+use mathlib.Core.List.{List, [], _∷_, _++_}
+use mathlib.Core.Logic.{_⊎_}
+use mathlib.Core.Path.{_≡_}
+use lib.ListN.{length, replicate}
+use Rattle.clean.specs.Figures.{figuresFor}
+use Rattle.clean.specs.declared.Figures.{Figures}
+use Rattle.delivery.specs.Clean.{Empty, CleanCalls, Fits, sentWith, reportsIn, ticksSince, CleanPromise}
+use Rattle.delivery.specs.Run.{Past, fresh, next}
+use Rattle.delivery.specs.Seen.{begunIn}
+use Rattle.frame.specs.Result.{accepted}
+use Rattle.pack.specs.Pack.{messageOf, eventsOf}
+use Rattle.player.specs.Claim.{newestFirst}
+use Rattle.player.specs.Events.{worldAfter, callsFor}
+use Rattle.player.specs.Played.{openOf, runOf, played}
+use Rattle.player.specs.Text.{textOf}
+use Rattle.player.specs.declared.Player.{Player}
+use Rattle.text.specs.Text.{sentLine}
+use Rattle.transport.specs.Capped.{cappedStep}
+use Rattle.transport.specs.World.{Event, begin}
+
+-- ---- a clean pack
+
+-- the pack's ends just made, and its begin
+abbrev pub begunOf : List ℕ → Player → Past
+begunOf bytes q =
+    next cappedStep (fresh (q .ends .sender) (q .ends .receiver) (replicate 1785 0))
+    (begin (messageOf bytes (q .bodies)))
+
+-- E1's conditions, of a pack's settings, message and events
+pub record CleanPack (bytes : List ℕ) (q : Player) : Type 0 where
+  pub fits :
+      (let k = q .bodies .settings in
+      Fits (k .gap) (k .timeout) (k .limit) (k .patience) (k .capacity) (messageOf bytes (q .bodies)))
+  pub events :
+      (let p = begunOf bytes q in
+      CleanCalls cappedStep p (callsFor (p .world) (messageOf bytes (q .bodies)) (eventsOf bytes (q .bodies))))
+
+-- its figures: N × G and N + 1
+abbrev pub cleanFigures : List ℕ → Player → Figures
+cleanFigures bytes q = figuresFor (length (messageOf bytes (q .bodies))) (q .bodies .settings .gap)
+
+-- ---- its run
+
+-- where the run of a pack leads, and its events
+abbrev pub pastOf : List ℕ → Player → Past
+pastOf bytes q =
+    record {
+      world = worldAfter (begunOf bytes q .world) (messageOf bytes (q .bodies)) (eventsOf bytes (q .bodies));
+      events = newestFirst [] (runOf bytes q);
+    }
+
+abbrev pub PackClean : Type 0
+PackClean =
+    (bytes : List ℕ) (q : Player)
+    → openOf bytes ≡ accepted q
+    → CleanPack bytes q
+    → CleanPromise (cleanFigures bytes q) (messageOf bytes (q .bodies)) (pastOf bytes q)
+
+-- ---- what is printed of it
+
+-- One event of the run has a report of the sender, the others have none. Its number is that of the events before it, the begin
+-- being number 0, and the report's line is all that is printed of it.
+pub record PrintsOnce (f : Figures) (bytes : List ℕ) (q : Player) : Type 0 where
+  pub earlier : List Event
+  pub event : Event
+  pub later : List Event
+  pub run : runOf bytes q ≡ earlier ++ (event ∷ later)
+  pub reported : event .sender ≡ sentWith f
+  pub noneEarlier : reportsIn earlier ≡ []
+  pub noneLater : reportsIn later ≡ []
+  pub printed :
+      played bytes
+      ≡ textOf 0 earlier
+      ++ (sentLine (length earlier) (f .ticks) (f .frames) ++ textOf (suc (length earlier)) later)
+
+-- the sender's N × G ticks are over, and no frame is on its way
+pub record Complete (bytes : List ℕ) (q : Player) : Type 0 where
+  pub ticks : cleanFigures bytes q .ticks ≤ ticksSince (begunIn (pastOf bytes q .events))
+  pub heard : Empty (pastOf bytes q .world)
+
+abbrev pub PrintsClean : Type 0
+PrintsClean =
+    (bytes : List ℕ) (q : Player)
+    → openOf bytes ≡ accepted q
+    → CleanPack bytes q
+    → (let f = cleanFigures bytes q in
+    ((reportsIn (runOf bytes q) ≡ []) ⊎ PrintsOnce f bytes q) × (Complete bytes q → PrintsOnce f bytes q))
