@@ -4,13 +4,15 @@
 use Prim.Native.Nat.{ℕ, zero, suc, _+_}
 use mathlib.Core.Bool.{true, false}
 use mathlib.Core.List.{List, [], _∷_, _++_, append-nil}
-use mathlib.Core.Logic.{_⊎_, inl, inr}
+use mathlib.Core.Logic.{_⊎_, inl, inr, ⊎-elim}
 use mathlib.Core.Path.{_≡_, refl, sym, ap, subst, _∙_}
+use native.Mathlib.Nat.{zero-add}
 use native.Mathlib.Omega.{arith}
 use lib.ListN.{length, replicate, length-append}
 use Rattle.clean.specs.declared.Figures.{Figures}
 use Rattle.delivery.specs.Clean.{CappedClean, CleanPromise, AtMostOnce, notYet, once, sentWith, reportsOf, reportsIn}
 use Rattle.delivery.specs.Run.{Past, next, runOf}
+use Rattle.frame.specs.Result.{accepted}
 use Rattle.frame.specs.declared.Frame.{Frame}
 use Rattle.pack.specs.Pack.{messageOf, eventsOf}
 use Rattle.player.proofs.Keeps.{same-run}
@@ -19,7 +21,8 @@ use Rattle.player.proofs.Steps.{text-parts}
 use Rattle.player.specs.Claim.{newestFirst}
 use Rattle.player.specs.Clean.{begunOf, cleanFigures, pastOf, PackClean, PrintsOnce, PrintsClean}
 use Rattle.player.specs.Events.{callFor, turnFor, eventsFrom, runFrom, callsFor}
-use Rattle.player.specs.Played as played
+use Rattle.player.specs.Played as playing
+use Rattle.player.specs.Played.{openOf, playedOpened, played, start}
 use Rattle.player.specs.Text.{framesText, eventText, textOf, letterOf}
 use Rattle.player.specs.declared.Player.{Player}
 use Rattle.receiver.specs.Told as receiver
@@ -35,7 +38,7 @@ use Rattle.transport.specs.World.{World, Call, begin, senderTick, receiverTick,
 -- ---- what E1 promises
 
 pub pack-clean : CappedClean → PackClean
-unfolding played.runOf runFrom runOf newestFirst
+unfolding playing.runOf runFrom runOf newestFirst
 pack-clean capped-clean bytes q opens c =
     let k = q .bodies .settings in
     let made = make-answers (k .gap) (k .timeout) (k .limit) (k .patience) (k .window) (k .capacity) (q .ends) (opened bytes q opens .made) in
@@ -44,3 +47,194 @@ pack-clean capped-clean bytes q opens c =
     let p = begunOf bytes q in
     subst (CleanPromise (cleanFigures bytes q) m) (same-run m events p)
     (capped-clean (k .gap) (k .timeout) (k .limit) (q .ends .sender) (made .sender) (k .patience) (k .window) (k .capacity) (q .ends .receiver) (made .receiver) (replicate 1785 0) refl m (c .fits) (callsFor (p .world) m events) (c .events))
+
+-- ---- the line of a report
+
+-- where the sender says sent, no frame goes out and the receiver is not called
+abbrev Alone : sender.Outcome → List Frame → receiver.Outcome → Type 0
+Alone o emitted r = (ticks frames : ℕ) → o ≡ sender.sent ticks frames → (emitted ≡ []) × (r ≡ receiver.quiet)
+
+abbrev AloneTold : sender.Told → Type 0
+AloneTold t = Alone (t .outcome) (emission (t .emits) (t .frame)) receiver.quiet
+
+abbrev AloneEvent : Event → Type 0
+AloneEvent e = Alone (e .sender) (e .emitted) (e .receiver)
+
+alone-told : (s : Sender) → Forms AloneTold s
+alone-told s =
+    record {
+      refuses = λ _ _ _ e. (refl, refl);
+      rests = λ _ _ _ e. (refl, refl);
+      emits = λ _ _ _ _ _ e. (cc, refl);
+      fails = λ _ _ _ _ e. (cc, refl);
+      ends = λ _ _ _ _ e. (refl, refl);
+      finishes = λ _ _ _ e. (refl, refl);
+    }
+
+alone-forward : (k : Rest) (c : Call) (w : World) (b : List ℕ) (fs : List Frame) → AloneEvent (givenForward k c w b fs .event)
+unfolding givenForward
+alone-forward k c w b [] ticks frames e = (refl, refl)
+alone-forward k c w b (f ∷ fs) ticks frames e = (cc, cc)
+
+alone-back : (k : Rest) (c : Call) (w : World) (fs : List Frame) → AloneEvent (givenBack k c w fs .event)
+unfolding givenBack
+alone-back k c w [] = λ _ _ e. (refl, refl)
+alone-back k c w (f ∷ fs) = hear-tells AloneTold (w .sender) (alone-told (w .sender)) f
+
+alone-call : (w : World) (c : Call) → AloneEvent (cappedStep w c .event)
+unfolding cappedStep stepOf
+alone-call w (begin m) = begin-tells AloneTold (w .sender) (alone-told (w .sender)) m
+alone-call w (senderTick m) = tick-tells AloneTold (w .sender) (alone-told (w .sender)) m
+alone-call w receiverTick = λ _ _ e. (cc, cc)
+alone-call w (hearForward b) = alone-forward _ _ w b (w .forward)
+alone-call w (repeatForward b) = alone-forward _ _ w b (w .forward)
+alone-call w loseForward = λ _ _ e. (refl, refl)
+alone-call w hearBack = alone-back _ _ w (w .back)
+alone-call w repeatBack = alone-back _ _ w (w .back)
+alone-call w loseBack = λ _ _ e. (refl, refl)
+
+report-line : (f : Figures) (number : ℕ) (e : Event) → e .sender ≡ sentWith f → AloneEvent e
+    → eventText number e ≡ sentLine number (f .ticks) (f .frames)
+unfolding eventText framesText senderReport receiverReport
+report-line f number e s alone =
+    let a = alone (f .ticks) (f .frames) s in
+    rw (a .0, a .1, s) (append-nil _)
+
+-- ---- the run, cut at the report
+
+abbrev AllAlone : List Event → Type 0
+AllAlone [] = Unit
+AllAlone (e ∷ es) = AloneEvent e × AllAlone es
+
+alone-events : (w : World) (m events : List ℕ) → AllAlone (eventsFrom w m events)
+unfolding eventsFrom turnFor
+alone-events w m [] = tt
+alone-events w m (event ∷ events) = (
+  alone-call w (callFor w m event),
+  alone-events (turnFor w m event .world) m events,
+)
+
+alone-run : (bytes : List ℕ) (q : Player) → AllAlone (playing.runOf bytes q)
+unfolding playing.runOf runFrom
+alone-run bytes q =
+    (alone-call (start (q .ends)) (begin (messageOf bytes (q .bodies))), alone-events _ _ (eventsOf bytes (q .bodies)))
+
+-- an event has no report, or its own
+one-report : (o : sender.Outcome) → (reportsOf o ≡ []) ⊎ (reportsOf o ≡ o ∷ [])
+one-report sender.quiet = inl refl
+one-report (sender.refused number) = inl refl
+one-report (sender.sent ticks frames) = inr refl
+one-report (sender.failed cause ticks frames) = inr refl
+
+-- newest first or last, there are as many
+count-reports : (past run : List Event)
+    → length (reportsIn (newestFirst past run)) ≡ length (reportsIn run) + length (reportsIn past)
+unfolding newestFirst reportsIn
+count-reports past [] = omega arith
+count-reports past (e ∷ run) = count-reports (e ∷ past) run ∙ simp length-append (omega arith)
+
+no-reports : (l : List sender.Outcome) → length l ≡ 0 → l ≡ []
+no-reports [] e = refl
+no-reports (o ∷ l) e = absurd (omega arith)
+
+both-none : (k l : List sender.Outcome) → k ++ l ≡ [] → (k ≡ []) × (l ≡ [])
+both-none [] l e = (refl, e)
+both-none (o ∷ k) l e = (cc, cc)
+
+-- where a run has no report, those before it are all
+same-reports : (past run : List Event) → reportsIn run ≡ [] → reportsIn (newestFirst past run) ≡ reportsIn past
+unfolding newestFirst reportsIn
+same-reports past [] none = refl
+same-reports past (e ∷ run) none =
+    let n = both-none (reportsOf (e .sender)) (reportsIn run) none in
+    same-reports (e ∷ past) run (n .1) ∙ rw (n .0) refl
+
+record Cut (o : sender.Outcome) (run : List Event) : Type 0 where
+  earlier : List Event
+  event : Event
+  later : List Event
+  parts : run ≡ earlier ++ (event ∷ later)
+  reported : event .sender ≡ o
+  noneEarlier : reportsIn earlier ≡ []
+  noneLater : reportsIn later ≡ []
+  alone : AloneEvent event
+
+cut : (o : sender.Outcome) (past run : List Event) → reportsIn past ≡ [] → reportsIn (newestFirst past run) ≡ o ∷ []
+    → AllAlone run
+    → Cut o run
+unfolding newestFirst reportsIn
+cut o past [] none one a = let z : _≡_ {A = ℕ} 0 1 = cc in absurd (omega arith)
+cut o past (e ∷ run) none one a =
+    ⊎-elim
+    (λ no.
+    let c = cut o (e ∷ past) run (rw no none) one (a .1) in
+    record {
+      earlier = e ∷ c .earlier;
+      event = c .event;
+      later = c .later;
+      parts = ap (λ (l : List Event). e ∷ l) (c .parts);
+      reported = c .reported;
+      noneEarlier = rw no (c .noneEarlier);
+      noneLater = c .noneLater;
+      alone = c .alone;
+    })
+    (λ yes.
+    let mine : reportsIn (e ∷ past) ≡ e .sender ∷ [] = rw none (append-nil _ ∙ yes) in
+    let only : reportsIn run ≡ [] = no-reports (reportsIn run) (omega (arith, count-reports (e ∷ past) run, ap length one, ap length mine)) in
+    let its : e .sender ∷ [] ≡ o ∷ [] = sym mine ∙ sym (same-reports (e ∷ past) run only) ∙ one in
+    record {
+      earlier = [];
+      event = e;
+      later = run;
+      parts = refl;
+      reported = cc;
+      noneEarlier = refl;
+      noneLater = only;
+      alone = a .0;
+    })
+    (one-report (e .sender))
+
+-- what is printed of the parts
+text-around : (bytes : List ℕ) (q : Player) → openOf bytes ≡ accepted q → (earlier later : List Event) (e : Event)
+    → playing.runOf bytes q ≡ earlier ++ (e ∷ later)
+    → played bytes ≡ textOf 0 earlier ++ (eventText (length earlier) e ++ textOf (suc (length earlier)) later)
+unfolding played playedOpened textOf
+text-around bytes q opens earlier later e parts =
+    rw (opens, parts) (text-parts 0 earlier (e ∷ later) ∙ rw zero-add refl)
+
+prints-once : (f : Figures) (bytes : List ℕ) (q : Player) → openOf bytes ≡ accepted q
+    → reportsIn (pastOf bytes q .events) ≡ sentWith f ∷ []
+    → PrintsOnce f bytes q
+unfolding reportsIn
+prints-once f bytes q opens one =
+    let c = cut (sentWith f) [] (playing.runOf bytes q) refl one (alone-run bytes q) in
+    let number = length (c .earlier) in
+    record {
+      earlier = c .earlier;
+      event = c .event;
+      later = c .later;
+      run = c .parts;
+      reported = c .reported;
+      noneEarlier = c .noneEarlier;
+      noneLater = c .noneLater;
+      printed =
+          text-around bytes q opens (c .earlier) (c .later) (c .event) (c .parts)
+          ∙ rw (report-line f number (c .event) (c .reported) (c .alone)) refl;
+    }
+
+no-or-once : (f : Figures) (bytes : List ℕ) (q : Player) → openOf bytes ≡ accepted q
+    → (reports : List sender.Outcome) → reportsIn (pastOf bytes q .events) ≡ reports
+    → AtMostOnce (sentWith f) reports
+    → (reportsIn (playing.runOf bytes q) ≡ []) ⊎ PrintsOnce f bytes q
+unfolding reportsIn
+no-or-once f bytes q opens _ e notYet =
+    inl (no-reports _ (omega (arith, count-reports [] (playing.runOf bytes q), ap length e)))
+no-or-once f bytes q opens _ e once = inr (prints-once f bytes q opens e)
+
+pub prints-clean : CappedClean → PrintsClean
+prints-clean capped-clean bytes q opens c =
+    let f = cleanFigures bytes q in
+    let p = pack-clean capped-clean bytes q opens c in (
+      no-or-once f bytes q opens _ refl (p .one),
+      λ done. prints-once f bytes q opens (p .there (done .ticks) (done .heard)),
+    )
