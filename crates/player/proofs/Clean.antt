@@ -19,7 +19,7 @@ use Rattle.player.proofs.Keeps.{same-run}
 use Rattle.player.proofs.Opened.{opened}
 use Rattle.player.proofs.Steps.{text-parts}
 use Rattle.player.specs.Claim.{newestFirst}
-use Rattle.player.specs.Clean.{begunOf, cleanFigures, pastOf, PackClean, PrintsOnce, PrintsClean}
+use Rattle.player.specs.Clean.{begunOf, cleanFigures, pastOf, PackClean, ReportedOnce, PrintsOnce, PrintsClean}
 use Rattle.player.specs.Events.{callFor, turnFor, eventsFrom, runFrom, callsFor}
 use Rattle.player.specs.Played as playing
 use Rattle.player.specs.Played.{openOf, playedOpened, played, start}
@@ -149,25 +149,14 @@ same-reports past (e ∷ run) none =
     let n = both-none (reportsOf (e .sender)) (reportsIn run) none in
     same-reports (e ∷ past) run (n .1) ∙ rw (n .0) refl
 
-record Cut (o : sender.Outcome) (run : List Event) : Type 0 where
-  earlier : List Event
-  event : Event
-  later : List Event
-  parts : run ≡ earlier ++ (event ∷ later)
-  reported : event .sender ≡ o
-  noneEarlier : reportsIn earlier ≡ []
-  noneLater : reportsIn later ≡ []
-  alone : AloneEvent event
-
 cut : (o : sender.Outcome) (past run : List Event) → reportsIn past ≡ [] → reportsIn (newestFirst past run) ≡ o ∷ []
-    → AllAlone run
-    → Cut o run
+    → ReportedOnce o run
 unfolding newestFirst reportsIn
-cut o past [] none one a = let z : _≡_ {A = ℕ} 0 1 = cc in absurd (omega arith)
-cut o past (e ∷ run) none one a =
+cut o past [] none one = let z : _≡_ {A = ℕ} 0 1 = cc in absurd (omega arith)
+cut o past (e ∷ run) none one =
     ⊎-elim
     (λ no.
-    let c = cut o (e ∷ past) run (rw no none) one (a .1) in
+    let c = cut o (e ∷ past) run (rw no none) one in
     record {
       earlier = e ∷ c .earlier;
       event = c .event;
@@ -176,7 +165,6 @@ cut o past (e ∷ run) none one a =
       reported = c .reported;
       noneEarlier = rw no (c .noneEarlier);
       noneLater = c .noneLater;
-      alone = c .alone;
     })
     (λ yes.
     let mine : reportsIn (e ∷ past) ≡ e .sender ∷ [] = rw none (append-nil _ ∙ yes) in
@@ -190,7 +178,6 @@ cut o past (e ∷ run) none one a =
       reported = cc;
       noneEarlier = refl;
       noneLater = only;
-      alone = a .0;
     })
     (one-report (e .sender))
 
@@ -202,24 +189,22 @@ unfolding played playedOpened textOf
 text-around bytes q opens earlier later e parts =
     rw (opens, parts) (text-parts 0 earlier (e ∷ later) ∙ rw zero-add refl)
 
+alone-at : (earlier later : List Event) (e : Event) → AllAlone (earlier ++ (e ∷ later)) → AloneEvent e
+alone-at [] later e a = a .0
+alone-at (_ ∷ earlier) later e a = alone-at earlier later e (a .1)
+
 prints-once : (f : Figures) (bytes : List ℕ) (q : Player) → openOf bytes ≡ accepted q
     → reportsIn (pastOf bytes q .events) ≡ sentWith f ∷ []
     → PrintsOnce f bytes q
 unfolding reportsIn
 prints-once f bytes q opens one =
-    let c = cut (sentWith f) [] (playing.runOf bytes q) refl one (alone-run bytes q) in
-    let number = length (c .earlier) in
+    let c = cut (sentWith f) [] (playing.runOf bytes q) refl one in
+    let alone = alone-at (c .earlier) (c .later) (c .event) (subst AllAlone (c .parts) (alone-run bytes q)) in
     record {
-      earlier = c .earlier;
-      event = c .event;
-      later = c .later;
-      run = c .parts;
-      reported = c .reported;
-      noneEarlier = c .noneEarlier;
-      noneLater = c .noneLater;
+      report = c;
       printed =
           text-around bytes q opens (c .earlier) (c .later) (c .event) (c .parts)
-          ∙ rw (report-line f number (c .event) (c .reported) (c .alone)) refl;
+          ∙ rw (report-line f (length (c .earlier)) (c .event) (c .reported) alone) refl;
     }
 
 no-or-once : (f : Figures) (bytes : List ℕ) (q : Player) → openOf bytes ≡ accepted q

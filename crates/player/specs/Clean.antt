@@ -19,6 +19,7 @@ use Rattle.player.specs.Events.{worldAfter, callsFor}
 use Rattle.player.specs.Played.{openOf, runOf, played}
 use Rattle.player.specs.Text.{textOf}
 use Rattle.player.specs.declared.Player.{Player}
+use Rattle.sender.specs.Told as sender
 use Rattle.text.specs.Text.{sentLine}
 use Rattle.transport.specs.Capped.{cappedStep}
 use Rattle.transport.specs.World.{Event, begin}
@@ -63,20 +64,25 @@ PackClean =
 
 -- ---- what is printed of it
 
--- One event of the run has a report of the sender, the others have none. Its number is that of the events before it, the begin
--- being number 0, and the report's line is all that is printed of it.
-pub record PrintsOnce (f : Figures) (bytes : List ℕ) (q : Player) : Type 0 where
+-- one event of a run has this report of the sender, and no other event has any
+pub record ReportedOnce (report : sender.Outcome) (run : List Event) : Type 0 where
   pub earlier : List Event
   pub event : Event
   pub later : List Event
-  pub run : runOf bytes q ≡ earlier ++ (event ∷ later)
-  pub reported : event .sender ≡ sentWith f
+  pub parts : run ≡ earlier ++ (event ∷ later)
+  pub reported : event .sender ≡ report
   pub noneEarlier : reportsIn earlier ≡ []
   pub noneLater : reportsIn later ≡ []
+
+-- Of that event the line `number S sent ticks frames` is printed and nothing else. As many events stand before it as its
+-- number says, the begin being number 0.
+pub record PrintsOnce (f : Figures) (bytes : List ℕ) (q : Player) : Type 0 where
+  pub report : ReportedOnce (sentWith f) (runOf bytes q)
   pub printed :
+      (let number = length (report .earlier) in
       played bytes
-      ≡ textOf 0 earlier
-      ++ (sentLine (length earlier) (f .ticks) (f .frames) ++ textOf (suc (length earlier)) later)
+      ≡ textOf 0 (report .earlier)
+      ++ (sentLine number (f .ticks) (f .frames) ++ textOf (suc number) (report .later)))
 
 -- the sender's N × G ticks are over, and no frame is on its way
 pub record Complete (bytes : List ℕ) (q : Player) : Type 0 where
