@@ -1,31 +1,40 @@
 -- Document 01, The player: its example computed whole, from the pack's bytes to the seven lines; and the same pack without
--- its events, and no pack at all.
+-- its events, and no pack at all. Document 02, E1: a clean pack and its lines, and what is needed of others to tell their
+-- claims from false ones.
 -- Assumes nothing.
 use Prim.Native.Nat.{ℕ}
 use mathlib.Core.Path.{_≡_, refl}
 use mathlib.Core.List.{List, [], _∷_, _++_}
-use lib.ListN.{take, replicate}
+use native.Mathlib.Omega.{arith}
+use lib.ListN.{length, take, drop, replicate}
+use Rattle.clean.specs.Figures.{figuresFor}
+use Rattle.delivery.specs.Clean.{turnIn, reportsIn}
+use Rattle.delivery.specs.Seen.{begunIn, begunAfter}
 use Rattle.frame.specs.Choice.{pick}
 use Rattle.frame.specs.Count.{frameCountOf, incrementOf}
-use Rattle.frame.specs.Frames.{fillTo, blankOf, announcementOf, informationOf, lmAckOf, endOfAckOf}
+use Rattle.frame.specs.Frames.{fillTo, blankOf, announcementOf, informationOf, lmAckOf, lmNackOf, endOfAckOf}
 use Rattle.frame.specs.Reading.{namedOf, allFiller, readOf}
 use Rattle.frame.specs.Result.{accepted, refused}
 use Rattle.line.specs.Ring.{frameAt, framesFrom, framesIn, emptyOf}
 use Rattle.pack.proofs.Examples as pack
 use Rattle.pack.specs.Pack.{laidOut, settingsOf, bodiesIn, messageOf, eventsOf, allEvents, bodiesOf}
 use Rattle.player.specs.Calls.{Progressed, nextEvents, playing, playOf}
-use Rattle.player.specs.Events.{callFor, turnFor, eventsFrom, worldAfter, runFrom}
+use Rattle.player.specs.Claim.{newestFirst}
+use Rattle.player.specs.Clean.{CleanEvents, pastOf, Complete}
+use Rattle.player.specs.Events.{callFor, turnFor, eventsFrom, worldAfter, runFrom, callsFor}
 use Rattle.player.specs.Played.{start, openedWith, openedBodies, openOf, runOf, playedOpened, played}
 use Rattle.player.specs.Text.{framesText, eventText, textOf}
 use Rattle.player.specs.declared.Player.{Player}
 use Rattle.receiver.specs.Hear as receiver-hear
 use Rattle.receiver.specs.Make as receiver-make
+use Rattle.receiver.specs.Tick as receiver-tick
 use Rattle.receiver.specs.Window as receiver-window
 use Rattle.receiver.specs.declared.Phase.the-variants as receiver-at
 use Rattle.sender.specs.Begin as sender-begin
 use Rattle.sender.specs.Hear as sender-hear
 use Rattle.sender.specs.Make as sender-make
 use Rattle.sender.specs.Tick as sender-tick
+use Rattle.sender.specs.Told as sender
 use Rattle.sender.specs.declared.Phase.the-variants.{Idle}
 use Rattle.text.proofs.Examples as text
 use Rattle.text.specs.Text.{digitsIn, decimal, hexGlyph, spaced, hexes, headOf, frameLine, sentLine, deliveredLine, senderReport, receiverReport, refusedText}
@@ -36,24 +45,38 @@ use Rattle.transport.specs.Make.{joined, makeOf}
 use Rattle.transport.specs.Step.{givenForward, givenBack, stepOf}
 use Rattle.transport.specs.World.{begin}
 
--- the example's pack with an empty third body
-abbrev pub silent : List ℕ
-silent = 3 ∷ 13 ∷ 0 ∷ 10 ∷ 0 ∷ 23 ∷ 0 ∷ 9 ∷ 0 ∷ 32 ∷ 0 ∷ 0 ∷ 0 ∷ (pack.settings ++ pack.message)
+-- the example's pack with another M and other events
+abbrev pub packWith : ℕ → List ℕ → List ℕ
+packWith limit events =
+    3 ∷ 13 ∷ 0 ∷ 10 ∷ 0 ∷ 23 ∷ 0 ∷ 9 ∷ 0 ∷ 32 ∷ 0 ∷ length events ∷ 0
+    ∷ 1 ∷ 10 ∷ 0 ∷ limit ∷ 0 ∷ 10 ∷ 0 ∷ 2 ∷ 249 ∷ 6
+    ∷ (pack.message ++ events)
 
--- a player of so many events, as opening the example's pack answers it
-abbrev pub playerOf : ℕ → Player
-playerOf events =
+abbrev pub silent : List ℕ
+silent = packWith 100 []
+
+-- a player of such an M and so many events, as opening the pack answers it
+abbrev pub playerWith : ℕ → ℕ → Player
+playerWith limit events =
     record {
       ends =
           record {
-            sender = record { settings = record { gap = 1; timeout = 10; limit = 100 }; phase = Idle };
+            sender = record { settings = record { gap = 1; timeout = 10; limit = limit }; phase = Idle };
             receiver = record { settings = record { timeout = 10; window = 2; capacity = 1785 }; phase = receiver-at.Idle };
             forward = emptyOf;
             back = emptyOf;
           };
-      bodies = record { settings = pack.bodies .settings; message = 9; events = events };
+      bodies =
+          record {
+            settings = record { gap = 1; timeout = 10; limit = limit; patience = 10; window = 2; capacity = 1785 };
+            message = 9;
+            events = events;
+          };
       played = 0;
     }
+
+abbrev pub playerOf : ℕ → Player
+playerOf events = playerWith 100 events
 
 -- the begin's line
 abbrev pub firstLine : List ℕ
@@ -84,6 +107,32 @@ announced = 1 ∷ 0 ∷ 2 ∷ 9 ∷ 0 ∷ 255 ∷ 255 ∷ 255 ∷ 255 ∷ zeros 
 abbrev pub swapped : Progressed
 swapped = playOf pack.example begunPlayer (zeros 576) announced (zeros 1785) (zeros 16384)
 
+-- ---- clean events: all is heard at once, and the receiver ticks between the sender's ticks
+
+abbrev pub clean : List ℕ
+clean = packWith 100 (3 ∷ 6 ∷ 1 ∷ 3 ∷ 2 ∷ 1 ∷ 3 ∷ 6 ∷ [])
+
+-- the same up to the hearing of frame 1, and up to the sender's second tick
+abbrev pub halfway : List ℕ
+halfway = packWith 100 (3 ∷ 6 ∷ 1 ∷ 3 ∷ [])
+
+abbrev pub unheard : List ℕ
+unheard = packWith 100 (3 ∷ 6 ∷ 1 ∷ 3 ∷ 2 ∷ 1 ∷ [])
+
+-- with M 2, which is N × G
+abbrev pub hasty : List ℕ
+hasty = packWith 2 (3 ∷ 6 ∷ 1 ∷ 3 ∷ 2 ∷ 1 ∷ [])
+
+-- a pack is opened, its events are clean, and this is what the sender reports
+pub record Clean (bytes : List ℕ) (q : Player) (expected : List sender.Outcome) : Type 0 where
+  pub opens : openOf bytes ≡ accepted q
+  pub events : CleanEvents bytes q
+  pub reports : reportsIn (pastOf bytes q .events) ≡ expected
+
+-- 8 S sent 2 3
+abbrev pub lastLine : List ℕ
+lastLine = 56 ∷ 32 ∷ 83 ∷ 32 ∷ 115 ∷ 101 ∷ 110 ∷ 116 ∷ 32 ∷ 50 ∷ 32 ∷ 51 ∷ 10 ∷ []
+
 pub record Computed : Type 0 where
   pub opens : openOf pack.example ≡ accepted (playerOf 7)
   pub prints : played pack.example ≡ text.example
@@ -97,15 +146,22 @@ pub record Computed : Type 0 where
   pub plays-swapped : swapped .played ≡ 7
   pub refuses : openOf [] ≡ refused 12
   pub prints-refused : played [] ≡ refusedText 12
+  pub cleanly : Clean clean (playerOf 8) (sender.sent 2 3 ∷ [])
+  pub completes : Complete clean (playerOf 8)
+  pub prints-clean : drop 166 (played clean) ≡ lastLine
+  pub at-halfway : Clean halfway (playerOf 4) []
+  pub while-unheard : Clean unheard (playerOf 6) []
+  pub in-haste : Clean hasty (playerWith 2 6) (sender.failed 3 2 3 ∷ [])
 
 pub computed : Computed
 unfolding
     pick laidOut settingsOf bodiesIn messageOf eventsOf allEvents bodiesOf
     worldOf framesIn framesFrom frameAt nextEvents playing playOf put worldAfter
     openedWith openedBodies openOf runOf playedOpened played
-    callFor turnFor eventsFrom runFrom framesText eventText textOf
+    newestFirst reportsIn turnIn begunIn begunAfter figuresFor
+    callFor turnFor eventsFrom runFrom callsFor framesText eventText textOf
     capped cappedStep joined makeOf givenForward givenBack stepOf
-    frameCountOf incrementOf fillTo blankOf announcementOf informationOf lmAckOf endOfAckOf namedOf allFiller readOf
+    frameCountOf incrementOf fillTo blankOf announcementOf informationOf lmAckOf lmNackOf endOfAckOf namedOf allFiller readOf
     sender-make.makeOf receiver-make.makeOf
     sender-begin.beginOf sender-begin.beginPhase sender-begin.beginIdle sender-begin.beginLong
     sender-tick.tickOf sender-tick.lentTo sender-tick.tickPhase sender-tick.tickOpening
@@ -115,7 +171,7 @@ unfolding
     receiver-hear.hearOf receiver-hear.hearRead receiver-hear.hearKind
     receiver-hear.hearNumbered receiver-hear.hearAnnouncement receiver-hear.announceIdle
     receiver-hear.hearInformation receiver-hear.informationOpen receiver-hear.stored receiver-hear.storing
-    receiver-window.windowOf
+    receiver-tick.tickOf receiver-tick.tickPhase receiver-tick.tickOpen receiver-window.windowOf
     digitsIn decimal hexGlyph spaced hexes headOf frameLine sentLine deliveredLine senderReport receiverReport refusedText
 computed =
     record {
@@ -129,4 +185,64 @@ computed =
       plays-swapped = refl;
       refuses = refl;
       prints-refused = refl;
+      cleanly =
+          record {
+            opens = refl;
+            events = (
+              λ _. refl,
+              refl,
+              (
+                tt,
+                tt,
+                (
+                  λ _. λ _. refl,
+                  λ _. ((refl, refl), tt),
+                  (
+                    λ _. refl,
+                    refl,
+                    (
+                      tt,
+                      ((refl, refl), tt),
+                      (λ _. λ _. refl, λ _. ((refl, refl), tt), (λ _. refl, refl, (tt, tt, tt))),
+                    ),
+                  ),
+                ),
+              ),
+            );
+            reports = refl;
+          };
+      completes = record { ticks = omega arith; heard = (refl, refl) };
+      prints-clean = refl;
+      at-halfway =
+          record {
+            opens = refl;
+            events = (λ _. refl, refl, (tt, tt, (λ _. λ _. refl, λ _. ((refl, refl), tt), (λ _. refl, refl, tt))));
+            reports = refl;
+          };
+      while-unheard = record { opens = refl; events = (
+              λ _. refl,
+              refl,
+              (
+                tt,
+                tt,
+                (
+                  λ _. λ _. refl,
+                  λ _. ((refl, refl), tt),
+                  (λ _. refl, refl, (tt, ((refl, refl), tt), (λ _. λ _. refl, λ _. ((refl, refl), tt), tt))),
+                ),
+              ),
+            ); reports = refl };
+      in-haste = record { opens = refl; events = (
+              λ _. refl,
+              refl,
+              (
+                tt,
+                tt,
+                (
+                  λ _. λ _. refl,
+                  λ _. ((refl, refl), tt),
+                  (λ _. refl, refl, (tt, ((refl, refl), tt), (λ _. λ _. refl, λ _. ((refl, refl), tt), tt))),
+                ),
+              ),
+            ); reports = refl };
     }

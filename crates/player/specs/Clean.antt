@@ -32,14 +32,18 @@ begunOf bytes q =
     next cappedStep (fresh (q .ends .sender) (q .ends .receiver) (replicate 1785 0))
     (begin (messageOf bytes (q .bodies)))
 
--- E1's conditions, of a pack's settings, message and events
+-- E1's conditions of the calls: those that the events make after the begin are clean
+abbrev pub CleanEvents : List ℕ → Player → Type 0
+CleanEvents bytes q =
+    let p = begunOf bytes q in
+    CleanCalls cappedStep p (callsFor (p .world) (messageOf bytes (q .bodies)) (eventsOf bytes (q .bodies)))
+
+-- and with them those of the settings and the message
 pub record CleanPack (bytes : List ℕ) (q : Player) : Type 0 where
   pub fits :
       (let k = q .bodies .settings in
       Fits (k .gap) (k .timeout) (k .limit) (k .patience) (k .capacity) (messageOf bytes (q .bodies)))
-  pub events :
-      (let p = begunOf bytes q in
-      CleanCalls cappedStep p (callsFor (p .world) (messageOf bytes (q .bodies)) (eventsOf bytes (q .bodies))))
+  pub events : CleanEvents bytes q
 
 -- its figures: N × G and N + 1
 abbrev pub cleanFigures : List ℕ → Player → Figures
