@@ -193,19 +193,23 @@ alone-at : (earlier later : List Event) (e : Event) → AllAlone (earlier ++ (e 
 alone-at [] later e a = a .0
 alone-at (_ ∷ earlier) later e a = alone-at earlier later e (a .1)
 
+pub prints-report : (f : Figures) (bytes : List ℕ) (q : Player) → openOf bytes ≡ accepted q
+    → (r : ReportedOnce (sentWith f) (playing.runOf bytes q))
+    → (let number = length (r .earlier) in
+    played bytes
+    ≡ textOf 0 (r .earlier) ++ (sentLine number (f .ticks) (f .frames) ++ textOf (suc number) (r .later)))
+prints-report f bytes q opens r =
+    let alone = alone-at (r .earlier) (r .later) (r .event) (subst AllAlone (r .parts) (alone-run bytes q)) in
+    text-around bytes q opens (r .earlier) (r .later) (r .event) (r .parts)
+    ∙ rw (report-line f (length (r .earlier)) (r .event) (r .reported) alone) refl
+
 prints-once : (f : Figures) (bytes : List ℕ) (q : Player) → openOf bytes ≡ accepted q
     → reportsIn (pastOf bytes q .events) ≡ sentWith f ∷ []
     → PrintsOnce f bytes q
 unfolding reportsIn
 prints-once f bytes q opens one =
-    let c = cut (sentWith f) [] (playing.runOf bytes q) refl one in
-    let alone = alone-at (c .earlier) (c .later) (c .event) (subst AllAlone (c .parts) (alone-run bytes q)) in
-    record {
-      report = c;
-      printed =
-          text-around bytes q opens (c .earlier) (c .later) (c .event) (c .parts)
-          ∙ rw (report-line f (length (c .earlier)) (c .event) (c .reported) alone) refl;
-    }
+    let r = cut (sentWith f) [] (playing.runOf bytes q) refl one in
+    record { report = r; printed = prints-report f bytes q opens r }
 
 no-or-once : (f : Figures) (bytes : List ℕ) (q : Player) → openOf bytes ≡ accepted q
     → (reports : List sender.Outcome) → reportsIn (pastOf bytes q .events) ≡ reports

@@ -1,6 +1,7 @@
--- Runs of which an edited claim is false, one for each edit of `Prints` and of the calls that it speaks of (claim_*.edit).
+-- Runs of which an edited claim is false, one for each edit of `Prints` and of the calls that it speaks of (claim_*.edit), and
+-- for each edit of what a clean pack prints (clean_*.edit).
 -- Assumes nothing.
-use Prim.Native.Nat.{ℕ, _*_}
+use Prim.Native.Nat.{ℕ, _*_, _<_}
 use mathlib.Core.Path.{_≡_, refl, sym, ap, _∙_}
 use mathlib.Core.Bool.{true, false, _&&_, and-false}
 use mathlib.Core.List.{List, [], _++_, append-nil}
@@ -8,11 +9,15 @@ use native.Mathlib.Omega.{arith}
 use lib.Dec.{eqb, leb}
 use lib.ListN.{length, take, replicate, length-replicate}
 use Rattle.frame.proofs.Choice.{pick-true, pick-false}
+use Rattle.delivery.specs.Clean.{Fits, reportsIn, ticksSince, Empty}
+use Rattle.clean.specs.Figures.{figuresFor}
+use Rattle.frame.specs.Count.{frameCountOf}
+use Rattle.player.specs.Clean.{CleanPack}
 use Rattle.frame.specs.Choice.{pick}
 use Rattle.line.specs.Ring.{framesFrom, framesIn}
 use Rattle.pack.proofs.Examples as pack
 use Rattle.pack.specs.Pack.{messageOf}
-use Rattle.player.proofs.Examples.{silent, playerOf, firstLine, begunPlayer, zeros, announced, swapped, computed}
+use Rattle.player.proofs.Examples.{silent, clean, playerOf, firstLine, begunPlayer, zeros, announced, swapped, computed}
 use Rattle.player.proofs.Runs.{runs-exist}
 use Rattle.player.proofs.Steps.{shown, page-shows, lent-begin}
 use Rattle.player.proofs.Whole.{prints-played}
@@ -154,3 +159,22 @@ pub refusal-on-a-page-of-10 :
     (let p = put (page (replicate 10 0) 0) (refusedText 12) in take (p .place) (p .bytes) ≡ played []) → ⊥
 unfolding put byteAt pick digitsIn decimal spaced refusedText
 refusal-on-a-page-of-10 e = let ten : _≡_ {A = ℕ} 10 11 = ap length (e ∙ computed .prints-refused) in omega arith
+
+-- ---- clean packs
+
+-- nine bytes fit with M above 2
+fits : (limit : ℕ) → 2 < limit → Fits 1 10 limit 10 1785 pack.message
+unfolding figuresFor frameCountOf
+fits limit enough =
+    record {
+      sendersTimeout = omega arith;
+      receiversTimeout = omega arith;
+      sendingTime = enough;
+      space = omega arith;
+      long = omega arith;
+    }
+
+-- the clean pack is one, and the theorem speaks of it
+pub clean-pack : CleanPack clean (playerOf 8)
+unfolding messageOf
+clean-pack = record { fits = fits 100 (omega arith); events = computed .cleanly .events }

@@ -5,10 +5,9 @@
 use Prim.Native.Nat.{ℕ}
 use mathlib.Core.Path.{_≡_, refl}
 use mathlib.Core.List.{List, [], _∷_, _++_}
-use native.Mathlib.Omega.{arith}
 use lib.ListN.{length, take, drop, replicate}
 use Rattle.clean.specs.Figures.{figuresFor}
-use Rattle.delivery.specs.Clean.{turnIn, reportsIn}
+use Rattle.delivery.specs.Clean.{Empty, turnIn, reportsIn, ticksSince}
 use Rattle.delivery.specs.Seen.{begunIn, begunAfter}
 use Rattle.frame.specs.Choice.{pick}
 use Rattle.frame.specs.Count.{frameCountOf, incrementOf}
@@ -20,7 +19,7 @@ use Rattle.pack.proofs.Examples as pack
 use Rattle.pack.specs.Pack.{laidOut, settingsOf, bodiesIn, messageOf, eventsOf, allEvents, bodiesOf}
 use Rattle.player.specs.Calls.{Progressed, nextEvents, playing, playOf}
 use Rattle.player.specs.Claim.{newestFirst}
-use Rattle.player.specs.Clean.{CleanEvents, pastOf, Complete}
+use Rattle.player.specs.Clean.{CleanEvents, pastOf}
 use Rattle.player.specs.Events.{callFor, turnFor, eventsFrom, worldAfter, runFrom, callsFor}
 use Rattle.player.specs.Played.{start, openedWith, openedBodies, openOf, runOf, playedOpened, played}
 use Rattle.player.specs.Text.{framesText, eventText, textOf}
@@ -119,15 +118,16 @@ halfway = packWith 100 (3 ∷ 6 ∷ 1 ∷ 3 ∷ [])
 abbrev pub unheard : List ℕ
 unheard = packWith 100 (3 ∷ 6 ∷ 1 ∷ 3 ∷ 2 ∷ 1 ∷ [])
 
--- with M 2, which is N × G
+-- up to the first, with M 1, which is below N × G
 abbrev pub hasty : List ℕ
-hasty = packWith 2 (3 ∷ 6 ∷ 1 ∷ 3 ∷ 2 ∷ 1 ∷ [])
+hasty = packWith 1 (3 ∷ 6 ∷ 1 ∷ [])
 
--- a pack is opened, its events are clean, and this is what the sender reports
-pub record Clean (bytes : List ℕ) (q : Player) (expected : List sender.Outcome) : Type 0 where
+-- a pack is opened and its events are clean; so often the sender ticks, and this it reports
+pub record Clean (bytes : List ℕ) (q : Player) (ticked : ℕ) (reported : List sender.Outcome) : Type 0 where
   pub opens : openOf bytes ≡ accepted q
   pub events : CleanEvents bytes q
-  pub reports : reportsIn (pastOf bytes q .events) ≡ expected
+  pub ticks : ticksSince (begunIn (pastOf bytes q .events)) ≡ ticked
+  pub reports : reportsIn (runOf bytes q) ≡ reported
 
 -- 8 S sent 2 3
 abbrev pub lastLine : List ℕ
@@ -146,12 +146,15 @@ pub record Computed : Type 0 where
   pub plays-swapped : swapped .played ≡ 7
   pub refuses : openOf [] ≡ refused 12
   pub prints-refused : played [] ≡ refusedText 12
-  pub cleanly : Clean clean (playerOf 8) (sender.sent 2 3 ∷ [])
-  pub completes : Complete clean (playerOf 8)
+  pub cleanly : Clean clean (playerOf 8) 2 (sender.sent 2 3 ∷ [])
+  pub heard : Empty (pastOf clean (playerOf 8) .world)
+  pub nine-events : length (runOf clean (playerOf 8)) ≡ 9
   pub prints-clean : drop 166 (played clean) ≡ lastLine
-  pub at-halfway : Clean halfway (playerOf 4) []
-  pub while-unheard : Clean unheard (playerOf 6) []
-  pub in-haste : Clean hasty (playerWith 2 6) (sender.failed 3 2 3 ∷ [])
+  pub at-halfway : Clean halfway (playerOf 4) 1 []
+  pub heard-halfway : Empty (pastOf halfway (playerOf 4) .world)
+  pub while-unheard : Clean unheard (playerOf 6) 2 []
+  pub none-back : pastOf unheard (playerOf 6) .world .back ≡ []
+  pub in-haste : Clean hasty (playerWith 1 3) 1 (sender.failed 3 1 2 ∷ [])
 
 pub computed : Computed
 unfolding
@@ -209,40 +212,33 @@ computed =
                 ),
               ),
             );
+            ticks = refl;
             reports = refl;
           };
-      completes = record { ticks = omega arith; heard = (refl, refl) };
+      heard = (refl, refl);
+      nine-events = refl;
       prints-clean = refl;
-      at-halfway =
+      at-halfway = record { opens = refl; events = search depth 30; ticks = refl; reports = refl };
+      heard-halfway = (refl, refl);
+      while-unheard =
           record {
             opens = refl;
-            events = (λ _. refl, refl, (tt, tt, (λ _. λ _. refl, λ _. ((refl, refl), tt), (λ _. refl, refl, tt))));
+            events = (
+              λ _. refl,
+              refl,
+              (
+                tt,
+                tt,
+                (
+                  λ _. λ _. refl,
+                  λ _. ((refl, refl), tt),
+                  (λ _. refl, refl, (tt, ((refl, refl), tt), (λ _. λ _. refl, λ _. ((refl, refl), tt), tt))),
+                ),
+              ),
+            );
+            ticks = refl;
             reports = refl;
           };
-      while-unheard = record { opens = refl; events = (
-              λ _. refl,
-              refl,
-              (
-                tt,
-                tt,
-                (
-                  λ _. λ _. refl,
-                  λ _. ((refl, refl), tt),
-                  (λ _. refl, refl, (tt, ((refl, refl), tt), (λ _. λ _. refl, λ _. ((refl, refl), tt), tt))),
-                ),
-              ),
-            ); reports = refl };
-      in-haste = record { opens = refl; events = (
-              λ _. refl,
-              refl,
-              (
-                tt,
-                tt,
-                (
-                  λ _. λ _. refl,
-                  λ _. ((refl, refl), tt),
-                  (λ _. refl, refl, (tt, ((refl, refl), tt), (λ _. λ _. refl, λ _. ((refl, refl), tt), tt))),
-                ),
-              ),
-            ); reports = refl };
+      none-back = refl;
+      in-haste = record { opens = refl; events = search depth 30; ticks = refl; reports = refl };
     }
