@@ -9,3 +9,8 @@ pub mod Lives
 pub mod Theorem
 pub mod Example
 pub mod Runs
+pub mod CleanSends
+pub mod CleanReceives
+pub mod CleanStages
+pub mod CleanSteps
+pub mod Clean
