@@ -10,7 +10,8 @@ use native.Mathlib.Nat.{zero-add}
 use native.Mathlib.Omega.{arith}
 use lib.ListN.{length, replicate, length-append}
 use Rattle.clean.specs.declared.Figures.{Figures}
-use Rattle.delivery.specs.Clean.{CappedClean, CleanPromise, AtMostOnce, notYet, once, sentWith, reportsOf, reportsIn}
+use Rattle.delivery.proofs.Clean.{capped-clean}
+use Rattle.delivery.specs.Clean.{CleanPromise, AtMostOnce, notYet, once, sentWith, reportsOf, reportsIn}
 use Rattle.delivery.specs.Run.{Past, next, runOf}
 use Rattle.frame.specs.Result.{accepted}
 use Rattle.frame.specs.declared.Frame.{Frame}
@@ -37,9 +38,9 @@ use Rattle.transport.specs.World.{World, Call, begin, senderTick, receiverTick,
 
 -- ---- what E1 promises
 
-pub pack-clean : CappedClean → PackClean
+pub pack-clean : PackClean
 unfolding playing.runOf runFrom runOf newestFirst
-pack-clean capped-clean bytes q opens c =
+pack-clean bytes q opens c =
     let k = q .bodies .settings in
     let made = make-answers (k .gap) (k .timeout) (k .limit) (k .patience) (k .window) (k .capacity) (q .ends) (opened bytes q opens .made) in
     let m = messageOf bytes (q .bodies) in
@@ -220,10 +221,10 @@ no-or-once f bytes q opens _ e notYet =
     inl (no-reports _ (omega (arith, count-reports [] (playing.runOf bytes q), ap length e)))
 no-or-once f bytes q opens _ e once = inr (prints-once f bytes q opens e)
 
-pub prints-clean : CappedClean → PrintsClean
-prints-clean capped-clean bytes q opens c =
+pub prints-clean : PrintsClean
+prints-clean bytes q opens c =
     let f = cleanFigures bytes q in
-    let p = pack-clean capped-clean bytes q opens c in (
+    let p = pack-clean bytes q opens c in (
       no-or-once f bytes q opens _ refl (p .one),
       λ done. prints-once f bytes q opens (p .there (done .ticks) (done .heard)),
     )
