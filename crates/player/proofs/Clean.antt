@@ -1,18 +1,17 @@
--- A pack's clean events are clean calls behind its begin, so what E1 promises holds of its run. The run is cut where the sender
--- reports; a call in which it says sent emits nothing, so the report's line is all that is printed there.
+-- A pack's clean events are clean calls after its begin, so what E1 promises holds of its run. A call in which the sender says
+-- sent emits nothing, so the report's line is all that is printed of it; the run is cut there.
 -- Assumes nothing.
-use Prim.Native.Nat.{ℕ, zero, suc, _+_}
-use mathlib.Core.Bool.{true, false}
+use Prim.Native.Nat.{ℕ, suc}
 use mathlib.Core.List.{List, [], _∷_, _++_, append-nil}
 use mathlib.Core.Logic.{_⊎_, inl, inr, ⊎-elim}
-use mathlib.Core.Path.{_≡_, refl, sym, ap, subst, _∙_}
+use mathlib.Core.Path.{_≡_, refl, ap, subst, _∙_}
 use native.Mathlib.Nat.{zero-add}
 use native.Mathlib.Omega.{arith}
-use lib.ListN.{length, replicate, length-append}
+use lib.ListN.{length, replicate}
 use Rattle.clean.specs.declared.Figures.{Figures}
 use Rattle.delivery.proofs.Clean.{capped-clean}
 use Rattle.delivery.specs.Clean.{CleanPromise, AtMostOnce, notYet, once, sentWith, reportsOf, reportsIn}
-use Rattle.delivery.specs.Run.{Past, next, runOf}
+use Rattle.delivery.specs.Run.{runOf}
 use Rattle.frame.specs.Result.{accepted}
 use Rattle.frame.specs.declared.Frame.{Frame}
 use Rattle.pack.specs.Pack.{messageOf, eventsOf}
@@ -20,11 +19,11 @@ use Rattle.player.proofs.Keeps.{same-run}
 use Rattle.player.proofs.Opened.{opened}
 use Rattle.player.proofs.Steps.{text-parts}
 use Rattle.player.specs.Claim.{newestFirst}
-use Rattle.player.specs.Clean.{begunOf, cleanFigures, pastOf, PackClean, ReportedOnce, PrintsOnce, PrintsClean}
+use Rattle.player.specs.Clean.{begunOf, cleanFigures, pastOf, PackClean, ReportedOnce, textAround, PrintsOnce, PrintsClean}
 use Rattle.player.specs.Events.{callFor, turnFor, eventsFrom, runFrom, callsFor}
 use Rattle.player.specs.Played as playing
 use Rattle.player.specs.Played.{openOf, playedOpened, played, start}
-use Rattle.player.specs.Text.{framesText, eventText, textOf, letterOf}
+use Rattle.player.specs.Text.{framesText, eventText, textOf}
 use Rattle.player.specs.declared.Player.{Player}
 use Rattle.receiver.specs.Told as receiver
 use Rattle.sender.specs.Told as sender
@@ -33,7 +32,7 @@ use Rattle.text.specs.Text.{sentLine, senderReport, receiverReport}
 use Rattle.transport.proofs.Forms.{Forms, begin-tells, tick-tells, hear-tells}
 use Rattle.transport.proofs.Making.{make-answers}
 use Rattle.transport.specs.Capped.{cappedStep}
-use Rattle.transport.specs.Step.{emission, bySender, Rest, givenForward, givenBack, stepOf}
+use Rattle.transport.specs.Step.{emission, Rest, givenForward, givenBack, stepOf}
 use Rattle.transport.specs.World.{World, Call, begin, senderTick, receiverTick, hearForward, repeatForward, loseForward, hearBack, repeatBack, loseBack, Event}
 
 -- ---- what E1 promises
@@ -101,11 +100,13 @@ report-line f number e s alone =
     let a = alone (f .ticks) (f .frames) s in
     rw (a .0, a .1, s) (append-nil _)
 
--- ---- the run, cut at the report
-
 abbrev AllAlone : List Event → Type 0
 AllAlone [] = Unit
 AllAlone (e ∷ es) = AloneEvent e × AllAlone es
+
+alone-at : (earlier later : List Event) (e : Event) → AllAlone (earlier ++ (e ∷ later)) → AloneEvent e
+alone-at [] later e a = a .0
+alone-at (_ ∷ earlier) later e a = alone-at earlier later e (a .1)
 
 alone-events : (w : World) (m events : List ℕ) → AllAlone (eventsFrom w m events)
 unfolding eventsFrom turnFor
@@ -120,57 +121,74 @@ unfolding playing.runOf runFrom
 alone-run bytes q =
     (alone-call (start (q .ends)) (begin (messageOf bytes (q .bodies))), alone-events _ _ (eventsOf bytes (q .bodies)))
 
+text-cut : (bytes : List ℕ) (q : Player) → openOf bytes ≡ accepted q → (earlier later : List Event) (e : Event)
+    → playing.runOf bytes q ≡ earlier ++ (e ∷ later)
+    → played bytes ≡ textOf 0 earlier ++ (eventText (length earlier) e ++ textOf (suc (length earlier)) later)
+unfolding played playedOpened textOf
+text-cut bytes q opens earlier later e parts =
+    rw (opens, parts) (text-parts 0 earlier (e ∷ later) ∙ rw zero-add refl)
+
+-- so where the sender reports once, and sent, its line is printed
+pub prints-report : (f : Figures) (bytes : List ℕ) (q : Player) → openOf bytes ≡ accepted q
+    → (r : ReportedOnce (sentWith f) (playing.runOf bytes q))
+    → played bytes ≡ textAround f r
+prints-report f bytes q opens r =
+    let alone = alone-at (r .earlier) (r .later) (r .event) (subst AllAlone (r .parts) (alone-run bytes q)) in
+    text-cut bytes q opens (r .earlier) (r .later) (r .event) (r .parts)
+    ∙ rw (report-line f (length (r .earlier)) (r .event) (r .reported) alone) refl
+
+-- ---- the run, cut at the report
+
 -- an event has no report, or its own
-one-report : (o : sender.Outcome) → (reportsOf o ≡ []) ⊎ (reportsOf o ≡ o ∷ [])
-one-report sender.quiet = inl refl
-one-report (sender.refused number) = inl refl
-one-report (sender.sent ticks frames) = inr refl
-one-report (sender.failed cause ticks frames) = inr refl
-
--- newest first or last, there are as many
-count-reports : (past run : List Event)
-    → length (reportsIn (newestFirst past run)) ≡ length (reportsIn run) + length (reportsIn past)
-unfolding newestFirst reportsIn
-count-reports past [] = omega arith
-count-reports past (e ∷ run) = count-reports (e ∷ past) run ∙ simp length-append (omega arith)
-
-no-reports : (l : List sender.Outcome) → length l ≡ 0 → l ≡ []
-no-reports [] e = refl
-no-reports (o ∷ l) e = absurd (omega arith)
+own-report : (o : sender.Outcome) → (reportsOf o ≡ []) ⊎ (reportsOf o ≡ o ∷ [])
+own-report sender.quiet = inl refl
+own-report (sender.refused number) = inl refl
+own-report (sender.sent ticks frames) = inr refl
+own-report (sender.failed cause ticks frames) = inr refl
 
 both-none : (k l : List sender.Outcome) → k ++ l ≡ [] → (k ≡ []) × (l ≡ [])
 both-none [] l e = (refl, e)
 both-none (o ∷ k) l e = (cc, cc)
 
--- where a run has no report, those before it are all
-same-reports : (past run : List Event) → reportsIn run ≡ [] → reportsIn (newestFirst past run) ≡ reportsIn past
+-- no report: none before the run and none in it
+none-in : (past run : List Event) → reportsIn (newestFirst past run) ≡ [] → (reportsIn past ≡ []) × (reportsIn run ≡ [])
 unfolding newestFirst reportsIn
-same-reports past [] none = refl
-same-reports past (e ∷ run) none =
-    let n = both-none (reportsOf (e .sender)) (reportsIn run) none in
-    same-reports (e ∷ past) run (n .1) ∙ rw (n .0) refl
+none-in past [] none = (none, refl)
+none-in past (e ∷ run) none =
+    let n = none-in (e ∷ past) run none in
+    let k = both-none (reportsOf (e .sender)) (reportsIn past) (n .0) in
+    (k .1, rw (k .0, n .1) refl)
 
-cut : (o : sender.Outcome) (past run : List Event) → reportsIn past ≡ [] → reportsIn (newestFirst past run) ≡ o ∷ []
-    → ReportedOnce o run
-unfolding newestFirst reportsIn
-cut o past [] none one = let z : _≡_ {A = ℕ} 0 1 = cc in absurd (omega arith)
-cut o past (e ∷ run) none one =
-    ⊎-elim
-    (λ no.
-    let c = cut o (e ∷ past) run (rw no none) one in
+-- one report: in the run, or before it
+abbrev OneIn : sender.Outcome → List Event → List Event → Type 0
+OneIn o past run = ((reportsIn past ≡ []) × ReportedOnce o run) ⊎ ((reportsIn past ≡ o ∷ []) × (reportsIn run ≡ []))
+
+one-later : (o : sender.Outcome) (e : Event) (past run : List Event) → reportsIn (e ∷ past) ≡ [] → ReportedOnce o run
+    → OneIn o past (e ∷ run)
+unfolding reportsIn
+one-later o e past run none r =
+    let k = both-none (reportsOf (e .sender)) (reportsIn past) none in
+    inl
+    (k .1,
     record {
-      earlier = e ∷ c .earlier;
-      event = c .event;
-      later = c .later;
-      parts = ap (λ (l : List Event). e ∷ l) (c .parts);
-      reported = c .reported;
-      noneEarlier = rw no (c .noneEarlier);
-      noneLater = c .noneLater;
+      earlier = e ∷ r .earlier;
+      event = r .event;
+      later = r .later;
+      parts = ap (λ (l : List Event). e ∷ l) (r .parts);
+      reported = r .reported;
+      noneEarlier = rw (k .0) (r .noneEarlier);
+      noneLater = r .noneLater;
     })
-    (λ yes.
-    let mine : reportsIn (e ∷ past) ≡ e .sender ∷ [] = rw none (append-nil _ ∙ yes) in
-    let only : reportsIn run ≡ [] = no-reports (reportsIn run) (omega (arith, count-reports (e ∷ past) run, ap length one, ap length mine)) in
-    let its : e .sender ∷ [] ≡ o ∷ [] = sym mine ∙ sym (same-reports (e ∷ past) run only) ∙ one in
+
+one-now : (o : sender.Outcome) (e : Event) (past run : List Event) → reportsIn (e ∷ past) ≡ o ∷ [] → reportsIn run ≡ []
+    → OneIn o past (e ∷ run)
+unfolding reportsIn
+one-now o e past run one none =
+    ⊎-elim (λ no. inr (rw no at one, rw none (append-nil _ ∙ no)))
+    (λ its.
+    let here : e .sender ∷ reportsIn past ≡ o ∷ [] = rw its at one in
+    inl
+    (cc,
     record {
       earlier = [];
       event = e;
@@ -178,53 +196,42 @@ cut o past (e ∷ run) none one =
       parts = refl;
       reported = cc;
       noneEarlier = refl;
-      noneLater = only;
-    })
-    (one-report (e .sender))
+      noneLater = none;
+    }))
+    (own-report (e .sender))
 
--- what is printed of the parts
-text-around : (bytes : List ℕ) (q : Player) → openOf bytes ≡ accepted q → (earlier later : List Event) (e : Event)
-    → playing.runOf bytes q ≡ earlier ++ (e ∷ later)
-    → played bytes ≡ textOf 0 earlier ++ (eventText (length earlier) e ++ textOf (suc (length earlier)) later)
-unfolding played playedOpened textOf
-text-around bytes q opens earlier later e parts =
-    rw (opens, parts) (text-parts 0 earlier (e ∷ later) ∙ rw zero-add refl)
+one-in : (o : sender.Outcome) (past run : List Event) → reportsIn (newestFirst past run) ≡ o ∷ [] → OneIn o past run
+unfolding newestFirst reportsIn
+one-in o past [] one = inr (one, refl)
+one-in o past (e ∷ run) one =
+    ⊎-elim (λ k. one-later o e past run (k .0) (k .1)) (λ k. one-now o e past run (k .0) (k .1))
+    (one-in o (e ∷ past) run one)
 
-alone-at : (earlier later : List Event) (e : Event) → AllAlone (earlier ++ (e ∷ later)) → AloneEvent e
-alone-at [] later e a = a .0
-alone-at (_ ∷ earlier) later e a = alone-at earlier later e (a .1)
+cut : (o : sender.Outcome) (run : List Event) → reportsIn (newestFirst [] run) ≡ o ∷ [] → ReportedOnce o run
+unfolding reportsIn
+cut o run one =
+    ⊎-elim (λ k. k .1) (λ k. let e = k .0 in let z : _≡_ {A = ℕ} 0 1 = cc in absurd (omega arith)) (one-in o [] run one)
 
-pub prints-report : (f : Figures) (bytes : List ℕ) (q : Player) → openOf bytes ≡ accepted q
-    → (r : ReportedOnce (sentWith f) (playing.runOf bytes q))
-    → (let number = length (r .earlier) in
-    played bytes
-    ≡ textOf 0 (r .earlier) ++ (sentLine number (f .ticks) (f .frames) ++ textOf (suc number) (r .later)))
-prints-report f bytes q opens r =
-    let alone = alone-at (r .earlier) (r .later) (r .event) (subst AllAlone (r .parts) (alone-run bytes q)) in
-    text-around bytes q opens (r .earlier) (r .later) (r .event) (r .parts)
-    ∙ rw (report-line f (length (r .earlier)) (r .event) (r .reported) alone) refl
+-- ---- what is printed
 
 prints-once : (f : Figures) (bytes : List ℕ) (q : Player) → openOf bytes ≡ accepted q
     → reportsIn (pastOf bytes q .events) ≡ sentWith f ∷ []
     → PrintsOnce f bytes q
-unfolding reportsIn
 prints-once f bytes q opens one =
-    let r = cut (sentWith f) [] (playing.runOf bytes q) refl one in
+    let r = cut (sentWith f) (playing.runOf bytes q) one in
     record { report = r; printed = prints-report f bytes q opens r }
 
-no-or-once : (f : Figures) (bytes : List ℕ) (q : Player) → openOf bytes ≡ accepted q
+none-or-once : (f : Figures) (bytes : List ℕ) (q : Player) → openOf bytes ≡ accepted q
     → (reports : List sender.Outcome) → reportsIn (pastOf bytes q .events) ≡ reports
     → AtMostOnce (sentWith f) reports
     → (reportsIn (playing.runOf bytes q) ≡ []) ⊎ PrintsOnce f bytes q
-unfolding reportsIn
-no-or-once f bytes q opens _ e notYet =
-    inl (no-reports _ (omega (arith, count-reports [] (playing.runOf bytes q), ap length e)))
-no-or-once f bytes q opens _ e once = inr (prints-once f bytes q opens e)
+none-or-once f bytes q opens _ e notYet = inl (none-in [] (playing.runOf bytes q) e .1)
+none-or-once f bytes q opens _ e once = inr (prints-once f bytes q opens e)
 
 pub prints-clean : PrintsClean
 prints-clean bytes q opens c =
     let f = cleanFigures bytes q in
     let p = pack-clean bytes q opens c in (
-      no-or-once f bytes q opens _ refl (p .one),
+      none-or-once f bytes q opens _ refl (p .one),
       λ done. prints-once f bytes q opens (p .there (done .ticks) (done .heard)),
     )

@@ -78,15 +78,16 @@ pub record ReportedOnce (report : sender.Outcome) (run : List Event) : Type 0 wh
   pub noneEarlier : reportsIn earlier ≡ []
   pub noneLater : reportsIn later ≡ []
 
--- Of that event the line `number S sent ticks frames` is printed and nothing else. As many events stand before it as its
--- number says, the begin being number 0.
+-- what is printed of such a run: of that event its line `number S sent ticks frames` and nothing else. As many events stand
+-- before it as its number says, since the begin is number 0
+abbrev pub textAround : (f : Figures) {run : List Event} → ReportedOnce (sentWith f) run → List ℕ
+textAround f r =
+    let number = length (r .earlier) in
+    textOf 0 (r .earlier) ++ (sentLine number (f .ticks) (f .frames) ++ textOf (suc number) (r .later))
+
 pub record PrintsOnce (f : Figures) (bytes : List ℕ) (q : Player) : Type 0 where
   pub report : ReportedOnce (sentWith f) (runOf bytes q)
-  pub printed :
-      (let number = length (report .earlier) in
-      played bytes
-      ≡ textOf 0 (report .earlier)
-      ++ (sentLine number (f .ticks) (f .frames) ++ textOf (suc number) (report .later)))
+  pub printed : played bytes ≡ textAround f report
 
 -- the sender's N × G ticks are over, and no frame is on its way
 pub record Complete (bytes : List ℕ) (q : Player) : Type 0 where
