@@ -168,17 +168,18 @@ one-later : (o : sender.Outcome) (e : Event) (past run : List Event) → reports
 unfolding reportsIn
 one-later o e past run none r =
     let k = both-none (reportsOf (e .sender)) (reportsIn past) none in
-    inl
-    (k .1,
-    record {
-      earlier = e ∷ r .earlier;
-      event = r .event;
-      later = r .later;
-      parts = ap (λ (l : List Event). e ∷ l) (r .parts);
-      reported = r .reported;
-      noneEarlier = rw (k .0) (r .noneEarlier);
-      noneLater = r .noneLater;
-    })
+    inl (
+      k .1,
+      record {
+        earlier = e ∷ r .earlier;
+        event = r .event;
+        later = r .later;
+        parts = ap (λ (l : List Event). e ∷ l) (r .parts);
+        reported = r .reported;
+        noneEarlier = rw (k .0) (r .noneEarlier);
+        noneLater = r .noneLater;
+      },
+    )
 
 one-now : (o : sender.Outcome) (e : Event) (past run : List Event) → reportsIn (e ∷ past) ≡ o ∷ [] → reportsIn run ≡ []
     → OneIn o past (e ∷ run)
@@ -187,17 +188,18 @@ one-now o e past run one none =
     ⊎-elim (λ no. inr (rw no at one, rw none (append-nil _ ∙ no)))
     (λ its.
     let here : e .sender ∷ reportsIn past ≡ o ∷ [] = rw its at one in
-    inl
-    (cc,
-    record {
-      earlier = [];
-      event = e;
-      later = run;
-      parts = refl;
-      reported = cc;
-      noneEarlier = refl;
-      noneLater = none;
-    }))
+    inl (
+      cc,
+      record {
+        earlier = [];
+        event = e;
+        later = run;
+        parts = refl;
+        reported = cc;
+        noneEarlier = refl;
+        noneLater = none;
+      },
+    ))
     (own-report (e .sender))
 
 one-in : (o : sender.Outcome) (past run : List Event) → reportsIn (newestFirst past run) ≡ o ∷ [] → OneIn o past run

@@ -21,7 +21,7 @@ use Rattle.line.specs.Ring.{framesFrom, framesIn}
 use Rattle.pack.proofs.Examples as pack
 use Rattle.pack.specs.Pack.{messageOf}
 use Rattle.player.proofs.Clean.{prints-report}
-use Rattle.player.proofs.Examples.{silent, clean, halfway, unheard, hasty, playerWith, playerOf, firstLine, begunPlayer, zeros, announced, swapped, computed}
+use Rattle.player.proofs.Examples.{silent, clean, halfway, unheard, hasty, hastyPlayer, playerOf, firstLine, begunPlayer, zeros, announced, swapped, computed, fits-above-2}
 use Rattle.player.proofs.Runs.{runs-exist}
 use Rattle.player.proofs.Steps.{shown, page-shows, lent-begin}
 use Rattle.player.proofs.Whole.{prints-played}
@@ -168,18 +168,6 @@ refusal-on-a-page-of-10 e = let ten : _≡_ {A = ℕ} 10 11 = ap length (e ∙ c
 
 -- ---- clean packs
 
--- nine bytes fit with M above 2
-fits : (limit : ℕ) → 2 < limit → Fits 1 10 limit 10 1785 pack.message
-unfolding figuresFor frameCountOf
-fits limit enough =
-    record {
-      sendersTimeout = omega arith;
-      receiversTimeout = omega arith;
-      sendingTime = enough;
-      space = omega arith;
-      long = omega arith;
-    }
-
 -- where a report is printed once, it is all that the sender reports
 reports-parts : (es fs : List Event) → reportsIn (es ++ fs) ≡ reportsIn es ++ reportsIn fs
 unfolding reportsIn
@@ -201,10 +189,6 @@ not-printed : {bytes : List ℕ} {q : Player} (f : Figures) → reportsIn (runOf
 not-printed f nothing p = let its = its-reports f p in let z : _≡_ {A = ℕ} 0 1 = cc in omega arith
 
 -- clean_figures_of_the_window: the clean pack would report sent 4 3, or nothing
-pub clean-pack : CleanPack clean (playerOf 8)
-unfolding messageOf
-clean-pack = record { fits = fits 100 (omega arith); events = computed .cleanly .events }
-
 pub figures-of-the-window :
     ((reportsIn (runOf clean (playerOf 8)) ≡ []) ⊎ PrintsOnce (figuresFor 9 2) clean (playerOf 8)) → ⊥
 unfolding figuresFor frameCountOf
@@ -237,11 +221,11 @@ number-of-the-next-event r e =
 -- clean_sending_time_of_the_capacity: with M 1 the sender fails at its first tick
 pub sending-time-of-the-capacity :
     Fits 1 10 1785 10 1785 pack.message
-    × CleanEvents hasty (playerWith 1 3)
-    × (((reportsIn (runOf hasty (playerWith 1 3)) ≡ []) ⊎ PrintsOnce (figuresFor 9 1) hasty (playerWith 1 3)) → ⊥)
+    × CleanEvents hasty hastyPlayer
+    × (((reportsIn (runOf hasty hastyPlayer) ≡ []) ⊎ PrintsOnce (figuresFor 9 1) hasty hastyPlayer) → ⊥)
 sending-time-of-the-capacity =
     let real = computed .in-haste .reports in (
-      fits 1785 (omega arith),
+      fits-above-2 1785 (omega arith),
       computed .in-haste .events,
       ⊎-elim (λ nothing. let z : _≡_ {A = ℕ} 0 1 = cc in omega arith)
           (λ p. let its = its-reports (figuresFor 9 1) p in let z : _≡_ {A = ℕ} 0 1 = cc in omega arith),
@@ -249,20 +233,30 @@ sending-time-of-the-capacity =
 
 -- clean_complete_a_tick_early: one tick is over, all is heard, and nothing is reported
 pub complete-a-tick-early :
-    (cleanFigures halfway (playerOf 4) .ticks ≤ suc (ticksSince (begunIn (pastOf halfway (playerOf 4) .events))))
+    CleanPack halfway (playerOf 4)
+    × (cleanFigures halfway (playerOf 4) .ticks ≤ suc (ticksSince (begunIn (pastOf halfway (playerOf 4) .events))))
     × Empty (pastOf halfway (playerOf 4) .world)
     × (PrintsOnce (figuresFor 9 1) halfway (playerOf 4) → ⊥)
 unfolding figuresFor frameCountOf messageOf
 complete-a-tick-early =
-    let k = computed .at-halfway in
-    (omega (arith, k .ticks), computed .heard-halfway, not-printed (figuresFor 9 1) (k .reports))
+    let k = computed .at-halfway in (
+      record { fits = fits-above-2 100 (omega arith); events = k .events },
+      omega (arith, k .ticks),
+      computed .heard-halfway,
+      not-printed (figuresFor 9 1) (k .reports),
+    )
 
 -- clean_complete_with_a_frame_unheard: both ticks are over, and the last frame is on forward
 pub complete-with-a-frame-unheard :
-    (cleanFigures unheard (playerOf 6) .ticks ≤ ticksSince (begunIn (pastOf unheard (playerOf 6) .events)))
+    CleanPack unheard (playerOf 6)
+    × (cleanFigures unheard (playerOf 6) .ticks ≤ ticksSince (begunIn (pastOf unheard (playerOf 6) .events)))
     × (pastOf unheard (playerOf 6) .world .back ≡ [])
     × (PrintsOnce (figuresFor 9 1) unheard (playerOf 6) → ⊥)
 unfolding figuresFor frameCountOf messageOf
 complete-with-a-frame-unheard =
-    let k = computed .while-unheard in
-    (omega (arith, k .ticks), computed .none-back, not-printed (figuresFor 9 1) (k .reports))
+    let k = computed .while-unheard in (
+      record { fits = fits-above-2 100 (omega arith); events = k .events },
+      omega (arith, k .ticks),
+      computed .none-back,
+      not-printed (figuresFor 9 1) (k .reports),
+    )

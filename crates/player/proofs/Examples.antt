@@ -1,13 +1,13 @@
 -- Document 01, The player: its example computed whole, from the pack's bytes to the seven lines; and the same pack without
--- its events, and no pack at all. Document 02, E1: a clean pack and its lines, and what is needed of others to tell their
--- claims from false ones.
+-- its events, and no pack at all. Document 02, E1: a clean pack and its last line, and packs that tell E1 from false claims.
 -- Assumes nothing.
-use Prim.Native.Nat.{ℕ}
+use Prim.Native.Nat.{ℕ, _<_}
 use mathlib.Core.Path.{_≡_, refl}
 use mathlib.Core.List.{List, [], _∷_, _++_}
+use native.Mathlib.Omega.{arith}
 use lib.ListN.{length, take, drop, replicate}
 use Rattle.clean.specs.Figures.{figuresFor}
-use Rattle.delivery.specs.Clean.{Empty, turnIn, reportsIn, ticksSince}
+use Rattle.delivery.specs.Clean.{Empty, Fits, turnIn, reportsIn, ticksSince}
 use Rattle.delivery.specs.Seen.{begunIn, begunAfter}
 use Rattle.frame.specs.Choice.{pick}
 use Rattle.frame.specs.Count.{frameCountOf, incrementOf}
@@ -17,9 +17,11 @@ use Rattle.frame.specs.Result.{accepted, refused}
 use Rattle.line.specs.Ring.{frameAt, framesFrom, framesIn, emptyOf}
 use Rattle.pack.proofs.Examples as pack
 use Rattle.pack.specs.Pack.{laidOut, settingsOf, bodiesIn, messageOf, eventsOf, allEvents, bodiesOf}
+use Rattle.pack.specs.declared.Settings.{Settings}
+use Rattle.player.proofs.Clean.{prints-clean}
 use Rattle.player.specs.Calls.{Progressed, nextEvents, playing, playOf}
 use Rattle.player.specs.Claim.{newestFirst}
-use Rattle.player.specs.Clean.{CleanEvents, pastOf}
+use Rattle.player.specs.Clean.{CleanEvents, CleanPack, pastOf, PrintsOnce, Complete}
 use Rattle.player.specs.Events.{callFor, turnFor, eventsFrom, worldAfter, runFrom, callsFor}
 use Rattle.player.specs.Played.{start, openedWith, openedBodies, openOf, runOf, playedOpened, played}
 use Rattle.player.specs.Text.{framesText, eventText, textOf}
@@ -44,38 +46,35 @@ use Rattle.transport.specs.Make.{joined, makeOf}
 use Rattle.transport.specs.Step.{givenForward, givenBack, stepOf}
 use Rattle.transport.specs.World.{begin}
 
--- the example's pack with another M and other events
-abbrev pub packWith : ℕ → List ℕ → List ℕ
-packWith limit events =
-    3 ∷ 13 ∷ 0 ∷ 10 ∷ 0 ∷ 23 ∷ 0 ∷ 9 ∷ 0 ∷ 32 ∷ 0 ∷ length events ∷ 0
-    ∷ 1 ∷ 10 ∷ 0 ∷ limit ∷ 0 ∷ 10 ∷ 0 ∷ 2 ∷ 249 ∷ 6
-    ∷ (pack.message ++ events)
+-- the example's pack with these settings and events
+abbrev pub packWith : List ℕ → List ℕ → List ℕ
+packWith settings events =
+    3 ∷ 13 ∷ 0 ∷ 10 ∷ 0 ∷ 23 ∷ 0 ∷ 9 ∷ 0 ∷ 32 ∷ 0 ∷ length events ∷ 0 ∷ (settings ++ (pack.message ++ events))
 
 abbrev pub silent : List ℕ
-silent = packWith 100 []
+silent = packWith pack.settings []
 
--- a player of such an M and so many events, as opening the pack answers it
-abbrev pub playerWith : ℕ → ℕ → Player
-playerWith limit events =
+-- a player of these settings and so many events, as opening such a pack answers it
+abbrev pub playerWith : Settings → ℕ → Player
+playerWith k events =
     record {
       ends =
           record {
-            sender = record { settings = record { gap = 1; timeout = 10; limit = limit }; phase = Idle };
-            receiver = record { settings = record { timeout = 10; window = 2; capacity = 1785 }; phase = receiver-at.Idle };
+            sender = record { settings = record { gap = k .gap; timeout = k .timeout; limit = k .limit }; phase = Idle };
+            receiver =
+                record {
+                  settings = record { timeout = k .patience; window = k .window; capacity = k .capacity };
+                  phase = receiver-at.Idle;
+                };
             forward = emptyOf;
             back = emptyOf;
           };
-      bodies =
-          record {
-            settings = record { gap = 1; timeout = 10; limit = limit; patience = 10; window = 2; capacity = 1785 };
-            message = 9;
-            events = events;
-          };
+      bodies = record { settings = k; message = 9; events = events };
       played = 0;
     }
 
 abbrev pub playerOf : ℕ → Player
-playerOf events = playerWith 100 events
+playerOf events = playerWith (pack.bodies .settings) events
 
 -- the begin's line
 abbrev pub firstLine : List ℕ
@@ -109,21 +108,24 @@ swapped = playOf pack.example begunPlayer (zeros 576) announced (zeros 1785) (ze
 -- ---- clean events: all is heard at once, and the receiver ticks between the sender's ticks
 
 abbrev pub clean : List ℕ
-clean = packWith 100 (3 ∷ 6 ∷ 1 ∷ 3 ∷ 2 ∷ 1 ∷ 3 ∷ 6 ∷ [])
+clean = packWith pack.settings (3 ∷ 6 ∷ 1 ∷ 3 ∷ 2 ∷ 1 ∷ 3 ∷ 6 ∷ [])
 
 -- the same up to the hearing of frame 1, and up to the sender's second tick
 abbrev pub halfway : List ℕ
-halfway = packWith 100 (3 ∷ 6 ∷ 1 ∷ 3 ∷ [])
+halfway = packWith pack.settings (3 ∷ 6 ∷ 1 ∷ 3 ∷ [])
 
 abbrev pub unheard : List ℕ
-unheard = packWith 100 (3 ∷ 6 ∷ 1 ∷ 3 ∷ 2 ∷ 1 ∷ [])
+unheard = packWith pack.settings (3 ∷ 6 ∷ 1 ∷ 3 ∷ 2 ∷ 1 ∷ [])
 
 -- up to the first, with M 1, which is below N × G
 abbrev pub hasty : List ℕ
-hasty = packWith 1 (3 ∷ 6 ∷ 1 ∷ [])
+hasty = packWith (1 ∷ 10 ∷ 0 ∷ 1 ∷ 0 ∷ 10 ∷ 0 ∷ 2 ∷ 249 ∷ 6 ∷ []) (3 ∷ 6 ∷ 1 ∷ [])
+
+abbrev pub hastyPlayer : Player
+hastyPlayer = playerWith (record { gap = 1; timeout = 10; limit = 1; patience = 10; window = 2; capacity = 1785 }) 3
 
 -- a pack is opened and its events are clean; so often the sender ticks, and this it reports
-pub record Clean (bytes : List ℕ) (q : Player) (ticked : ℕ) (reported : List sender.Outcome) : Type 0 where
+pub record CleanRun (bytes : List ℕ) (q : Player) (ticked : ℕ) (reported : List sender.Outcome) : Type 0 where
   pub opens : openOf bytes ≡ accepted q
   pub events : CleanEvents bytes q
   pub ticks : ticksSince (begunIn (pastOf bytes q .events)) ≡ ticked
@@ -146,15 +148,15 @@ pub record Computed : Type 0 where
   pub plays-swapped : swapped .played ≡ 7
   pub refuses : openOf [] ≡ refused 12
   pub prints-refused : played [] ≡ refusedText 12
-  pub cleanly : Clean clean (playerOf 8) 2 (sender.sent 2 3 ∷ [])
+  pub cleanly : CleanRun clean (playerOf 8) 2 (sender.sent 2 3 ∷ [])
   pub heard : Empty (pastOf clean (playerOf 8) .world)
   pub nine-events : length (runOf clean (playerOf 8)) ≡ 9
   pub prints-clean : drop 166 (played clean) ≡ lastLine
-  pub at-halfway : Clean halfway (playerOf 4) 1 []
+  pub at-halfway : CleanRun halfway (playerOf 4) 1 []
   pub heard-halfway : Empty (pastOf halfway (playerOf 4) .world)
-  pub while-unheard : Clean unheard (playerOf 6) 2 []
+  pub while-unheard : CleanRun unheard (playerOf 6) 2 []
   pub none-back : pastOf unheard (playerOf 6) .world .back ≡ []
-  pub in-haste : Clean hasty (playerWith 1 3) 1 (sender.failed 3 1 2 ∷ [])
+  pub in-haste : CleanRun hasty hastyPlayer 1 (sender.failed 3 1 2 ∷ [])
 
 pub computed : Computed
 unfolding
@@ -242,3 +244,28 @@ computed =
       none-back = refl;
       in-haste = record { opens = refl; events = search depth 30; ticks = refl; reports = refl };
     }
+
+-- nine bytes fit with every M above 2
+pub fits-above-2 : (limit : ℕ) → 2 < limit → Fits 1 10 limit 10 1785 pack.message
+unfolding figuresFor frameCountOf
+fits-above-2 limit enough =
+    record {
+      sendersTimeout = omega arith;
+      receiversTimeout = omega arith;
+      sendingTime = enough;
+      space = omega arith;
+      long = omega arith;
+    }
+
+-- so the theorem speaks of the clean pack, and of its line 8 S sent 2 3
+pub clean-pack : CleanPack clean (playerOf 8)
+unfolding messageOf
+clean-pack = record { fits = fits-above-2 100 (omega arith); events = computed .cleanly .events }
+
+pub clean-complete : Complete clean (playerOf 8)
+unfolding figuresFor frameCountOf messageOf
+clean-complete = record { ticks = omega (arith, computed .cleanly .ticks); heard = computed .heard }
+
+pub clean-printed : PrintsOnce (figuresFor 9 1) clean (playerOf 8)
+unfolding messageOf
+clean-printed = prints-clean clean (playerOf 8) (computed .cleanly .opens) clean-pack .1 clean-complete

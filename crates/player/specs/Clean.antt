@@ -1,7 +1,8 @@
--- Document 02, E1, of what the player prints: a pack whose events are clean calls has the line `S sent` with the clean figures,
--- once. What is printed is `played`, and the player's calls joined print just that (`PrintsPlayed`).
+-- Document 02, E1, of what the player prints, which is `played` (`PrintsPlayed` says that its calls print just that). Of a pack
+-- whose events are clean calls it prints `S sent` with the clean figures, once, and no other report of the sender.
 --   PackClean    what E1 promises holds of the pack's run
---   PrintsClean  that report or none is printed of the sender, and it once all its ticks are over and all frames heard
+--   PrintsClean  the sender has reported nothing yet, or that line is printed, once; the line is there once the sender's
+--                N × G ticks are over and every frame has been heard
 use Prim.Native.Nat.{ℕ, suc, _≤_}
 use mathlib.Core.List.{List, [], _∷_, _++_}
 use mathlib.Core.Logic.{_⊎_}
@@ -32,26 +33,27 @@ begunOf bytes q =
     next cappedStep (fresh (q .ends .sender) (q .ends .receiver) (replicate 1785 0))
     (begin (messageOf bytes (q .bodies)))
 
--- E1's conditions of the calls: those that the events make after the begin are clean
+-- E1's conditions of the calls: those that the events make after the begin are clean. (What demand 3 asks of a call, which is
+-- among it, holds of all that the player makes: `PlayerMeets`.)
 abbrev pub CleanEvents : List ℕ → Player → Type 0
 CleanEvents bytes q =
     let p = begunOf bytes q in
     CleanCalls cappedStep p (callsFor (p .world) (messageOf bytes (q .bodies)) (eventsOf bytes (q .bodies)))
 
--- and with them those of the settings and the message
+-- and beside them those of the settings and the message
 pub record CleanPack (bytes : List ℕ) (q : Player) : Type 0 where
   pub fits :
       (let k = q .bodies .settings in
       Fits (k .gap) (k .timeout) (k .limit) (k .patience) (k .capacity) (messageOf bytes (q .bodies)))
   pub events : CleanEvents bytes q
 
--- its figures: N × G and N + 1
+-- its clean figures: N × G ticks and N + 1 frames
 abbrev pub cleanFigures : List ℕ → Player → Figures
 cleanFigures bytes q = figuresFor (length (messageOf bytes (q .bodies))) (q .bodies .settings .gap)
 
 -- ---- its run
 
--- where the run of a pack leads, and its events
+-- where the run of a pack leads, and the events that are printed of it
 abbrev pub pastOf : List ℕ → Player → Past
 pastOf bytes q =
     record {
