@@ -107,6 +107,7 @@ swapped = playOf pack.example begunPlayer (zeros 576) announced (zeros 1785) (ze
 
 -- ---- clean events: all is heard at once, and the receiver ticks between the sender's ticks
 
+-- the sample clean-9-gap-1
 abbrev pub clean : List ℕ
 clean = packWith pack.settings (3 ∷ 6 ∷ 1 ∷ 3 ∷ 2 ∷ 1 ∷ 3 ∷ 6 ∷ [])
 
