@@ -1,35 +1,46 @@
--- Runs of which an edited claim is false, one for each edit of `Prints` and of the calls that it speaks of (claim_*.edit).
+-- Runs of which an edited claim is false, one for each edit of `Prints` and of the calls that it speaks of (claim_*.edit), and
+-- for each edit of what a clean pack prints (clean_*.edit).
 -- Assumes nothing.
-use Prim.Native.Nat.{ℕ, _*_}
+use Prim.Native.Nat.{ℕ, suc, _+_, _*_, _≤_, _<_}
 use mathlib.Core.Path.{_≡_, refl, sym, ap, _∙_}
 use mathlib.Core.Bool.{true, false, _&&_, and-false}
-use mathlib.Core.List.{List, [], _++_, append-nil}
+use mathlib.Core.List.{List, [], _∷_, _++_, append-nil, append-assoc, append-cancel-left, append-cancel-right}
+use mathlib.Core.Logic.{_⊎_, ⊎-elim}
 use native.Mathlib.Omega.{arith}
+use borrow.Author.Tests.{lt-ltb}
 use lib.Dec.{eqb, leb}
-use lib.ListN.{length, take, replicate, length-replicate}
+use lib.ListN.{length, take, replicate, length-append, length-replicate}
+use Rattle.clean.specs.Figures.{figuresFor}
+use Rattle.clean.specs.declared.Figures.{Figures}
+use Rattle.delivery.specs.Clean.{Empty, Fits, sentWith, reportsOf, reportsIn, ticksSince}
+use Rattle.delivery.specs.Seen.{begunIn}
 use Rattle.frame.proofs.Choice.{pick-true, pick-false}
 use Rattle.frame.specs.Choice.{pick}
+use Rattle.frame.specs.Count.{frameCountOf}
 use Rattle.line.specs.Ring.{framesFrom, framesIn}
 use Rattle.pack.proofs.Examples as pack
 use Rattle.pack.specs.Pack.{messageOf}
-use Rattle.player.proofs.Examples.{silent, playerOf, firstLine, begunPlayer, zeros, announced, swapped, computed}
+use Rattle.player.proofs.Clean.{prints-report}
+use Rattle.player.proofs.Examples.{silent, clean, halfway, unheard, hasty, hastyPlayer, playerOf, firstLine, begunPlayer, zeros, announced, swapped, computed, fits-above-2}
 use Rattle.player.proofs.Runs.{runs-exist}
 use Rattle.player.proofs.Steps.{shown, page-shows, lent-begin}
 use Rattle.player.proofs.Whole.{prints-played}
 use Rattle.player.specs.Calls.{progressed, toldProgress, beginOf, playOf, isFinished}
-use Rattle.player.specs.Played.{start, played}
+use Rattle.player.specs.Clean.{CleanEvents, CleanPack, cleanFigures, pastOf, ReportedOnce, PrintsOnce}
+use Rattle.player.specs.Played.{start, runOf, played}
 use Rattle.player.specs.State.{Turned, turned}
-use Rattle.player.specs.Text.{eventText}
+use Rattle.player.specs.Text.{eventText, textOf}
 use Rattle.player.specs.Whole.{Held, held, Begins, begins, Plays, none, plays, Run}
 use Rattle.player.specs.declared.Opening.the-variants as variants
 use Rattle.player.specs.declared.Player.{Player}
 use Rattle.player.specs.declared.Progress.{Progress}
+use Rattle.sender.specs.Told as sender
 use Rattle.text.specs.Page.{Page, page, byteAt, put}
-use Rattle.text.specs.Text.{digitsIn, decimal, spaced, refusedText}
+use Rattle.text.specs.Text.{digitsIn, decimal, headOf, spaced, sentLine, refusedText}
 use Rattle.transport.specs.Answer.{worldOf}
 use Rattle.transport.specs.Capped.{cappedStep}
 use Rattle.transport.specs.Step.{stepOf}
-use Rattle.transport.specs.World.{World, begin}
+use Rattle.transport.specs.World.{World, Event, begin}
 
 never : true ≡ false → ⊥
 never e = let z : _≡_ {A = ℕ} 0 1 = cc in omega arith
@@ -154,3 +165,98 @@ pub refusal-on-a-page-of-10 :
     (let p = put (page (replicate 10 0) 0) (refusedText 12) in take (p .place) (p .bytes) ≡ played []) → ⊥
 unfolding put byteAt pick digitsIn decimal spaced refusedText
 refusal-on-a-page-of-10 e = let ten : _≡_ {A = ℕ} 10 11 = ap length (e ∙ computed .prints-refused) in omega arith
+
+-- ---- clean packs
+
+-- where a report is printed once, it is all that the sender reports
+reports-parts : (es fs : List Event) → reportsIn (es ++ fs) ≡ reportsIn es ++ reportsIn fs
+unfolding reportsIn
+reports-parts [] fs = refl
+reports-parts (e ∷ es) fs =
+    ap (λ (l : List sender.Outcome). reportsOf (e .sender) ++ l) (reports-parts es fs)
+    ∙ sym (append-assoc (reportsOf (e .sender)) (reportsIn es) (reportsIn fs))
+
+its-reports : {bytes : List ℕ} {q : Player} (f : Figures) → PrintsOnce f bytes q → reportsIn (runOf bytes q) ≡ sentWith f ∷ []
+unfolding reportsIn
+its-reports f p =
+    let r = p .report in
+    ap reportsIn (r .parts)
+    ∙ reports-parts (r .earlier) (r .event ∷ r .later)
+    ∙ rw (r .noneEarlier, r .reported, r .noneLater) refl
+
+-- so a pack whose sender reports nothing prints none
+not-printed : {bytes : List ℕ} {q : Player} (f : Figures) → reportsIn (runOf bytes q) ≡ [] → PrintsOnce f bytes q → ⊥
+not-printed f nothing p = let its = its-reports f p in let z : _≡_ {A = ℕ} 0 1 = cc in omega arith
+
+-- clean_figures_of_the_window: the clean pack would report sent 4 3, or nothing
+pub figures-of-the-window :
+    ((reportsIn (runOf clean (playerOf 8)) ≡ []) ⊎ PrintsOnce (figuresFor 9 2) clean (playerOf 8)) → ⊥
+unfolding figuresFor frameCountOf
+figures-of-the-window =
+    let real = computed .cleanly .reports in
+    ⊎-elim (λ nothing. let z : _≡_ {A = ℕ} 0 1 = cc in omega arith)
+    (λ p. let its = its-reports (figuresFor 9 2) p in let z : _≡_ {A = ℕ} 2 4 = cc in omega arith)
+
+-- clean_number_of_the_next_event: its number is at most 8, a single digit, and the digit would be another
+digit : (n : ℕ) → n < 10 → decimal n ≡ (48 + n) ∷ []
+unfolding decimal digitsIn
+digit n small = sym (pick-true _ (lt-ltb n 10 small) refl)
+
+pub number-of-the-next-event : (r : ReportedOnce (sentWith (figuresFor 9 1)) (runOf clean (playerOf 8)))
+    → (let number = length (r .earlier) in
+    played clean ≡ textOf 0 (r .earlier) ++ (sentLine (suc number) 2 3 ++ textOf (suc number) (r .later)))
+    → ⊥
+unfolding figuresFor frameCountOf sentLine headOf
+number-of-the-next-event r e =
+    let n = length (r .earlier) in
+    let size : length (r .earlier ++ (r .event ∷ r .later)) ≡ 9 = ap length (sym (r .parts)) ∙ computed .nine-events in
+    let small : n < 9 = omega (arith, simp length-append at size) in
+    let same = append-cancel-left (textOf 0 (r .earlier)) _ _
+    (sym (prints-report (figuresFor 9 1) clean (playerOf 8) (computed .cleanly .opens) r) ∙ e) in
+    let lines = append-cancel-right (sentLine n 2 3) (sentLine (suc n) 2 3) (textOf (suc n) (r .later)) same in
+    let digits = rw (digit n (omega arith), digit (suc n) (omega arith)) at lines in
+    let z : 48 + n ≡ 48 + suc n = cc in
+    omega arith
+
+-- clean_sending_time_of_the_capacity: with M 1 the sender fails at its first tick
+pub sending-time-of-the-capacity :
+    Fits 1 10 1785 10 1785 pack.message
+    × CleanEvents hasty hastyPlayer
+    × (((reportsIn (runOf hasty hastyPlayer) ≡ []) ⊎ PrintsOnce (figuresFor 9 1) hasty hastyPlayer) → ⊥)
+sending-time-of-the-capacity =
+    let real = computed .in-haste .reports in (
+      fits-above-2 1785 (omega arith),
+      computed .in-haste .events,
+      ⊎-elim (λ nothing. let z : _≡_ {A = ℕ} 0 1 = cc in omega arith)
+          (λ p. let its = its-reports (figuresFor 9 1) p in let z : _≡_ {A = ℕ} 0 1 = cc in omega arith),
+    )
+
+-- clean_complete_a_tick_early: one tick is over, all is heard, and nothing is reported
+pub complete-a-tick-early :
+    CleanPack halfway (playerOf 4)
+    × (cleanFigures halfway (playerOf 4) .ticks ≤ suc (ticksSince (begunIn (pastOf halfway (playerOf 4) .events))))
+    × Empty (pastOf halfway (playerOf 4) .world)
+    × (PrintsOnce (figuresFor 9 1) halfway (playerOf 4) → ⊥)
+unfolding figuresFor frameCountOf messageOf
+complete-a-tick-early =
+    let k = computed .at-halfway in (
+      record { fits = fits-above-2 100 (omega arith); events = k .events },
+      omega (arith, k .ticks),
+      computed .heard-halfway,
+      not-printed (figuresFor 9 1) (k .reports),
+    )
+
+-- clean_complete_with_a_frame_unheard: both ticks are over, and the last frame is on forward
+pub complete-with-a-frame-unheard :
+    CleanPack unheard (playerOf 6)
+    × (cleanFigures unheard (playerOf 6) .ticks ≤ ticksSince (begunIn (pastOf unheard (playerOf 6) .events)))
+    × (pastOf unheard (playerOf 6) .world .back ≡ [])
+    × (PrintsOnce (figuresFor 9 1) unheard (playerOf 6) → ⊥)
+unfolding figuresFor frameCountOf messageOf
+complete-with-a-frame-unheard =
+    let k = computed .while-unheard in (
+      record { fits = fits-above-2 100 (omega arith); events = k .events },
+      omega (arith, k .ticks),
+      computed .none-back,
+      not-printed (figuresFor 9 1) (k .reports),
+    )

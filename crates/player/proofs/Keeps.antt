@@ -13,7 +13,7 @@ use Rattle.delivery.specs.Seen.{Sort, begins, ticksSender, ticksReceiver, other
 use Rattle.frame.proofs.Choice.{pick-elim}
 use Rattle.player.proofs.Opened.{opened}
 use Rattle.player.specs.Claim.{PlayerMeets, newestFirst, PlayerKeeps, PackKeeps}
-use Rattle.player.specs.Events.{callFor, turnFor, eventsFrom, runFrom, callsFor, callsFrom}
+use Rattle.player.specs.Events.{callFor, turnFor, eventsFrom, worldAfter, runFrom, callsFor, callsFrom}
 use Rattle.player.specs.Played as played
 use Rattle.transport.proofs.Events.{call-of}
 use Rattle.transport.proofs.Making.{make-answers}
@@ -100,18 +100,20 @@ player-meets ends buffer m events =
 
 -- ---- the promise
 
--- the events of the calls are those that the player prints
-newest-run : (m events : List ℕ) (p : Past) → runOf cappedStep p (callsFor (p .world) m events) .events ≡ newestFirst (p .events) (eventsFrom (p .world) m events)
-unfolding runOf callsFor eventsFrom newestFirst turnFor
-newest-run m [] p = refl
-newest-run m (event ∷ events) p = newest-run m events (next cappedStep p (callFor (p .world) m event))
+-- the calls lead where the events do, and their events are those that the player prints
+pub same-run : (m events : List ℕ) (p : Past)
+    → runOf cappedStep p (callsFor (p .world) m events)
+    ≡ record { world = worldAfter (p .world) m events; events = newestFirst (p .events) (eventsFrom (p .world) m events) }
+unfolding runOf callsFor eventsFrom worldAfter newestFirst turnFor
+same-run m [] p = refl
+same-run m (event ∷ events) p = same-run m events (next cappedStep p (callFor (p .world) m event))
 
 pub player-keeps : PlayerKeeps
 unfolding runFrom callsFrom runOf newestFirst
 player-keeps gap timeout limit patience window capacity ends e buffer m events size =
     let made = make-answers gap timeout limit patience window capacity ends e in
     let p = fresh (ends .sender) (ends .receiver) buffer in
-    subst (Promise limit patience) (newest-run m events (next cappedStep p (begin m)))
+    subst (λ (past : Past). Promise limit patience (past .events)) (same-run m events (next cappedStep p (begin m)))
     (capped-demand-3 gap timeout limit (ends .sender) (made .sender) patience window capacity (ends .receiver) (made .receiver) buffer size (callsFrom (p .world) m events) (player-meets ends buffer m events))
 
 pub pack-keeps : PackKeeps

@@ -8,3 +8,4 @@ pub mod Runs
 pub mod Examples
 pub mod Counterexamples
 pub mod Keeps
+pub mod Clean

@@ -57,7 +57,7 @@ unfolding eventsFrom
 length-events-from w m [] = refl
 length-events-from w m (x ∷ xs) = ap suc (length-events-from (turnFor w m x .world) m xs)
 
-text-parts : (number : ℕ) (es fs : List Event)
+pub text-parts : (number : ℕ) (es fs : List Event)
     → textOf number (es ++ fs) ≡ textOf number es ++ textOf (number + length es) fs
 unfolding textOf
 text-parts number [] fs = ap (λ (k : ℕ). textOf k fs) (sym (add-zero number))

@@ -5,3 +5,4 @@ pub mod Played
 pub mod Calls
 pub mod Whole
 pub mod Claim
+pub mod Clean
