@@ -2,15 +2,14 @@
 -- the promise is read off the stage. Without repeats a stage has at most one frame on each line, so that a line of 64 does the
 -- same.
 -- Assumes nothing.
-use Prim.Native.Nat.{ℕ, _+_, _-_, _*_, _≤_, _<_}
-use mathlib.Core.Bool.{Bool, true, false, false≢true}
-use mathlib.Core.Path.{_≡_, refl, sym, ap, _∙_, subst, subst⁻¹}
-use mathlib.Core.List.{List, [], _∷_, _++_, cons≢nil, nil≢cons}
+use Prim.Native.Nat.{ℕ, _+_, _*_, _≤_, _<_}
+use mathlib.Core.Bool.{Bool, true, false}
+use mathlib.Core.Path.{_≡_, refl, subst}
+use mathlib.Core.List.{List, [], _∷_, cons≢nil, nil≢cons}
 use native.Mathlib.Omega.{arith}
 use native.Mathlib.Nat.{mul-le-mul-right}
-use lib.ListN.{length, take}
+use lib.ListN.{length}
 use Rattle.clean.specs.Figures.{figuresFor}
-use Rattle.frame.specs.Count.{frameCountOf}
 use Rattle.clean.specs.declared.Figures.{Figures}
 use Rattle.receiver.proofs.Reachable as receiver-reachable
 use Rattle.receiver.specs.Reachable as of-receiver

@@ -3,8 +3,8 @@
 -- next one.
 -- Assumes nothing.
 use Prim.Native.Nat.{ℕ, zero, suc, _+_, _-_, _*_, _≤_, _<_}
-use mathlib.Core.Bool.{Bool, true, false}
-use mathlib.Core.Path.{_≡_, refl, sym, ap, _∙_, subst, subst⁻¹}
+use mathlib.Core.Bool.{true, false}
+use mathlib.Core.Path.{_≡_, refl, sym, ap}
 use mathlib.Core.List.{List, [], _∷_, _++_}
 use native.Mathlib.Omega.{arith}
 use native.Mathlib.Nat.{add-zero}
@@ -32,8 +32,8 @@ use Rattle.delivery.proofs.CleanStages.{Clear, Paced, Inside, worldAt, 
 use Rattle.delivery.proofs.CleanSteps.{Stands}
 use Rattle.delivery.proofs.Sends.{tick-taken}
 use Rattle.delivery.proofs.Stages.{senderIn, framesOf}
-use Rattle.delivery.specs.Clean.{Turn, anyone, senders, receivers, turnIn, SenderMayTick, ReceiverMayTick, Empty, CleanCall, reportsIn, ticksSince, sentWith, GoesOn, CleanGoesOn}
-use Rattle.delivery.specs.Demand3.{LentMessage, Condition}
+use Rattle.delivery.specs.Clean.{Turn, anyone, senders, receivers, turnIn, SenderMayTick, Empty, CleanCall, reportsIn, ticksSince, GoesOn, CleanGoesOn}
+use Rattle.delivery.specs.Demand3.{Condition}
 use Rattle.delivery.specs.Run.{Past, next, runOf}
 use Rattle.delivery.specs.Seen.{Begun, since, further, begunAfter, begunIn, taken}
 use Rattle.transport.specs.Step.{wasRefused, emission, givenForward, givenBack, stepOf}

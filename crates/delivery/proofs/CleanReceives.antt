@@ -1,22 +1,21 @@
 -- What the receiver answers in a clean transfer of m, call by call: its wait is short of T, and each frame heard is the one
 -- that it expects.
 -- Assumes nothing.
-use Prim.Native.Nat.{ℕ, suc, _+_, _-_, _≤_, _<_}
-use mathlib.Core.Bool.{true, false}
+use Prim.Native.Nat.{ℕ, _+_, _-_, _≤_, _<_}
+use mathlib.Core.Bool.{false}
 use mathlib.Core.Path.{_≡_, refl, ap, _∙_}
 use mathlib.Core.List.{List, _∷_}
 use native.Mathlib.Omega.{arith}
 use borrow.Author.Tests.{le-leb, lt-leb, le-ltb, eq-eqb, ne-eqb}
-use lib.ListN.{length, drop}
+use lib.ListN.{length}
 use Rattle.frame.proofs.Choice.{pick-elim}
 use Rattle.frame.proofs.Laws.{increment-is, word-whole, length-fill, filler-ends}
 use Rattle.frame.specs.Choice.{pick}
-use Rattle.frame.specs.Count.{incrementOf, frameCountOf}
 use Rattle.frame.specs.Frames.{fillTo, partFrom, announcementOf, informationOf, lmAckOf, endOfAckOf}
 use Rattle.frame.specs.Reading.{parsedOf, readOf, namedOf, allFiller}
 use Rattle.frame.specs.Result.{accepted}
 use Rattle.receiver.proofs.View.{receiverIn}
-use Rattle.receiver.specs.Hear.{announceIdle, announceOpen, hearAnnouncement, ending, askingNext, expectingNext, stored, storing, informationOpen, informationDone, hearInformation, hearNumbered, hearKind, hearRead, hearOf}
+use Rattle.receiver.specs.Hear.{announceIdle, announceOpen, hearAnnouncement, stored, storing, informationOpen, informationDone, hearInformation, hearNumbered, hearKind, hearRead, hearOf}
 use Rattle.receiver.specs.Tick.{tickOpen, tickPhase, tickOf}
 use Rattle.receiver.specs.Told.{Told, Heard, heard, silently, emitting, delivering}
 use Rattle.receiver.specs.Window.{windowOf, windowAck}

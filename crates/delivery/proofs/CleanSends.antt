@@ -1,8 +1,8 @@
 -- What the sender answers in a clean transfer of m, call by call: every count is below its limit but the gap's, and each
 -- frame heard is the one that its phase awaits.
 -- Assumes nothing.
-use Prim.Native.Nat.{ℕ, suc, _+_, _-_, _≤_, _<_, min}
-use mathlib.Core.Path.{_≡_, refl, ap, _∙_}
+use Prim.Native.Nat.{ℕ, _+_, _-_, _≤_, _<_}
+use mathlib.Core.Path.{_≡_, refl}
 use mathlib.Core.List.{List}
 use native.Mathlib.Omega.{arith}
 use borrow.Author.Tests.{le-leb, lt-leb, le-ltb, eq-eqb, ne-eqb}
@@ -10,7 +10,6 @@ use lib.Dec.{leb}
 use lib.ListN.{length, getD}
 use Rattle.frame.proofs.Laws.{increment-is, word-whole}
 use Rattle.frame.specs.Choice.{pick}
-use Rattle.frame.specs.Count.{incrementOf}
 use Rattle.frame.specs.Frames.{announcementOf, lmAckOf, endOfAckOf}
 use Rattle.frame.specs.Reading.{readOf, namedOf, allFiller}
 use Rattle.sender.specs.Begin.{beginOf, beginPhase, beginIdle, beginLong}

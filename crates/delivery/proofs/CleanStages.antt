@@ -3,15 +3,13 @@
 -- Assumes nothing.
 use Prim.Native.Nat.{ℕ, _+_, _-_, _*_, _≤_, _<_}
 use mathlib.Core.Bool.{Bool, true, false, false≢true}
-use mathlib.Core.Path.{_≡_, refl, ap, _∙_}
+use mathlib.Core.Path.{_≡_, refl}
 use mathlib.Core.List.{List, [], _∷_, _++_}
-use native.Mathlib.Omega.{arith}
 use lib.ListN.{length, take}
-use Rattle.frame.specs.Count.{frameCountOf}
-use Rattle.frame.specs.Frames.{announcementOf, lmAckOf, endOfAckOf}
+use Rattle.frame.specs.Frames.{announcementOf, endOfAckOf}
 use Rattle.frame.specs.declared.Frame.{Frame}
 use Rattle.receiver.proofs.View.{receiverIn}
-use Rattle.receiver.specs.Window.{windowOf, windowAck}
+use Rattle.receiver.specs.Window.{windowAck}
 use Rattle.receiver.specs.declared.Phase as receiver-phase
 use Rattle.receiver.specs.declared.Phase.the-variants as at
 use Rattle.receiver.specs.declared.Settings as receiver-settings
@@ -20,7 +18,7 @@ use Rattle.sender.specs.Told as sender
 use Rattle.sender.specs.declared.Phase.{Phase}
 use Rattle.sender.specs.declared.Phase.the-variants.{Idle, Sending}
 use Rattle.sender.specs.declared.Settings.{Settings}
-use Rattle.delivery.proofs.CleanReceives.{connected, donePhase, storedIn}
+use Rattle.delivery.proofs.CleanReceives.{connected, donePhase}
 use Rattle.delivery.proofs.CleanSends.{announcedPhase, streamed, awaitedPhase, outPhase, Awaits}
 use Rattle.delivery.proofs.Stages.{senderIn, framesOf}
 use Rattle.delivery.specs.Clean.{Turn, anyone, senders, receivers, turnBy, reportsOf}

@@ -12,6 +12,8 @@ pub mod Runs
 pub mod CleanSends
 pub mod CleanReceives
 pub mod CleanStages
+pub mod CleanHears
+pub mod CleanTicks
 pub mod CleanSteps
 pub mod Clean
 pub mod CleanGoesOn
