@@ -8,4 +8,5 @@ pub mod Moves
 pub mod Lives
 pub mod Theorem
 pub mod Example
+pub mod CleanExample
 pub mod Runs

@@ -5,3 +5,4 @@ pub mod WhileOpen
 pub mod Capped
 pub mod Clean
 pub mod Example
+pub mod CleanExample
