@@ -64,7 +64,7 @@ class Page(unittest.TestCase):
         self.wrong(swap("`tests/face.c`", "`tests/faces.c`"), "no file tests/faces.c")
 
     def test_a_sample_that_is_not_there(self):
-        self.wrong(swap("clean-long", "clean-longer"), "no sample or test clean-longer")
+        self.wrong(swap("no-loss", "no-losses"), "no sample or test no-losses")
 
     def test_a_test_that_is_not_there(self):
         self.wrong(swap("number_of_frames", "number_of_a_frame"), "no sample or test number_of_a_frame")

@@ -1,4 +1,5 @@
-/* A bench: both ends on a line that loses frames. Prints their reports and what the line carried; a refused call stops it.
+/* A bench: both ends on a line that loses frames. Prints their reports, what the line carried, and a long transfer's clean
+ * figures; a refused call stops it.
  *   cc -std=c11 -Iinclude examples/bench.c target/staticlib/libkospelna.a -o bench */
 #include "kospelna.h"
 
@@ -60,6 +61,9 @@ static void transfer(const void *message, unsigned losing)
         else
             sender_did(kospelna_sender_hear(sender, line[front++ % PLACES].frame));
     printf("line: %u frames, %u lost\n", carried, carried - end);
+    const kospelna_clean_figures clean = kospelna_clean_figures_of((uint32_t)length, sender.gap);
+    if (clean.refusal == KOSPELNA_REFUSAL_NONE) /* a short message has none */
+        printf("clean: %d ticks, %d frames\n", clean.ticks, clean.frames);
 }
 
 int main(void)

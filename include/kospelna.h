@@ -27,8 +27,8 @@ extern "C" {
 /* Refusals, by what is wrong. */
 enum {
     KOSPELNA_REFUSAL_NONE = 0,
-    KOSPELNA_REFUSAL_SETTING = 1,       /* making an end: a setting outside its limits */
-    KOSPELNA_REFUSAL_LENGTH = 2,        /* begin, post: the message's length */
+    KOSPELNA_REFUSAL_SETTING = 1,       /* making an end: a setting outside its limits; clean figures: the gap */
+    KOSPELNA_REFUSAL_LENGTH = 2,        /* begin, post, clean figures: the message's length */
     KOSPELNA_REFUSAL_BUSY = 3,          /* begin: the sender is not Idle */
     KOSPELNA_REFUSAL_OTHER_MESSAGE = 4, /* sender tick: the lent length is not the begun one */
     KOSPELNA_REFUSAL_BUFFER = 5,        /* receiver hears: the buffer's length is not KOSPELNA_BUFFER_LENGTH */
@@ -239,6 +239,27 @@ kospelna_receiver_answer kospelna_receiver_tick(kospelna_receiver receiver);
  * nothing. Refused 5, then 6, then 7. */
 kospelna_receiver_answer kospelna_receiver_hear(kospelna_receiver receiver, kospelna_frame frame, uint8_t *buffer,
                                                 size_t length);
+
+/* ---- Clean figures ----
+ *
+ * What a long transfer takes where nothing goes wrong: a session in which frames were lost or repeated is rated by how its
+ * report stands against the clean figures of its length and gap. A session is clean if, with what `sent` asks above,
+ *   - both ends were just made when the transfer began, and nothing was on the line;
+ *   - every frame is heard before the next tick of either end, and none is lost or repeated;
+ *   - the two ends tick by turns, either of them first;
+ *   - both timeouts are above the gap, the sending time is above N times the gap, and L is at most the capacity.
+ * Then the sender's one report is `sent`, with exactly these figures, and the receiver has delivered the message once.
+ * Neither the window nor which end ticks first changes them.
+ */
+typedef struct kospelna_clean_figures {
+    uint8_t refusal;
+    uint16_t ticks;  /* ticks since begin: N times the gap */
+    uint16_t frames; /* frames emitted by the sender since begin: N + 1, the announcement and the information frames */
+} kospelna_clean_figures;
+
+/* The figures of a message of this length at this gap. Refused 2: a length that does not go long, 9 to 1785; then 1: a gap
+ * that no sender has. */
+kospelna_clean_figures kospelna_clean_figures_of(uint32_t length, uint32_t gap);
 
 /* ---- Identifier: 29 bits, P 3, EDP 1, DP 1, PF 8, PS 8, SA 8, the first in the highest bits ---- */
 

@@ -1,6 +1,6 @@
 /* Plays document 01's example over the C face: both ends, and the line as two lists of its own. Prints its seven lines,
- * which .ci/face compares with the sample's. Exits 1 where a state, a frame, the buffer, a limit, a failure or a refusal
- * is another than it should be. */
+ * which .ci/face compares with the sample's. Exits 1 where a state, a frame, the buffer, a limit, a failure, a refusal or
+ * a clean figure is another than it should be. */
 #include "kospelna.h"
 
 #include <stdio.h>
@@ -363,6 +363,56 @@ static void limits(void)
          "a limit of a message's length");
 }
 
+/* A clean session at the edge of its conditions, the receiver ticking first. Its report, and the clean figures of its length
+ * and gap, are those of document 02, E1. */
+static void clean_session(uint16_t length, uint16_t gap, uint16_t ticks, uint16_t frames)
+{
+    static const uint8_t longest[KOSPELNA_MESSAGE_MAX];
+    const kospelna_clean_figures figures = kospelna_clean_figures_of(length, gap);
+    must(figures.refusal == 0 && figures.ticks == ticks && figures.frames == frames, "the clean figures");
+    const uint16_t timeout = gap + 1, limit = ticks + 1;
+    kospelna_receiver_answer b = {.next = kospelna_receiver_make(timeout, 2, length).receiver};
+    kospelna_sender_answer a = kospelna_sender_begin(kospelna_sender_make(gap, timeout, limit).sender, longest, length);
+    for (int tick = 0; a.outcome == KOSPELNA_QUIET && tick <= ticks; tick++) {
+        if (tick > 0) {
+            b = kospelna_receiver_tick(b.next);
+            must(b.outcome == KOSPELNA_QUIET && !b.emits, "the receiver waits in vain");
+            a = kospelna_sender_tick(a.next, longest, length);
+        }
+        if (a.emits)
+            b = hears(b.next, a.frame);
+        if (b.emits)
+            a = kospelna_sender_hear(a.next, b.frame);
+    }
+    must(b.outcome == KOSPELNA_DELIVERED && b.length == length, "the delivery of a clean session");
+    must(a.outcome == KOSPELNA_SENT && a.ticks == ticks && a.frames == frames, "the report of a clean session");
+}
+
+static bool has_no_figures(uint32_t length, uint32_t gap, int refusal)
+{
+    const kospelna_clean_figures figures = kospelna_clean_figures_of(length, gap);
+    return figures.refusal == refusal && figures.ticks == 0 && figures.frames == 0;
+}
+
+/* N is 2, 2, 3, 255. A length or a gap is judged as it stands, the length first. */
+static void clean(void)
+{
+    clean_session(KOSPELNA_SHORT_MAX + 1, KOSPELNA_GAP_MIN, 2, 3);
+    clean_session(14, 2, 4, 3);
+    clean_session(15, KOSPELNA_GAP_MAX, 30, 4);
+    clean_session(KOSPELNA_MESSAGE_MAX, KOSPELNA_GAP_MIN, 255, 256);
+    clean_session(KOSPELNA_MESSAGE_MAX, KOSPELNA_GAP_MAX, 2550, 256);
+    must(has_no_figures(KOSPELNA_SHORT_MAX, 1, KOSPELNA_REFUSAL_LENGTH)
+             && has_no_figures(KOSPELNA_MESSAGE_MAX + 1, 1, KOSPELNA_REFUSAL_LENGTH)
+             && has_no_figures(65536 + 9, 1, KOSPELNA_REFUSAL_LENGTH)
+             && has_no_figures(0, KOSPELNA_GAP_MIN - 1, KOSPELNA_REFUSAL_LENGTH),
+         "a length without clean figures");
+    must(has_no_figures(9, KOSPELNA_GAP_MIN - 1, KOSPELNA_REFUSAL_SETTING)
+             && has_no_figures(9, KOSPELNA_GAP_MAX + 1, KOSPELNA_REFUSAL_SETTING)
+             && has_no_figures(9, 65536 + 1, KOSPELNA_REFUSAL_SETTING),
+         "a gap without clean figures");
+}
+
 int main(void)
 {
     example();
@@ -373,5 +423,6 @@ int main(void)
     receiver_failures();
     announcements();
     limits();
+    clean();
     return 0;
 }

@@ -61,7 +61,7 @@ pub const SESSIONS: [Session; 17] = [
     },
     // 2: no loss, window of 3, 29 bytes, so N = 5 and windows of 3 and 2.
     Session {
-        name: "clean-long",
+        name: "no-loss",
         settings: settings(1, 20, 200, 20, 3, 1785),
         message: counting(29),
         events: &[3, 6, 1, 3, 1, 3, 1, 3, 6, 1, 3, 1, 3, 6],

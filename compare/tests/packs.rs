@@ -7,6 +7,7 @@ use std::mem::discriminant;
 use std::process::{Command, Output, Stdio};
 
 use compare::packs::case::Case;
+use compare::packs::clean::{first_fault, Fault};
 use compare::packs::differences::{first_difference, Difference, Tally};
 use compare::packs::generate;
 use compare::packs::shrink::shrink;
@@ -252,6 +253,52 @@ fn mistakes_in_reading_are_caught() {
     });
 }
 
+/// What the clean packs find with this player.
+fn fault(player: impl Fn(&[u8]) -> String) -> Option<Fault> {
+    first_fault(&|pack: &[u8]| Ok(player(pack)), SEED, 300).unwrap()
+}
+
+/// A player that makes this of the ticks and frames of sent.
+fn with_figures(change: fn(&mut u16, &mut u16)) -> impl Fn(&[u8]) -> String {
+    move |pack| {
+        play_with(pack, |bench, call, message, buffer| {
+            let mut outcome = right(bench, call, message, buffer);
+            if let Outcome::Sender(sender::Answer {
+                report: Some(Report::Sent { ticks, frames }),
+                ..
+            }) = &mut outcome
+            {
+                change(ticks, frames);
+            }
+            Ok(outcome)
+        })
+    }
+}
+
+/// The reference has the clean figures. A player with others is caught by them, and one that prints
+/// another frame by the comparison alone.
+#[test]
+fn clean_packs() {
+    assert!(fault(play).is_none());
+    let mistakes: [fn(&mut u16, &mut u16); 3] = [
+        |ticks, _| *ticks += 1,
+        |_, frames| *frames -= 1,
+        |ticks, frames| std::mem::swap(ticks, frames),
+    ];
+    for change in mistakes {
+        let fault = fault(with_figures(change)).unwrap();
+        let [promised, reported] = fault.unmet.as_ref().unwrap();
+        assert!(promised[1].contains(" S sent ") && reported[1].contains(" S sent "));
+        assert_eq!(promised[0], reported[0]);
+        let text = fault.to_string();
+        let again = format!("(--seed {} --count 0 --clean 1)\npromised:  ", fault.seed);
+        assert!(text.contains(&again));
+        assert!(text.contains("the same for tools/make_pack:\n"));
+    }
+    let fault = fault(|pack| play(pack).replace(" R 2 01 ", " R 2 02 ")).unwrap();
+    assert!(fault.unmet.is_none() && fault.difference.is_some());
+}
+
 /// The reference agrees with itself, and its texts show every report and refusal that a run can
 /// have. Cause 4 cannot come: no end sends a number above N to the other.
 #[test]
@@ -337,9 +384,11 @@ fn packs(words: &[&str]) -> (Option<i32>, String) {
 #[test]
 fn the_program() {
     let reference = env!("CARGO_BIN_EXE_reference_player");
-    let (status, text) = packs(&["--player", reference, "--count", "50", "--seed", "7"]);
+    let words = ["--player", reference, "--count", "50", "--seed", "7"];
+    let (status, text) = packs(&[&words[..], &["--clean", "20"]].concat());
     assert_eq!(status, Some(0));
     assert!(text.starts_with("packs: 50 packs from seed 7 alike\n"));
+    assert!(text.ends_with("packs: 20 clean packs from seed 7 alike, with the clean figures\n"));
 
     // A program that prints nothing: the least pack is left, with no events.
     let (status, text) = packs(&["--player", "/bin/true", "--count", "50", "--seed", "7"]);
@@ -351,5 +400,6 @@ fn the_program() {
 
     assert_eq!(packs(&["--player", "/no/such/program"]).0, Some(2));
     assert_eq!(packs(&["--count", "many"]).0, Some(2));
+    assert_eq!(packs(&["--clean", "many"]).0, Some(2));
     assert_eq!(packs(&["--speed"]).0, Some(2));
 }

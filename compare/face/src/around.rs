@@ -1,9 +1,10 @@
-//! The reference's identifiers, version talk and parameter groups over plain values.
+//! The reference's clean figures, identifiers, version talk and parameter groups over plain values.
 //!
 //! Two things are kept otherwise. The reference's talker leaves the ticks of a closed timer where they stood and goes on
 //! counting the limit in the vehicle's S3, where nothing comes of it; a flat talker has 0 there. The kinds of a group's
 //! fields stand in no table of the reference, so `KINDS` has them, by 001 tables H.3 to H.11.
 
+use compare::reference::clean::{figures, Figures};
 use compare::reference::groups::row_of;
 use compare::reference::identifier::{self, Parts, EVCC, SECC};
 use compare::reference::version::{self, Message, Outcome, Side, State, Talker, Version};
@@ -30,6 +31,15 @@ const KINDS: [[usize; 4]; 9] = [
 ];
 
 impl Around for Reference {
+    fn clean_figures_of(&self, length: u32, gap: u32) -> FlatCleanFigures {
+        let (refusal, Figures { ticks, frames }) = told(figures(length, gap));
+        FlatCleanFigures {
+            refusal,
+            ticks,
+            frames,
+        }
+    }
+
     fn identifier_join(&self, parts: FlatIdentifierParts) -> FlatIdentifierJoining {
         let FlatIdentifierParts {
             p,

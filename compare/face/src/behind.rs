@@ -76,6 +76,10 @@ mod called {
             Reference.receiver_hear(receiver, frame, unsafe { from_raw_parts_mut(buffer, length) })
         }
 
+        fn kospelna_clean_figures_of(length: u32, gap: u32) -> FlatCleanFigures {
+            Reference.clean_figures_of(length, gap)
+        }
+
         fn kospelna_identifier_join(parts: FlatIdentifierParts) -> FlatIdentifierJoining {
             Reference.identifier_join(parts)
         }

@@ -53,6 +53,8 @@ pub enum Call {
     ReceiverTick(FlatReceiver),
     /// With the length of the lent buffer.
     ReceiverHear(FlatReceiver, FlatFrame, usize),
+    /// Length and gap.
+    CleanFigures(u32, u32),
     Join(FlatIdentifierParts),
     Split(u32),
     ChargerAddress,
@@ -82,6 +84,7 @@ pub enum Answer {
     Sender(FlatSenderAnswer),
     ReceiverMade(FlatReceiverMade),
     Receiver(FlatReceiverAnswer),
+    Figures(FlatCleanFigures),
     Joining(FlatIdentifierJoining),
     Splitting(FlatIdentifierSplitting),
     Number(u32),
@@ -119,6 +122,7 @@ pub fn answer(face: &impl Face, call: &Call, buffer: &mut [u8]) -> Answer {
 
 fn answer_around(face: &impl Face, call: &Call) -> Answer {
     match call {
+        Call::CleanFigures(length, gap) => Answer::Figures(face.clean_figures_of(*length, *gap)),
         Call::Join(parts) => Answer::Joining(face.identifier_join(*parts)),
         Call::Split(identifier) => Answer::Splitting(face.identifier_split(*identifier)),
         Call::ChargerAddress => Answer::Number(face.charger_address()),
@@ -149,7 +153,7 @@ fn answer_around(face: &impl Face, call: &Call) -> Answer {
 }
 
 /// The names of the functions, in the order of `Call`'s cases.
-pub const NAMES: [&str; 27] = [
+pub const NAMES: [&str; 28] = [
     "sender_make",
     "sender_begin",
     "sender_post",
@@ -158,6 +162,7 @@ pub const NAMES: [&str; 27] = [
     "receiver_make",
     "receiver_tick",
     "receiver_hear",
+    "clean_figures_of",
     "identifier_join",
     "identifier_split",
     "charger_address",
@@ -191,25 +196,26 @@ impl Call {
             Call::ReceiverMake(_) => 5,
             Call::ReceiverTick(_) => 6,
             Call::ReceiverHear(..) => 7,
-            Call::Join(_) => 8,
-            Call::Split(_) => 9,
-            Call::ChargerAddress => 10,
-            Call::VehicleAddress => 11,
-            Call::ChargerVersion => 12,
-            Call::VehicleVersion => 13,
-            Call::List(_) => 14,
-            Call::MessageWrite(_) => 15,
-            Call::MessageRead(_) => 16,
-            Call::TalkerMake(..) => 17,
-            Call::TalkerConnect(_) => 18,
-            Call::TalkerTick(_) => 19,
-            Call::TalkerHear(..) => 20,
-            Call::TalkerStop(_) => 21,
-            Call::TalkerGreet(_) => 22,
-            Call::TalkerFunctionsHeard(_) => 23,
-            Call::GroupRead(_) => 24,
-            Call::GroupWrite(..) => 25,
-            Call::GroupFind(_) => 26,
+            Call::CleanFigures(..) => 8,
+            Call::Join(_) => 9,
+            Call::Split(_) => 10,
+            Call::ChargerAddress => 11,
+            Call::VehicleAddress => 12,
+            Call::ChargerVersion => 13,
+            Call::VehicleVersion => 14,
+            Call::List(_) => 15,
+            Call::MessageWrite(_) => 16,
+            Call::MessageRead(_) => 17,
+            Call::TalkerMake(..) => 18,
+            Call::TalkerConnect(_) => 19,
+            Call::TalkerTick(_) => 20,
+            Call::TalkerHear(..) => 21,
+            Call::TalkerStop(_) => 22,
+            Call::TalkerGreet(_) => 23,
+            Call::TalkerFunctionsHeard(_) => 24,
+            Call::GroupRead(_) => 25,
+            Call::GroupWrite(..) => 26,
+            Call::GroupFind(_) => 27,
         }
     }
 
@@ -279,6 +285,7 @@ fn outcome(answer: &Answer) -> u8 {
         Answer::Sender(answer) => answer.outcome,
         Answer::ReceiverMade(made) => u8::from(made.refusal != 0),
         Answer::Receiver(answer) => answer.outcome,
+        Answer::Figures(figures) => u8::from(figures.refusal != 0),
         Answer::Joining(joined) => u8::from(joined.refusal != 0),
         Answer::Splitting(parted) => u8::from(parted.refusal != 0),
         Answer::Listing(listing) => u8::from(listing.refusal != 0),

@@ -111,13 +111,14 @@ fn differing_case<L: Face, R: Face>(
 }
 
 fn single_call(random: &mut Random) -> Call {
-    match random.weighted(&[60, 2, 8, 8, 7, 15]) {
+    match random.weighted(&[60, 2, 8, 8, 7, 15, 3]) {
         0 => forged::end_call(random),
         1 => forged::make_call(random),
         2 => forged::talker_call(random),
         3 => singles::identifier_call(random),
         4 => singles::version_call(random),
-        _ => singles::group_call(random),
+        5 => singles::group_call(random),
+        _ => singles::figures_call(random),
     }
 }
 

@@ -34,6 +34,7 @@ mod linked {
             length: usize,
         ) -> FlatReceiverAnswer;
 
+        pub fn kospelna_clean_figures_of(length: u32, gap: u32) -> FlatCleanFigures;
         pub fn kospelna_identifier_join(parts: FlatIdentifierParts) -> FlatIdentifierJoining;
         pub fn kospelna_identifier_split(identifier: u32) -> FlatIdentifierSplitting;
         pub fn kospelna_charger_address() -> u32;

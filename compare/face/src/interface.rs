@@ -20,8 +20,9 @@ pub trait Ends {
     ) -> FlatReceiverAnswer;
 }
 
-/// Identifiers, version talk and parameter groups.
+/// The clean figures, identifiers, version talk and parameter groups.
 pub trait Around {
+    fn clean_figures_of(&self, length: u32, gap: u32) -> FlatCleanFigures;
     fn identifier_join(&self, parts: FlatIdentifierParts) -> FlatIdentifierJoining;
     fn identifier_split(&self, identifier: u32) -> FlatIdentifierSplitting;
     fn charger_address(&self) -> u32;
@@ -108,6 +109,11 @@ macro_rules! through {
         }
 
         impl Around for $face {
+            #[inline]
+            fn clean_figures_of(&self, length: u32, gap: u32) -> FlatCleanFigures {
+                unsafe { $module::kospelna_clean_figures_of(length, gap) }
+            }
+
             #[inline]
             fn identifier_join(&self, parts: FlatIdentifierParts) -> FlatIdentifierJoining {
                 unsafe { $module::kospelna_identifier_join(parts) }

@@ -1,4 +1,4 @@
-//! Single calls of identifiers, version lists and messages, and parameter groups.
+//! Single calls of the clean figures, identifiers, version lists and messages, and parameter groups.
 
 use compare::packs::random::Random;
 use compare::reference::groups::ROWS;
@@ -7,6 +7,22 @@ use crate::call::Call;
 use crate::frames::random_bytes;
 use crate::lists::{accepted, lent, message, offered};
 use crate::values::*;
+
+/// Mostly a long message's length and a sender's gap; else at their edges, wide numbers among them.
+pub fn figures_call(random: &mut Random) -> Call {
+    let wide = [255, 256, 257, 65535, 65536, 65545, u32::MAX];
+    let length = match random.weighted(&[70, 20, 10]) {
+        0 => random.between(9, 1785) as u32,
+        1 => random.pick(&[0, 1, 7, 8, 9, 14, 15, 1784, 1785, 1786, 1787, 1792]),
+        _ => random.pick(&wide),
+    };
+    let gap = match random.weighted(&[80, 10, 10]) {
+        0 => random.between(1, 10) as u32,
+        1 => random.pick(&[0, 11, 12]),
+        _ => random.pick(&wide),
+    };
+    Call::CleanFigures(length, gap)
+}
 
 pub fn identifier_call(random: &mut Random) -> Call {
     match random.weighted(&[48, 48, 1, 1, 1, 1]) {

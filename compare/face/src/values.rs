@@ -90,6 +90,15 @@ pub struct FlatReceiverAnswer {
     pub bytes: [u8; 8],
 }
 
+/// Ticks and frames of a clean long transfer. Refusal 0 says that there is none, in this and what follows.
+#[repr(C)]
+#[derive(Clone, Copy, Debug, PartialEq, Eq)]
+pub struct FlatCleanFigures {
+    pub refusal: u8,
+    pub ticks: u16,
+    pub frames: u16,
+}
+
 #[repr(C)]
 #[derive(Clone, Copy, Debug, Default, PartialEq, Eq)]
 pub struct FlatIdentifierParts {
@@ -101,7 +110,6 @@ pub struct FlatIdentifierParts {
     pub sa: u32,
 }
 
-/// In this and what follows refusal 0 says that there is none.
 #[repr(C)]
 #[derive(Clone, Copy, Debug, PartialEq, Eq)]
 pub struct FlatIdentifierJoining {

@@ -59,6 +59,7 @@ fn every_outcome_comes() {
     for name in [
         "sender_make",
         "receiver_make",
+        "clean_figures_of",
         "identifier_join",
         "identifier_split",
         "version_list",

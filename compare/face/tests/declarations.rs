@@ -104,7 +104,7 @@ fn declared_by_the_crate() -> (Structs, Functions) {
 #[test]
 fn declarations_are_those_of_the_crate() {
     let (structs_there, functions_there) = declared_by_the_crate();
-    assert_eq!((structs_there.len(), functions_there.len()), (24, 27));
+    assert_eq!((structs_there.len(), functions_there.len()), (25, 28));
     let here = text("src", "rs");
     assert_eq!(structs(&here), structs_there);
     let block = after(&here, "extern \"C\" {", '}')[0];
@@ -228,6 +228,10 @@ fn another_header_is_found() {
         (
             "uint16_t timeout, uint16_t window",
             "uint16_t window, uint16_t timeout",
+        ),
+        (
+            "uint32_t length, uint32_t gap",
+            "uint32_t gap, uint32_t length",
         ),
         ("uint8_t *buffer,", "const uint8_t *buffer,"),
         ("uint8_t *buffer,", "uint8_t *bytes,"),

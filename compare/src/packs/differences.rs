@@ -44,7 +44,8 @@ pub fn first_difference(
     Ok(None)
 }
 
-fn shortened(player: &Player, seed: u64, case: Case) -> Result<Difference, String> {
+/// The difference on the case of this seed, made smaller.
+pub(super) fn shortened(player: &Player, seed: u64, case: Case) -> Result<Difference, String> {
     let size = case.pack().len();
     let mut differs = |case: &Case| {
         let pack = case.pack();
@@ -72,7 +73,7 @@ fn add(tally: &mut Tally, text: &str) {
 }
 
 /// The sort of a line that is no frame.
-fn sort(line: &str) -> Option<String> {
+pub(super) fn sort(line: &str) -> Option<String> {
     let words: Vec<&str> = line.split(' ').collect();
     match words[..] {
         ["refused", number] => Some(format!("refused {number}")),
@@ -84,8 +85,15 @@ fn sort(line: &str) -> Option<String> {
 
 impl fmt::Display for Difference {
     fn fmt(&self, f: &mut fmt::Formatter) -> fmt::Result {
-        let pack = self.case.pack();
         writeln!(f, "DIFFERENT at seed {0} (--seed {0} --count 1)", self.seed)?;
+        self.tell(f)
+    }
+}
+
+impl Difference {
+    /// All but the seed.
+    pub(super) fn tell(&self, f: &mut fmt::Formatter) -> fmt::Result {
+        let pack = self.case.pack();
         let (reference, printed) = first_lines(&self.reference, &self.printed);
         writeln!(f, "reference: {reference}")?;
         writeln!(f, "player:    {printed}")?;

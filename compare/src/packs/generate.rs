@@ -94,7 +94,7 @@ fn length(random: &mut Random) -> usize {
     }
 }
 
-fn message(random: &mut Random, length: usize) -> Vec<u8> {
+pub(super) fn message(random: &mut Random, length: usize) -> Vec<u8> {
     (0..length)
         .map(|_| match random.percent(20) {
             true => random.pick(&[0x00, 0xFF, 0xAF]),
@@ -194,7 +194,7 @@ fn add_events(random: &mut Random, case: &mut Case) {
 }
 
 /// Both ends after the begin, unless a setting or the message is refused.
-fn made(case: &Case) -> Option<Bench> {
+pub(super) fn made(case: &Case) -> Option<Bench> {
     let s = &case.settings;
     let sender = Sender::make(s.gap, s.sender_timeout, s.sending_time).ok()?;
     let receiver = Receiver::make(s.receiver_timeout, s.window, s.capacity).ok()?;

@@ -1,5 +1,6 @@
 //! The reference: simple rather than fast.
 
+pub mod clean;
 pub mod frame;
 pub mod groups;
 pub mod identifier;
@@ -17,9 +18,10 @@ pub struct Refused(pub u8);
 pub mod refusal {
     use super::Refused;
 
-    /// Making an end with a setting outside its limits.
+    /// Making an end with a setting outside its limits; clean figures of a gap outside its own.
     pub const SETTING: Refused = Refused(1);
-    /// Begin or post with no bytes, or with more than it takes: 1785, and 8 for post.
+    /// Begin or post with no bytes, or with more than it takes: 1785, and 8 for post. Clean figures of
+    /// a length that does not go long.
     pub const LENGTH: Refused = Refused(2);
     /// Begin while a transfer is under way.
     pub const NOT_IDLE: Refused = Refused(3);

@@ -1,5 +1,6 @@
-//! Tests of the reference against document 01. A few words in double quotes are the document's.
+//! Tests of the reference against documents 01 and 02. A few words in double quotes are document 01's.
 
+mod clean;
 mod edge_cases;
 mod frames;
 mod groups;

@@ -7,14 +7,14 @@ use Rattle.clean.specs.declared.Figures.{Figures}
 use Rattle.clean.specs.declared.Clean.{Clean}
 use Rattle.clean.specs.declared.Clean.the-variants.{Takes, Refused}
 
--- E1, "at tick N × G with N + 1 frames": each of the N information frames goes out a gap after the frame before it, the first
--- a gap after the begin, and sent is reported before the next tick; they and the announcement are the frames
+-- E1, the tick and the frames: the first of the N information frames goes out a gap after the begin, each other one a gap
+-- after the one before it, and sent is reported before the next tick; the announcement is one frame more
 unfoldable pub figuresFor : ℕ → ℕ → Figures
 figuresFor length gap =
     record { ticks = frameCountOf length * gap; frames = frameCountOf length + 1 }
 
--- document 01, Frames, the lengths that go long, and The sender, Settings, the gaps; Refusals, begin and making an end: a
--- length that does not go long has the number of a bad length, then a gap that no sender has that of a bad setting
+-- For which lengths and gaps there are figures: document 01, Frames, those that go long, and The sender, Settings. Another
+-- length is refused with the number that begin has for a length, then another gap with that of a setting (Refusals).
 unfoldable pub figuresOf : ℕ → ℕ → Result Figures
 figuresOf length gap =
     pick (within 9 length 1785)

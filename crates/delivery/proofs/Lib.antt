@@ -10,3 +10,8 @@ pub mod Theorem
 pub mod Example
 pub mod CleanExample
 pub mod Runs
+pub mod CleanSends
+pub mod CleanReceives
+pub mod CleanStages
+pub mod CleanSteps
+pub mod Clean

@@ -37,7 +37,7 @@ use Rattle.delivery.specs.Seen.{taken}
 abbrev Taken : Told → Type 0
 Taken a = taken (a .outcome) ≡ true
 
-tick-taken : (s : Sender) (p : Phase) (m : List ℕ) → Taken (tickPhase s p m)
+pub tick-taken : (s : Sender) (p : Phase) (m : List ℕ) → Taken (tickPhase s p m)
 unfolding tickPhase tickOpening tickSending tickWaiting tickShort
 tick-taken s Idle m = refl
 tick-taken s (Opening x) m =

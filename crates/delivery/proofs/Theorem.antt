@@ -162,12 +162,12 @@ module _ (st : Settings) (rs : receiver-settings.Settings) (limits : Limits st r
 -- ---- from the ends that making answers
 
 -- a made sender has the settings asked for, within their limits, and is Idle
-data SenderMade (gap timeout limit : ℕ) : Sender → Type 0 where
+pub data SenderMade (gap timeout limit : ℕ) : Sender → Type 0 where
   fits :
       sender-making.settingsFit gap timeout limit ≡ true
       → SenderMade gap timeout limit (senderIn (record { gap = gap; timeout = timeout; limit = limit }) Idle)
 
-sender-made : (gap timeout limit : ℕ) (s : Sender) → sender-making.makeOf gap timeout limit ≡ accepted s → SenderMade gap timeout limit s
+pub sender-made : (gap timeout limit : ℕ) (s : Sender) → sender-making.makeOf gap timeout limit ≡ accepted s → SenderMade gap timeout limit s
 unfolding sender-making.makeOf pick
 sender-made gap timeout limit s = go (sender-making.settingsFit gap timeout limit) refl
   where
@@ -179,12 +179,12 @@ sender-made gap timeout limit s = go (sender-making.settingsFit gap timeout limi
     go true e q = let z : fresh-sender ≡ s = cc in subst (SenderMade gap timeout limit) z (fits e)
     go false e q = let z : _≡_ {A = ℕ} 0 1 = cc in absurd (omega arith)
 
-data ReceiverMade (timeout window capacity : ℕ) : Receiver → Type 0 where
+pub data ReceiverMade (timeout window capacity : ℕ) : Receiver → Type 0 where
   fits :
       receiver-making.settingsFit timeout window capacity ≡ true
       → ReceiverMade timeout window capacity (receiverIn (record { timeout = timeout; window = window; capacity = capacity }) at.Idle)
 
-receiver-made : (timeout window capacity : ℕ) (r : Receiver) → receiver-making.makeOf timeout window capacity ≡ accepted r
+pub receiver-made : (timeout window capacity : ℕ) (r : Receiver) → receiver-making.makeOf timeout window capacity ≡ accepted r
     → ReceiverMade timeout window capacity r
 unfolding receiver-making.makeOf pick
 receiver-made timeout window capacity r = go (receiver-making.settingsFit timeout window capacity) refl

@@ -4,6 +4,7 @@ pub mod SendPaths
 pub mod SendInverse
 pub mod ReceivePaths
 pub mod ReceiveInverse
+pub mod FiguresLaws
 pub mod IdentifyLaws
 pub mod TalkLaws
 pub mod GroupLaws

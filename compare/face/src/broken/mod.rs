@@ -1,6 +1,7 @@
 //! References with one mistake each, to test that the comparison catches it.
 
 pub mod around;
+pub mod clean;
 mod ends;
 
 use crate::interface::{Around, Ends};
@@ -18,6 +19,8 @@ pub enum Mistake {
     ReceiverMake(fn([u16; 3], &mut FlatReceiverMade)),
     ReceiverTick(fn(FlatReceiver, &mut FlatReceiverAnswer)),
     ReceiverHear(fn(FlatReceiver, FlatFrame, &mut [u8], &mut FlatReceiverAnswer)),
+    /// With length and gap.
+    Clean(fn([u32; 2], &mut FlatCleanFigures)),
     Join(fn(FlatIdentifierParts, &mut FlatIdentifierJoining)),
     Split(fn(u32, &mut FlatIdentifierSplitting)),
     /// Of the four named numbers, in the order of the face.
@@ -42,7 +45,7 @@ pub struct Broken(pub Mistake);
 
 /// Every mistake, by its name.
 pub fn mistakes() -> Vec<(&'static str, Mistake)> {
-    [ends::MISTAKES, around::MISTAKES].concat()
+    [ends::MISTAKES, clean::MISTAKES, around::MISTAKES].concat()
 }
 
 /// The right answer, changed by the mistake where it is one of this call.
@@ -123,6 +126,11 @@ impl Broken {
 }
 
 impl Around for Broken {
+    fn clean_figures_of(&self, length: u32, gap: u32) -> FlatCleanFigures {
+        let right = Reference.clean_figures_of(length, gap);
+        answered!(self, right, Clean, [length, gap])
+    }
+
     fn identifier_join(&self, parts: FlatIdentifierParts) -> FlatIdentifierJoining {
         answered!(self, Reference.identifier_join(parts), Join, parts)
     }

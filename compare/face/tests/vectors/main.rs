@@ -5,7 +5,7 @@ mod single;
 mod talk;
 mod words;
 
-use face::broken::{around::MISTAKES, Broken};
+use face::broken::{around, clean, Broken};
 use face::interface::Around;
 use face::Reference;
 
@@ -44,10 +44,11 @@ fn the_proved_code_answers_as_the_table_says() {
 /// All but the two in lists and places above 255, which no line has.
 #[test]
 fn the_table_catches_every_mistake() {
-    let missed: Vec<&str> = MISTAKES
-        .iter()
+    let missed: Vec<&str> = [clean::MISTAKES, around::MISTAKES]
+        .concat()
+        .into_iter()
         .filter(|(_, mistake)| difference(&Broken(*mistake), TABLE).is_none())
-        .map(|(name, _)| *name)
+        .map(|(name, _)| name)
         .collect();
     let wide = [
         "a list is counted modulo 256",
@@ -60,6 +61,7 @@ fn the_table_catches_every_mistake() {
 #[test]
 fn an_altered_table_is_found() {
     for (line, altered) in [
+        ("clean 9 1: 2 3", "clean 9 1: 2 2"),
         ("find 71: 71 2 charger", "find 71: 71 3 charger"),
         ("list 01 01: refused 11", "list 01 01: refused 10"),
         ("310 said: 3 5", "310 said: 3 6"),

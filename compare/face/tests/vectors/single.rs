@@ -1,15 +1,21 @@
-//! Calls that stand alone: groups, identifiers, version lists and messages.
+//! Calls that stand alone: clean figures, groups, identifiers, version lists and messages.
 
 use face::interface::Around;
 use face::values::*;
 
 use crate::words::{
-    byte, bytes, eight, hex, hexadecimal, told, version, version_of, versions, RESULTS,
+    byte, bytes, decimal, eight, hex, hexadecimal, told, version, version_of, versions, RESULTS,
 };
 
 /// The answer to a call of these words.
 pub fn answer(face: &impl Around, call: &str, words: &[&str]) -> String {
     match call {
+        "clean" => {
+            let [length, gap] = decimal(words);
+            let clean = face.clean_figures_of(length, gap);
+            let tell = |(ticks, frames)| format!(" {ticks} {frames}");
+            told(clean.refusal, (clean.ticks, clean.frames), tell)
+        }
         "find" => {
             let found = face.group_find(byte(words[0]));
             told(found.refusal, found.row, row)

@@ -21,7 +21,15 @@ pub fn eight(words: &[&str]) -> [u8; 8] {
 }
 
 pub fn hexadecimal<const COUNT: usize>(words: &[&str]) -> [u32; COUNT] {
-    let number = |word: &&str| u32::from_str_radix(word, 16).expect("a number");
+    numbers(words, 16)
+}
+
+pub fn decimal<const COUNT: usize>(words: &[&str]) -> [u32; COUNT] {
+    numbers(words, 10)
+}
+
+fn numbers<const COUNT: usize>(words: &[&str], radix: u32) -> [u32; COUNT] {
+    let number = |word: &&str| u32::from_str_radix(word, radix).expect("a number");
     let numbers: Vec<u32> = words.iter().map(number).collect();
     numbers.try_into().expect("so many numbers")
 }

@@ -1,7 +1,8 @@
-//! Rows of identifiers, version talk and parameter groups.
+//! Rows of the clean figures, identifiers, version talk and parameter groups.
 
 use std::hint::black_box;
 
+use compare::reference::clean;
 use compare::reference::groups::{self, Group, Reading};
 use compare::reference::identifier;
 use compare::reference::version::{self, Message, Outcome, Side, Talker, Version};
@@ -16,6 +17,24 @@ use crate::measure::{given, Row};
 const CHARGER: [Version; 4] = [[1, 1, 0], [2, 0, 0], [2, 0, 1], [3, 0, 0]];
 const IDENTIFIER: u32 = 0x0C38_F456;
 const VEHICLE: [Version; 3] = [[1, 1, 0], [2, 0, 1], [2, 1, 0]];
+
+/// Length and gap of the longest clean transfer.
+const LONGEST: (u32, u32) = (1785, 10);
+
+fn tells_figures(face: impl Around) -> impl FnMut() -> FlatCleanFigures {
+    given(LONGEST, move |&(length, gap)| {
+        face.clean_figures_of(length, gap)
+    })
+}
+
+fn figures_row() -> Row {
+    Row::new(
+        "clean figures, 1785 bytes",
+        tells_figures(Proved),
+        tells_figures(Behind),
+        given(LONGEST, |&(length, gap)| clean::figures(length, gap)),
+    )
+}
 
 fn joins(face: impl Around) -> impl FnMut() -> FlatIdentifierJoining {
     let parts = face.identifier_split(IDENTIFIER).parts;
@@ -328,6 +347,7 @@ fn group_rows() -> Vec<Row> {
 
 pub fn rows() -> Vec<Row> {
     [
+        vec![figures_row()],
         identifier_rows(),
         version_rows(),
         talker_rows(),

@@ -1,0 +1,104 @@
+-- What the receiver answers in a clean transfer of m, call by call: its wait is short of T, and each frame heard is the one
+-- that it expects.
+-- Assumes nothing.
+use Prim.Native.Nat.{ℕ, suc, _+_, _-_, _≤_, _<_}
+use mathlib.Core.Bool.{true}
+use mathlib.Core.Path.{_≡_, refl, ap, _∙_}
+use mathlib.Core.List.{List, _∷_}
+use native.Mathlib.Omega.{arith}
+use borrow.Author.Tests.{le-leb, lt-leb, le-ltb, eq-eqb, ne-eqb}
+use lib.ListN.{length, drop}
+use Rattle.frame.proofs.Laws.{increment-is, word-whole, length-fill, filler-ends}
+use Rattle.frame.specs.Choice.{pick}
+use Rattle.frame.specs.Count.{incrementOf, frameCountOf}
+use Rattle.frame.specs.Frames.{fillTo, partFrom, announcementOf, informationOf, lmAckOf, endOfAckOf}
+use Rattle.frame.specs.Reading.{parsedOf, readOf, namedOf, allFiller}
+use Rattle.frame.specs.Result.{accepted}
+use Rattle.receiver.proofs.View.{receiverIn}
+use Rattle.receiver.specs.Hear.{announceIdle, hearAnnouncement, ending, askingNext, expectingNext, stored, storing, informationOpen, hearInformation, hearNumbered, hearKind, hearRead, hearOf}
+use Rattle.receiver.specs.Tick.{tickOpen, tickPhase, tickOf}
+use Rattle.receiver.specs.Told.{Told, heard, silently, emitting, delivering}
+use Rattle.receiver.specs.Window.{windowOf, windowAck}
+use Rattle.receiver.specs.declared.Connection.{Connection}
+use Rattle.receiver.specs.declared.Phase.{Phase}
+use Rattle.receiver.specs.declared.Phase.the-variants.{Idle, Done, Open}
+use Rattle.receiver.specs.declared.Settings.{Settings}
+use Rattle.sender.specs.Tick.{informationAt}
+use Rattle.delivery.proofs.Stages.{framesOf}
+
+-- the connection of m, at this frame of a window; no miss is ever counted
+abbrev pub connected : List ℕ → ℕ → ℕ → ℕ → Connection
+connected m expected last wait =
+    record { frames = framesOf m; length = length m; expected = expected; last = last; wait = wait; misses = 0 }
+
+-- m has been delivered
+abbrev pub donePhase : List ℕ → Phase
+donePhase m = Done (record { frames = framesOf m; length = length m })
+
+-- the buffer, with the bytes of frame number in their places
+abbrev pub storedIn : List ℕ → ℕ → List ℕ → List ℕ
+storedIn m number buffer = storing buffer number (length m) (fillTo 7 (partFrom number m))
+
+module _ (rs : Settings) (m : List ℕ) where
+  pub hears-announcement : (buffer : List ℕ) → length buffer ≡ 1785 → 8 < length m → length m ≤ 1785 → length m ≤ rs .capacity
+      → hearOf (receiverIn rs Idle) (announcementOf (framesOf m) (length m)) buffer
+      ≡ heard (emitting (receiverIn rs (Open (connected m 1 (windowOf rs 1 (framesOf m)) 0))) (lmAckOf 1 (windowOf rs 1 (framesOf m)))) buffer
+  unfolding hearOf hearRead hearKind hearNumbered hearAnnouncement announceIdle readOf namedOf allFiller announcementOf pick
+  hears-announcement buffer held long fits space =
+      rw (
+        held,
+        word-whole (length m) (omega arith),
+        le-leb 9 (length m) long,
+        le-leb (length m) 1785 fits,
+        eq-eqb (framesOf m) (framesOf m) refl,
+        le-leb (length m) (rs .capacity) space,
+      )
+
+  pub waits-on : (expected last wait : ℕ) → wait + 1 < rs .timeout → rs .timeout ≤ 10000
+      → tickOf (receiverIn rs (Open (connected m expected last wait)))
+      ≡ silently (receiverIn rs (Open (connected m expected last (wait + 1))))
+  unfolding tickOf tickPhase tickOpen pick
+  waits-on expected last wait early small = rw (increment-is wait (omega arith), lt-leb (rs .timeout) (wait + 1) early)
+
+  -- a frame with message bytes is read as what it is
+  reads : (number : ℕ) → 1 ≤ number → readOf (informationAt number m) ≡ accepted (parsedOf (informationAt number m))
+  unfolding readOf namedOf informationOf pick
+  reads number low =
+      rw (ne-eqb number 0 (omega arith), filler-ends (number ∷ fillTo 7 (partFrom number m)) 8 (rw length-fill (omega arith)))
+
+  -- the frame that is expected is stored
+  hears-frame : (number last wait : ℕ) (buffer : List ℕ) → length buffer ≡ 1785 → 1 ≤ number → number ≤ framesOf m
+      → hearOf (receiverIn rs (Open (connected m number last wait))) (informationAt number m) buffer
+      ≡ heard (stored (receiverIn rs (Open (connected m number last wait))) (connected m number last wait)) (storedIn m number buffer)
+  unfolding hearOf hearRead hearKind hearNumbered hearInformation informationOpen informationOf pick
+  hears-frame number last wait buffer held low high =
+      rw (held, reads number low, ne-eqb number 0 (omega arith), le-ltb (framesOf m) number high, eq-eqb number number refl)
+
+  module _ (number last wait : ℕ) (buffer : List ℕ) (held : length buffer ≡ 1785) (low : 1 ≤ number) where
+    -- the message's last: it is delivered
+    pub hears-last : number ≡ framesOf m
+        → hearOf (receiverIn rs (Open (connected m number last wait))) (informationAt number m) buffer
+        ≡ heard (delivering (receiverIn rs (donePhase m)) (endOfAckOf (framesOf m) (length m)) (length m)) (storedIn m number buffer)
+    unfolding stored pick
+    hears-last whole = hears-frame number last wait buffer held low (omega arith) ∙ rw (eq-eqb number (framesOf m) whole)
+
+    -- the window's last: the next window is asked for
+    pub hears-window : number < framesOf m → number ≡ last
+        → hearOf (receiverIn rs (Open (connected m number last wait))) (informationAt number m) buffer
+        ≡ heard
+        (emitting (receiverIn rs (Open (connected m (number + 1) (windowOf rs (number + 1) (framesOf m)) 0)))
+        (windowAck (number + 1) (windowOf rs (number + 1) (framesOf m))))
+        (storedIn m number buffer)
+    unfolding stored pick
+    hears-window more full =
+        hears-frame number last wait buffer held low (omega arith)
+        ∙ rw (ne-eqb number (framesOf m) (omega arith), eq-eqb number last full)
+
+    -- another: the one after it is expected
+    pub hears-inside : number < framesOf m → number < last
+        → hearOf (receiverIn rs (Open (connected m number last wait))) (informationAt number m) buffer
+        ≡ heard (silently (receiverIn rs (Open (connected m (number + 1) last 0)))) (storedIn m number buffer)
+    unfolding stored pick
+    hears-inside more part =
+        hears-frame number last wait buffer held low (omega arith)
+        ∙ rw (ne-eqb number (framesOf m) (omega arith), ne-eqb number last (omega arith))
