@@ -38,7 +38,7 @@ module _ {st : Settings} {rs : receiver-settings.Settings} {m : List ℕ} (c : C
   -- ---- the promise, read off a stage
 
   -- a frame of the message is due before tick N × G is over
-  not-yet : {number ticks gap : ℕ} → number ≤ framesOf m → gap < st .gap → ticks + st .gap ≡ number * st .gap + gap
+  pub not-yet : {number ticks gap : ℕ} → number ≤ framesOf m → gap < st .gap → ticks + st .gap ≡ number * st .gap + gap
       → ticks < framesOf m * st .gap
   not-yet {number} within g t = let below = mul-le-mul-right (st .gap) within in omega arith
 
@@ -87,7 +87,7 @@ module _ {st : Settings} {rs : receiver-settings.Settings} {m : List ℕ} (c : C
   delivered-then (over _) e = refl
 
   -- the stage of a run
-  abbrev Stands : Past → Type 0
+  abbrev pub Stands : Past → Type 0
   Stands p = Stage st rs m (p .world) (turnIn (p .events)) (begunIn (p .events)) (reportsIn (p .events))
 
   promised : (p : Past) → Stands p → CleanPromise (figuresFor (length m) (st .gap)) m p
@@ -97,13 +97,13 @@ module _ {st : Settings} {rs : receiver-settings.Settings} {m : List ℕ} (c : C
   -- ---- along a list of clean calls
 
   -- a line that does as the plain one while a clean transfer goes on
-  record Like (line : Line) : Type 0 where
-    event : (w : World) (d : Call) → line w d .event ≡ stepOf w d .event
-    world : (w : World) (d : Call) {turn : Turn} {b : Begun} {reports : List sender.Outcome}
+  pub record Like (line : Line) : Type 0 where
+    pub event : (w : World) (d : Call) → line w d .event ≡ stepOf w d .event
+    pub world : (w : World) (d : Call) {turn : Turn} {b : Begun} {reports : List sender.Outcome}
         → Stage st rs m (stepOf w d .world) turn b reports
         → line w d .world ≡ stepOf w d .world
 
-  plain : Like stepOf
+  pub plain : Like stepOf
   plain = record { event = λ w d. refl; world = λ w d s. refl }
 
   -- at most one frame is on each line
@@ -122,7 +122,7 @@ module _ {st : Settings} {rs : receiver-settings.Settings} {m : List ℕ} (c : C
   at-64 = record { event = λ w d. refl; world = λ w d s. short-lines s }
 
   module _ (line : Line) (like : Like line) where
-    next-stands : (p : Past) (d : Call) → Stands p → Condition p d (line (p .world) d .event) → CleanCall p d (line (p .world) d .event)
+    pub next-stands : (p : Past) (d : Call) → Stands p → Condition p d (line (p .world) d .event) → CleanCall p d (line (p .world) d .event)
         → Stands (next line p d)
     unfolding turnIn begunIn reportsIn
     next-stands p d s a q =
@@ -202,7 +202,7 @@ module _ (line : Line)
       let first = begins (theorem.SenderMade.fits a) (theorem.ReceiverMade.fits b) c line l buffer size in
       says _ _ m c _ (run-stands c line l calls _ first q)
 
-  cleanly : Cleanly line Says
+  pub cleanly : Cleanly line Says
   cleanly gap timeout limit s e patience window capacity r d buffer size m f calls q =
       let a = sender-made gap timeout limit s e in
       let b = receiver-made patience window capacity r d in

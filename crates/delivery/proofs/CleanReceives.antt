@@ -2,12 +2,13 @@
 -- that it expects.
 -- Assumes nothing.
 use Prim.Native.Nat.{ℕ, suc, _+_, _-_, _≤_, _<_}
-use mathlib.Core.Bool.{true}
+use mathlib.Core.Bool.{true, false}
 use mathlib.Core.Path.{_≡_, refl, ap, _∙_}
 use mathlib.Core.List.{List, _∷_}
 use native.Mathlib.Omega.{arith}
 use borrow.Author.Tests.{le-leb, lt-leb, le-ltb, eq-eqb, ne-eqb}
 use lib.ListN.{length, drop}
+use Rattle.frame.proofs.Choice.{pick-elim}
 use Rattle.frame.proofs.Laws.{increment-is, word-whole, length-fill, filler-ends}
 use Rattle.frame.specs.Choice.{pick}
 use Rattle.frame.specs.Count.{incrementOf, frameCountOf}
@@ -17,7 +18,7 @@ use Rattle.frame.specs.Result.{accepted}
 use Rattle.receiver.proofs.View.{receiverIn}
 use Rattle.receiver.specs.Hear.{announceIdle, hearAnnouncement, ending, askingNext, expectingNext, stored, storing, informationOpen, hearInformation, hearNumbered, hearKind, hearRead, hearOf}
 use Rattle.receiver.specs.Tick.{tickOpen, tickPhase, tickOf}
-use Rattle.receiver.specs.Told.{Told, heard, silently, emitting, delivering}
+use Rattle.receiver.specs.Told.{Told, Heard, heard, silently, emitting, delivering}
 use Rattle.receiver.specs.Window.{windowOf, windowAck}
 use Rattle.receiver.specs.declared.Connection.{Connection}
 use Rattle.receiver.specs.declared.Phase.{Phase}
@@ -25,6 +26,7 @@ use Rattle.receiver.specs.declared.Phase.the-variants.{Idle, Done, Open}
 use Rattle.receiver.specs.declared.Settings.{Settings}
 use Rattle.sender.specs.Tick.{informationAt}
 use Rattle.delivery.proofs.Stages.{framesOf}
+use Rattle.transport.specs.Step.{wasRefused}
 
 -- the connection of m, at this frame of a window; no miss is ever counted
 abbrev pub connected : List ℕ → ℕ → ℕ → ℕ → Connection
@@ -75,6 +77,16 @@ module _ (rs : Settings) (m : List ℕ) where
       rw (held, reads number low, ne-eqb number 0 (omega arith), le-ltb (framesOf m) number high, eq-eqb number number refl)
 
   module _ (number last wait : ℕ) (buffer : List ℕ) (held : length buffer ≡ 1785) (low : 1 ≤ number) where
+    -- it is not refused
+    pub hears-accepted : number ≤ framesOf m
+        → wasRefused (hearOf (receiverIn rs (Open (connected m number last wait))) (informationAt number m) buffer .told .outcome)
+        ≡ false
+    unfolding stored
+    hears-accepted high =
+        let P : Told → Type 0 = λ t. wasRefused (t .outcome) ≡ false in
+        ap (λ (h : Heard). wasRefused (h .told .outcome)) (hears-frame number last wait buffer held low high)
+        ∙ pick-elim P _ (λ _. refl) (λ _. pick-elim P _ (λ _. refl) (λ _. refl))
+
     -- the message's last: it is delivered
     pub hears-last : number ≡ framesOf m
         → hearOf (receiverIn rs (Open (connected m number last wait))) (informationAt number m) buffer

@@ -201,12 +201,12 @@ module _ {st : Settings} {rs : receiver-settings.Settings} {m : List ℕ} (c : C
       subst⁻¹ (λ (a : sender.Told). After st rs m (bySender hearBack w (toSender f) [] a) turn b reports) e
 
   -- a window that is asked for has a frame and ends inside the message
-  window-inside : (number : ℕ) → 1 ≤ number → number ≤ framesOf m
+  pub window-inside : (number : ℕ) → 1 ≤ number → number ≤ framesOf m
       → (number ≤ windowOf rs number (framesOf m)) × (windowOf rs number (framesOf m) ≤ framesOf m)
   unfolding windowOf
   window-inside number low high = let some = c .window in (omega arith, omega arith)
 
-  some-frames : 1 ≤ framesOf m
+  pub some-frames : 1 ≤ framesOf m
   unfolding frameCountOf
   some-frames = let long = c .long in omega arith
 

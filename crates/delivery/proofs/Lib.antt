@@ -15,3 +15,4 @@ pub mod CleanReceives
 pub mod CleanStages
 pub mod CleanSteps
 pub mod Clean
+pub mod CleanGoesOn
