@@ -57,7 +57,8 @@ module _ {st : Settings} {rs : receiver-settings.Settings} {m : List ℕ} (c : C
   unreported n =
       record { one = notYet; early = λ _. refl; there = λ late e. absurd (n late e); delivered = λ e. absurd (nil≢cons e) }
 
-  keeps : {w : World} {turn : Turn} {b : Begun} {reports : List sender.Outcome} → Stage st rs m repeats w turn b reports → Keeps w b reports
+  keeps : {w : World} {turn : Turn} {b : Begun} {reports : List sender.Outcome}
+      → Stage st rs m repeats w turn b reports → Keeps w b reports
   keeps (opens _) = unreported (λ _ e. cons≢nil (e .0))
   keeps (asks _ _ _ _ _ _) = unreported (λ _ e. cons≢nil (e .1))
   keeps (sends i _ g _ t _ _) =

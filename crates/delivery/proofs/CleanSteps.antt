@@ -17,7 +17,7 @@ use Rattle.sender.specs.Tick.{tickOf}
 use Rattle.sender.specs.Told as sender
 use Rattle.sender.specs.declared.Phase.{Phase}
 use Rattle.sender.specs.declared.Settings.{Settings}
-use Rattle.delivery.proofs.CleanStages.{Clear, announced, informed, Stage, After}
+use Rattle.delivery.proofs.CleanStages.{listens, Clear, announced, informed, Stage, After}
 use Rattle.delivery.proofs.Sends.{tick-taken}
 use Rattle.delivery.specs.Clean.{Turn, SenderMayTick, Empty, turnIn, CleanCall, reportsIn}
 use Rattle.delivery.specs.Demand3.{LentMessage, Condition}
@@ -30,7 +30,8 @@ use Rattle.delivery.proofs.CleanHears.{further-none, stays, hear-forwar
 use Rattle.delivery.proofs.CleanTicks.{tick-receiver, tick-lent}
 
 -- a hearing that is refused
-refused-elim : {rs : receiver-settings.Settings} {f : Frame} {lent : List ℕ} {q : receiver-phase.Phase} (P : receiver.Heard → Type 0) {h : receiver.Heard}
+refused-elim : {rs : receiver-settings.Settings} {f : Frame} {lent : List ℕ} {q : receiver-phase.Phase}
+    (P : receiver.Heard → Type 0) {h : receiver.Heard}
     → ((number : ℕ) → P (receiver.heard (receiver.refusing (receiverIn rs q) number) lent))
     → Hears rs f lent q h
     → not (wasRefused (h .told .outcome)) ≡ false
@@ -81,7 +82,8 @@ module _ {st : Settings} {rs : receiver-settings.Settings} {m : List ℕ} (c : C
   -- ---- calls that are refused
 
   module _ (w : World) (turn : Turn) (b : Begun) (reports : List sender.Outcome) (s : At w turn b reports) (l : List ℕ) where
-    refuses-begin : (number : ℕ) → Then (bySender (begin l) w nobody (w .back) (sender.refusing (w .sender) number)) turn b reports
+    refuses-begin : (number : ℕ)
+        → Then (bySender (begin l) w nobody (w .back) (sender.refusing (w .sender) number)) turn b reports
     unfolding begunAfter
     refuses-begin number = record { stage = rw (further-none c repeats b, append-nil (w .forward)) s }
 
@@ -113,7 +115,7 @@ module _ {st : Settings} {rs : receiver-settings.Settings} {m : List ℕ} (c : C
   repeat-unheard : (w : World) {turn : Turn} {b : Begun} {reports : List sender.Outcome} (l : List ℕ) (fs : List Frame)
       → w .forward ≡ fs
       → At w turn b reports
-      → listened (givenForward still (repeatForward l) w l fs .event .given) (givenForward still (repeatForward l) w l fs .event .receiver) ≡ false
+      → listens (givenForward still (repeatForward l) w l fs) ≡ false
       → Then (givenForward still (repeatForward l) w l fs) turn b reports
   unfolding givenForward begunAfter
   repeat-unheard w l [] e s d = stays c repeats (repeatForward l) refl s
@@ -125,17 +127,18 @@ module _ {st : Settings} {rs : receiver-settings.Settings} {m : List ℕ} (c : C
   -- a frame of forward that is repeated, where that is allowed
   repeat-forward : (w : World) {turn : Turn} {b : Begun} {reports : List sender.Outcome} (l : List ℕ) → repeats ≡ true
       → At w turn b reports
-      → (listened (givenForward still (repeatForward l) w l (w .forward) .event .given) (givenForward still (repeatForward l) w l (w .forward) .event .receiver) ≡ true
-      → l ≡ w .buffer)
+      → (listens (givenForward still (repeatForward l) w l (w .forward)) ≡ true → l ≡ w .buffer)
       → Then (givenForward still (repeatForward l) w l (w .forward)) turn b reports
   repeat-forward w {turn} {b} {reports} l may s lent = go _ refl
     where
       x : Stepped
       x = givenForward still (repeatForward l) w l (w .forward)
 
-      go : (hears : Bool) → listened (x .event .given) (x .event .receiver) ≡ hears → Then x turn b reports
+      go : (hears : Bool) → listens x ≡ hears → Then x turn b reports
       go false e = repeat-unheard w l (w .forward) refl s e
-      go true e = hear-forward c repeats still may (repeatForward l) refl l s lent (heard-listens (x .event .given) (x .event .receiver) e)
+      go true e =
+          hear-forward c repeats still may (repeatForward l) refl l s lent
+          (heard-listens (x .event .given) (x .event .receiver) e)
 
   -- what is done to an empty list
   lose-forward : (w : World) {turn : Turn} {b : Begun} {reports : List sender.Outcome} → w .forward ≡ []
@@ -170,7 +173,8 @@ module _ {st : Settings} {rs : receiver-settings.Settings} {m : List ℕ} (c : C
   step p receiverTick s a q = tick-receiver c repeats s (q .0) (q .1)
   step p (hearForward l) s a q = hear-forward c repeats gone tt (hearForward l) refl l s a q
   step p (repeatForward l) s a q =
-      unless-elim repeats q (λ may. repeat-forward (p .world) l may s a) (λ e. repeat-unheard (p .world) l (p .world .forward) refl s e)
+      unless-elim repeats q (λ may. repeat-forward (p .world) l may s a) (λ e. repeat-unheard (p .world) l
+      (p .world .forward) refl s e)
   step p loseForward s a q = lose-forward (p .world) q s
   step p hearBack s a q = hear-back c repeats gone tt hearBack refl s
   step p repeatBack s a q =

@@ -11,16 +11,14 @@ use lib.Dec.{leb}
 use Rattle.frame.specs.Choice.{pick}
 use Rattle.receiver.specs.Tick as ticking
 use Rattle.receiver.specs.Told as receiver
-use Rattle.receiver.specs.declared.Phase.the-variants as at
 use Rattle.receiver.specs.declared.Settings as receiver-settings
 use Rattle.sender.specs.Tick.{tickPhase, lentTo, tickOf}
 use Rattle.sender.specs.Told as sender
-use Rattle.sender.specs.declared.Phase.the-variants.{Sending}
 use Rattle.sender.specs.declared.Settings.{Settings}
-use Rattle.delivery.proofs.CleanReceives.{connected, waits-on}
-use Rattle.delivery.proofs.CleanSends.{streamed, ticks-on, ticks-frame}
+use Rattle.delivery.proofs.CleanReceives.{waits-on}
+use Rattle.delivery.proofs.CleanSends.{ticks-on, ticks-frame}
 use Rattle.delivery.proofs.CleanStages as stages
-use Rattle.delivery.proofs.CleanStages.{Clear, Paced, Filled, Inside, worldAt, Passed, announced, informed, Answered, Stage, opens, asks, sends, sent, ends, over, After}
+use Rattle.delivery.proofs.CleanStages.{Clear, Paced, Filled, Inside, sendsWorld, Passed, announced, informed, Answered, Stage, opens, asks, sends, sent, ends, over, After}
 use Rattle.delivery.proofs.Stages.{framesOf}
 use Rattle.delivery.specs.Clean.{Turn, anyone, senders, receivers, ReceiverMayTick, SenderMayTick, Empty}
 use Rattle.delivery.specs.Demand3.{LentMessage}
@@ -45,14 +43,16 @@ module _ {st : Settings} {rs : receiver-settings.Settings} {m : List ℕ} (c : C
       → gap < st .gap
       → wait ≤ gap
       → ticks + st .gap ≡ number * st .gap + gap
-      → (let w = worldAt st rs m (Sending (streamed m ticks start number last gap)) (at.Open (connected m number last wait)) [] [] buffer in
-      Then (byReceiver receiverTick w nobody [] (receiver.heard (ticking.tickOf (w .receiver)) buffer)) turn (since m ticks 0 []) [])
+      → (let w = sendsWorld st rs m ticks start number last gap wait [] [] buffer in
+      Then (byReceiver receiverTick w nobody [] (receiver.heard (ticking.tickOf (w .receiver)) buffer)) turn
+      (since m ticks 0 []) [])
   unfolding begunAfter
   waits {turn} {ticks} {start} {number} {last} {gap} {wait} {buffer} i f g p t =
-      let w = worldAt st rs m (Sending (streamed m ticks start number last gap)) (at.Open (connected m number last wait)) [] [] buffer in
+      let w = sendsWorld st rs m ticks start number last gap wait [] [] buffer in
       let patient = c .patient in
       let longer : wait + 1 ≤ gap + 1 = omega arith in
-      subst⁻¹ (λ (a : receiver.Told). Then (byReceiver receiverTick w nobody [] (receiver.heard a buffer)) turn (since m ticks 0 []) [])
+      subst⁻¹ (λ (a : receiver.Told). Then (byReceiver receiverTick w nobody [] (receiver.heard a buffer)) turn
+      (since m ticks 0 []) [])
       (waits-on rs m number last wait (omega arith) (c .timeouts))
       (record { stage = rw add-zero (sends i f g longer t stages.Passed.none stages.Answered.none) })
 
@@ -89,13 +89,13 @@ module _ {st : Settings} {rs : receiver-settings.Settings} {m : List ℕ} (c : C
       → gap < st .gap
       → wait ≤ gap + 1
       → ticks + st .gap ≡ number * st .gap + gap
-      → (let w = worldAt st rs m (Sending (streamed m ticks start number last gap)) (at.Open (connected m number last wait)) [] [] buffer in
+      → (let w = sendsWorld st rs m ticks start number last gap wait [] [] buffer in
       Then (bySender (senderTick m) w nobody [] (tickOf (w .sender) m)) turn (since m ticks 0 []) [])
   unfolding begunAfter
   streams {turn} {ticks} {start} {number} {last} {gap} {wait} {buffer} i f g p t = go (leb (st .gap) (gap + 1)) refl
     where
       w : World
-      w = worldAt st rs m (Sending (streamed m ticks start number last gap)) (at.Open (connected m number last wait)) [] [] buffer
+      w = sendsWorld st rs m ticks start number last gap wait [] [] buffer
 
       Told : sender.Told → Type 0
       Told a = Then (bySender (senderTick m) w nobody [] a) turn (since m ticks 0 []) []
@@ -138,7 +138,7 @@ module _ {st : Settings} {rs : receiver-settings.Settings} {m : List ℕ} (c : C
   tick-lent l (opens size) lent (e, _) may = absurd (cons≢nil e)
   tick-lent l (asks a i f t p q) lent (_, e) may = absurd (cons≢nil e)
   tick-lent l (sends {turn} {ticks} {start} {number} {last} {gap} {wait} {buffer = buffer} i f g p t stages.Passed.none stages.Answered.none) lent e may =
-      let w = worldAt st rs m (Sending (streamed m ticks start number last gap)) (at.Open (connected m number last wait)) [] [] buffer in
+      let w = sendsWorld st rs m ticks start number last gap wait [] [] buffer in
       subst⁻¹ (λ (l : List ℕ). Then (bySender (senderTick l) w nobody [] (tickOf (w .sender) l)) turn (since m ticks 0 []) [])
       (lent refl)
       (streams i f g (senders-turn turn gap wait may p) t)
