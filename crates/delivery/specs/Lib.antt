@@ -6,3 +6,4 @@ pub mod Capped
 pub mod Clean
 pub mod Repeats
 pub mod Example
+pub mod CleanExample
