@@ -19,7 +19,7 @@ use Rattle.sender.specs.declared.Phase.{Phase}
 use Rattle.sender.specs.declared.Settings.{Settings}
 use Rattle.delivery.proofs.CleanStages.{listens, Clear, announced, informed, Stage, After}
 use Rattle.delivery.proofs.Sends.{tick-taken}
-use Rattle.delivery.specs.Clean.{Turn, SenderMayTick, Empty, turnIn, CleanCall, reportsIn}
+use Rattle.delivery.specs.Clean.{Turn, Empty, turnIn, CleanCall, reportsIn}
 use Rattle.delivery.specs.Demand3.{LentMessage, Condition}
 use Rattle.delivery.specs.Run.{Past}
 use Rattle.delivery.specs.Seen.{taken, Begun, begunAfter, begunIn, listened}
@@ -63,7 +63,7 @@ unless-elim false u f g = g u
 -- what is asked of a call
 abbrev pub Allowed : Bool → Past → Call → Event → Type 0
 Allowed repeats p (begin l) e = CleanCall p (begin l) e
-Allowed repeats p (senderTick l) e = CleanCall p (senderTick l) e
+Allowed repeats p (senderTick l) e = taken (e .sender) ≡ true → Empty (p .world)
 Allowed repeats p receiverTick e = CleanCall p receiverTick e
 Allowed repeats p (hearForward l) e = CleanCall p (hearForward l) e
 Allowed repeats p (repeatForward l) e = Unless repeats (CleanCall p (repeatForward l) e)
@@ -103,13 +103,13 @@ module _ {st : Settings} {rs : receiver-settings.Settings} {m : List ℕ} (c : C
     refuses-tick = record { stage = rw (further-none c repeats b, append-nil (w .forward)) s }
 
     -- any tick of the sender
-    tick-sender : (taken (tickOf (w .sender) l .outcome) ≡ true → LentMessage b l × Empty w × SenderMayTick turn)
+    tick-sender : (taken (tickOf (w .sender) l .outcome) ≡ true → LentMessage b l × Empty w)
         → Then (bySender (senderTick l) w nobody (w .back) (tickOf (w .sender) l)) turn b reports
     tick-sender d =
         let Q : sender.Told → Type 0 = λ a. Then (bySender (senderTick l) w nobody (w .back) a) turn b reports in
         tick-elim (λ (a : sender.Told). (taken (a .outcome) ≡ true → Q a) → Q a) (w .sender) l (λ _. refuses-tick)
         (λ k. k (tick-taken (w .sender) (w .sender .phase) l))
-        (λ t. let (lent, e, may) = d t in tick-lent c repeats l s lent e may)
+        (λ t. let (lent, e) = d t in tick-lent c repeats l s lent e)
 
   -- a frame of forward that is given and refused stays
   repeat-unheard : (w : World) {turn : Turn} {b : Begun} {reports : List sender.Outcome} (l : List ℕ) (fs : List Frame)
@@ -169,7 +169,7 @@ module _ {st : Settings} {rs : receiver-settings.Settings} {m : List ℕ} (c : C
       → Then (stepOf (p .world) d) (turnIn (p .events)) (begunIn (p .events)) (reportsIn (p .events))
   unfolding stepOf
   step p (begin l) s a q = begin-refused (p .world) _ _ _ s l q
-  step p (senderTick l) s a q = tick-sender (p .world) _ _ _ s l (λ t. let (e, may) = q t in (a t, e, may))
+  step p (senderTick l) s a q = tick-sender (p .world) _ _ _ s l (λ t. (a t, q t))
   step p receiverTick s a q = tick-receiver c repeats s (q .0) (q .1)
   step p (hearForward l) s a q = hear-forward c repeats gone tt (hearForward l) refl l s a q
   step p (repeatForward l) s a q =
