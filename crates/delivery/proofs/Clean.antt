@@ -28,7 +28,7 @@ use Rattle.delivery.proofs.Theorem as theorem
 use Rattle.delivery.proofs.Theorem.{SenderMade, sender-made, ReceiverMade, receiver-made}
 use Rattle.delivery.specs.Clean.{Turn, turnIn, Empty, CleanCall, CallsMeet, AtMostOnce, notYet, once, reportsIn, ticksSince, deliveredSince, CleanPromise, Fits, Cleanly, Clean, CappedClean}
 use Rattle.delivery.specs.Demand3.{Condition}
-use Rattle.delivery.specs.Repeats.{RepeatedCall, FitsReceiver, CleanRepeated}
+use Rattle.delivery.specs.Lenient.{LenientCall, LenientFits, LenientClean}
 use Rattle.delivery.specs.Run.{Line, Past, fresh, next, runOf}
 use Rattle.delivery.specs.Seen.{Begun, begunAfter, begunIn}
 use Rattle.transport.specs.Capped.{capped, cappedStep}
@@ -57,7 +57,8 @@ module _ {st : Settings} {rs : receiver-settings.Settings} {m : List ℕ} (c : C
   unreported n =
       record { one = notYet; early = λ _. refl; there = λ late e. absurd (n late e); delivered = λ e. absurd (nil≢cons e) }
 
-  keeps : {w : World} {turn : Turn} {b : Begun} {reports : List sender.Outcome} → Stage st rs m repeats w turn b reports → Keeps w b reports
+  keeps : {w : World} {turn : Turn} {b : Begun} {reports : List sender.Outcome}
+      → Stage st rs m repeats w turn b reports → Keeps w b reports
   keeps (opens _) = unreported (λ _ e. cons≢nil (e .0))
   keeps (asks _ _ _ _ _ _) = unreported (λ _ e. cons≢nil (e .1))
   keeps (sends i _ g _ t _ _) =
@@ -133,7 +134,7 @@ clear : {gap timeout limit patience window capacity : ℕ} {s : Sender} {r : Rec
     → ReceiverMade patience window capacity r
     → of-sender.Reachable s
     → of-receiver.Reachable r
-    → FitsReceiver gap timeout limit patience capacity m
+    → LenientFits gap timeout limit patience capacity m
     → Clear (s .settings) (r .settings) m
 unfolding figuresFor
 clear (theorem.SenderMade.fits _) (theorem.ReceiverMade.fits _) s r f =
@@ -195,7 +196,7 @@ module _ (repeats : Bool) (line : Line)
       let first = begins (theorem.SenderMade.fits a) (theorem.ReceiverMade.fits b) c repeats line l buffer size in
       says _ _ m c _ (run-stands c repeats line l allows calls _ first q)
 
-  pub cleanly : Cleanly line FitsReceiver Asked Says
+  pub cleanly : Cleanly line LenientFits Asked Says
   cleanly gap timeout limit s e patience window capacity r d buffer size m f calls q =
       let a = sender-made gap timeout limit s e in
       let b = receiver-made patience window capacity r d in
@@ -204,7 +205,7 @@ module _ (repeats : Bool) (line : Line)
 
 -- E1's conditions ask for more: of the settings the sender's T
 pub fitting : (line : Line) (Asked : Past → Call → Event → Type 0) (Says : Figures → List ℕ → Past → Type 0)
-    → Cleanly line FitsReceiver Asked Says
+    → Cleanly line LenientFits Asked Says
     → Cleanly line Fits Asked Says
 fitting line Asked Says h gap timeout limit s e patience window capacity r d buffer size m f =
     h gap timeout limit s e patience window capacity r d buffer size m
@@ -213,7 +214,7 @@ fitting line Asked Says h gap timeout limit s e patience window capacity r d buf
 -- a clean call is allowed, with or without repeats
 pub clean-allowed : (p : Past) (d : Call) (e : Event) → CleanCall p d e → Allowed false p d e
 clean-allowed p (begin l) e q = q
-clean-allowed p (senderTick l) e q = q
+clean-allowed p (senderTick l) e q = λ t. q t .0
 clean-allowed p receiverTick e q = q
 clean-allowed p (hearForward l) e q = q
 clean-allowed p (repeatForward l) e q = q
@@ -222,16 +223,16 @@ clean-allowed p hearBack e q = q
 clean-allowed p repeatBack e q = q
 clean-allowed p loseBack e q = q
 
-repeated-allowed : (p : Past) (d : Call) (e : Event) → RepeatedCall p d e → Allowed true p d e
-repeated-allowed p (begin l) e q = q
-repeated-allowed p (senderTick l) e q = q
-repeated-allowed p receiverTick e q = q
-repeated-allowed p (hearForward l) e q = q
-repeated-allowed p (repeatForward l) e q = q
-repeated-allowed p loseForward e q = q
-repeated-allowed p hearBack e q = q
-repeated-allowed p repeatBack e q = q
-repeated-allowed p loseBack e q = q
+lenient-allowed : (p : Past) (d : Call) (e : Event) → LenientCall p d e → Allowed true p d e
+lenient-allowed p (begin l) e q = q
+lenient-allowed p (senderTick l) e q = q
+lenient-allowed p receiverTick e q = q
+lenient-allowed p (hearForward l) e q = q
+lenient-allowed p (repeatForward l) e q = q
+lenient-allowed p loseForward e q = q
+lenient-allowed p hearBack e q = q
+lenient-allowed p repeatBack e q = q
+lenient-allowed p loseBack e q = q
 
 pub clean : Clean
 clean =
@@ -243,6 +244,6 @@ capped-clean =
     fitting cappedStep CleanCall CleanPromise
     (cleanly false cappedStep (λ st rs m c. at-64 c) CleanCall clean-allowed CleanPromise (λ st rs m c. promised c false))
 
-pub clean-repeated : CleanRepeated
-clean-repeated =
-    cleanly true stepOf (λ st rs m c. plain c true) RepeatedCall repeated-allowed CleanPromise (λ st rs m c. promised c true)
+pub lenient-clean : LenientClean
+lenient-clean =
+    cleanly true stepOf (λ st rs m c. plain c true) LenientCall lenient-allowed CleanPromise (λ st rs m c. promised c true)

@@ -17,7 +17,6 @@ use Rattle.receiver.specs.Hear as hearing
 use Rattle.receiver.specs.Tick as ticking
 use Rattle.receiver.specs.Told as receiver
 use Rattle.receiver.specs.Window.{windowAck}
-use Rattle.receiver.specs.declared.Phase.the-variants as at
 use Rattle.receiver.specs.declared.Settings as receiver-settings
 use Rattle.sender.specs.Hear.{hearOf}
 use Rattle.sender.specs.Told as sender
@@ -26,9 +25,9 @@ use Rattle.sender.specs.declared.Phase.the-variants.{Sending}
 use Rattle.sender.specs.declared.Settings.{Settings}
 use Rattle.sender.specs.declared.Streamed.{Streamed}
 use Rattle.delivery.proofs.Clean.{plain, next-stands, not-yet, cleanly, fitting, clean-allowed}
-use Rattle.delivery.proofs.CleanReceives.{connected, hears-announcement, hears-accepted, waits-on}
-use Rattle.delivery.proofs.CleanSends.{streamed, hears-ack, hears-end}
-use Rattle.delivery.proofs.CleanStages.{Clear, Paced, Inside, worldAt, endOfAck, cleanReport, none-kept, no-copies, none-passed, none-answered, Stage, opens, asks, sends, sent, ends, over}
+use Rattle.delivery.proofs.CleanReceives.{hears-announcement, hears-accepted, waits-on}
+use Rattle.delivery.proofs.CleanSends.{hears-ack, hears-end}
+use Rattle.delivery.proofs.CleanStages.{Clear, Paced, Inside, sendsWorld, endOfAck, cleanReport, none-kept, no-copies, none-passed, none-answered, Stage, opens, asks, sends, sent, ends, over}
 use Rattle.delivery.proofs.CleanSteps.{Stands}
 use Rattle.delivery.proofs.Sends.{tick-taken}
 use Rattle.delivery.proofs.Stages.{senderIn, framesOf}
@@ -105,19 +104,21 @@ module _ {st : Settings} {rs : receiver-settings.Settings} {m : List ℕ} (c : C
       → forward ≡ []
       → back ≡ []
       → Advice
-      (worldAt st rs m (Sending (streamed m ticks start number last gap)) (at.Open (connected m number last wait)) forward back buffer)
+      (sendsWorld st rs m ticks start number last gap wait forward back buffer)
       turn (since m ticks 0 []) []
   advice-sends anyone i g p t d e = tick-sender (d, e) tt refl (due i g t) (lent-taken _ refl)
   advice-sends senders i g p t d e = tick-sender (d, e) tt refl (due i g t) (lent-taken _ refl)
   advice-sends receivers {number = number} {last} {gap} {wait} i g p t d e =
       let patient = c .patient in
-      tick-receiver (d, e) refl (ap (λ (a : receiver.Told). a .emits) (waits-on rs m number last wait (omega arith) (c .timeouts)))
+      tick-receiver (d, e) refl (ap (λ (a : receiver.Told). a .emits)
+      (waits-on rs m number last wait (omega arith) (c .timeouts)))
 
   advice : {w : World} {turn : Turn} {b : Begun} {reports : List sender.Outcome} → Stage st rs m false w turn b reports
       → Advice w turn b reports
   advice (opens {buffer} size) =
       hear-forward refl
-      (ap (λ (h : receiver.Heard). wasRefused (h .told .outcome)) (hears-announcement rs m buffer size (c .long) (c .fits) (c .space)))
+      (ap (λ (h : receiver.Heard). wasRefused (h .told .outcome))
+      (hears-announcement rs m buffer size (c .long) (c .fits) (c .space)))
   advice (asks {number = number} {last} a i f t p q) =
       hear-back (none-passed st rs m p) (ap (λ (fs : List Frame). windowAck number last ∷ fs) (none-answered st rs m q))
       (ap (λ (a : sender.Told). a .emits) (hears-ack st m a (i .first) (i .inside) (i .final)))
@@ -147,7 +148,8 @@ module _ {st : Settings} {rs : receiver-settings.Settings} {m : List ℕ} (c : C
   same-ticks (since message ticks reports deliveries) n ds = add-zero ticks
 
   -- a frame has been heard by the receiver
-  nearer-forward : (p : Past) {f : Frame} → p .world .forward ≡ f ∷ [] → leftOf (next stepOf p (hearForward (p .world .buffer))) < leftOf p
+  nearer-forward : (p : Past) {f : Frame} → p .world .forward ≡ f ∷ []
+      → leftOf (next stepOf p (hearForward (p .world .buffer))) < leftOf p
   unfolding leftOf stepOf givenForward turnIn begunIn begunAfter
   nearer-forward p {f} e =
       let h = hearing.hearOf (p .world .receiver) f (p .world .buffer) .told in
@@ -164,7 +166,8 @@ module _ {st : Settings} {rs : receiver-settings.Settings} {m : List ℕ} (c : C
       rw (e, d, q, same-ticks (begunIn (p .events))) (omega arith)
 
   -- the receiver has ticked, which emits nothing
-  nearer-receiver : (p : Past) → Empty (p .world) → turnIn (p .events) ≡ receivers → ticking.tickOf (p .world .receiver) .emits ≡ false
+  nearer-receiver : (p : Past) → Empty (p .world) → turnIn (p .events) ≡ receivers
+      → ticking.tickOf (p .world .receiver) .emits ≡ false
       → leftOf (next stepOf p receiverTick) < leftOf p
   unfolding leftOf stepOf turnIn begunIn begunAfter
   nearer-receiver p (d, e) t q = rw (d, e, t, q, same-ticks (begunIn (p .events))) (omega arith)
@@ -175,7 +178,8 @@ module _ {st : Settings} {rs : receiver-settings.Settings} {m : List ℕ} (c : C
   rank-turn senders may = refl
   rank-turn receivers may = absurd may
 
-  nearer-sender : (p : Past) {ticks : ℕ} → Empty (p .world) → SenderMayTick (turnIn (p .events)) → begunIn (p .events) ≡ since m ticks 0 []
+  nearer-sender : (p : Past) {ticks : ℕ} → Empty (p .world) → SenderMayTick (turnIn (p .events))
+      → begunIn (p .events) ≡ since m ticks 0 []
       → ticks < framesOf m * st .gap
       → taken (tickOf (p .world .sender) m .outcome) ≡ true
       → leftOf (next stepOf p (senderTick m)) < leftOf p
@@ -207,7 +211,10 @@ module _ {st : Settings} {rs : receiver-settings.Settings} {m : List ℕ} (c : C
       on : (d : Call) → Condition p d (stepOf (p .world) d .event) → CleanCall p d (stepOf (p .world) d .event)
           → leftOf (next stepOf p d) < leftOf p
           → Goes p
-      on d a q nearer = carried p d a q (rest (next stepOf p d) (next-stands c false stepOf (plain c false) p d s a (clean-allowed p d _ q)) nearer)
+      on d a q nearer =
+          carried p d a q
+          (rest (next stepOf p d)
+          (next-stands c false stepOf (plain c false) p d s a (clean-allowed p d _ q)) nearer)
 
       go : Advice (p .world) (turnIn (p .events)) (begunIn (p .events)) (reportsIn (p .events)) → Goes p
       go (done e) = record { calls = []; clean = tt; reported = e }

@@ -33,11 +33,11 @@ use Rattle.sender.specs.declared.Settings.{Settings}
 use Rattle.delivery.proofs.CleanReceives.{connected, donePhase, storedIn, hears-announcement, hears-announcement-again, hears-passed, hears-delivered, hears-last, hears-window, hears-inside}
 use Rattle.delivery.proofs.CleanSends.{announcedPhase, streamed, awaitedPhase, outPhase, opening, window, again, hears-ack, hears-end, hears-idle}
 use Rattle.delivery.proofs.CleanStages as stages
-use Rattle.delivery.proofs.CleanStages.{Clear, Paced, Filled, Inside, worldAt, announcement, endOfAck, Kept, kept, Copies, Passed, announced, informed, Answered, Stage, opens, asks, sends, sent, ends, over, After}
+use Rattle.delivery.proofs.CleanStages.{listens, Clear, Paced, Filled, Inside, worldAt, announcement, endOfAck, Kept, kept, Copies, Passed, announced, informed, Answered, Stage, opens, asks, sends, sent, ends, over, After}
 use Rattle.delivery.proofs.Pieces.{next-stored, last-stored}
 use Rattle.delivery.proofs.Stages.{senderIn, framesOf}
 use Rattle.delivery.specs.Clean.{Turn, anyone, senders, receivers, reportsOf}
-use Rattle.delivery.specs.Seen.{senderReports, deliveriesBy, Begun, since, further, begunAfter, listened, other, sortOf}
+use Rattle.delivery.specs.Seen.{senderReports, deliveriesBy, Begun, since, further, begunAfter, other, sortOf}
 use Rattle.transport.specs.Step.{wasRefused, Stepped, unheard, bySender, byReceiver, Rest, gone, still, leaving, givenForward, givenBack}
 use Rattle.transport.specs.World.{World, Call, toReceiver, toSender}
 
@@ -91,7 +91,8 @@ module _ {st : Settings} {rs : receiver-settings.Settings} {m : List ℕ} (c : C
   -- ---- a hearing
 
   -- the stage after a hearing of the receiver, and of the sender
-  receiver-heard : (w : World) (d : Call) (f : Frame) (left : List Frame) (h : receiver.Heard) {turn : Turn} {b : Begun} {reports : List sender.Outcome}
+  receiver-heard : (w : World) (d : Call) (f : Frame) (left : List Frame) (h : receiver.Heard) {turn : Turn}
+      {b : Begun} {reports : List sender.Outcome}
       → sortOf d ≡ other
       → At (byReceiver d w (toReceiver f) left h .world) turn
       (further b 0 0 (deliveriesBy (h .told .outcome) (h .told .bytes) (h .buffer))) reports
@@ -99,9 +100,11 @@ module _ {st : Settings} {rs : receiver-settings.Settings} {m : List ℕ} (c : C
   unfolding begunAfter
   receiver-heard w d f left h o s = record { stage = rw o s }
 
-  sender-heard : (w : World) (d : Call) (f : Frame) (left : List Frame) (a : sender.Told) {turn : Turn} {b : Begun} {reports : List sender.Outcome}
+  sender-heard : (w : World) (d : Call) (f : Frame) (left : List Frame) (a : sender.Told) {turn : Turn} {b : Begun}
+      {reports : List sender.Outcome}
       → sortOf d ≡ other
-      → At (bySender d w (toSender f) left a .world) turn (further b 0 (senderReports (a .outcome)) []) (reportsOf (a .outcome) ++ reports)
+      → At (bySender d w (toSender f) left a .world) turn (further b 0 (senderReports (a .outcome)) [])
+      (reportsOf (a .outcome) ++ reports)
       → Then (bySender d w (toSender f) left a) turn b reports
   unfolding begunAfter
   sender-heard w d f left a o s = record { stage = rw o s }
@@ -221,9 +224,11 @@ module _ {st : Settings} {rs : receiver-settings.Settings} {m : List ℕ} (c : C
       hears-full : number < framesOf m → number ≡ last → Answers
       unfolding pick
       hears-full more full =
-          answer out at-number [] buffer next-one l same (hears-window rs m number last wait buffer (f .size) (i .first) more full)
+          answer out at-number [] buffer next-one l same (hears-window rs m number last wait buffer (f .size)
+          (i .first) more full)
           (rw (le-leb last number (omega arith), add-zero)
-          (asks (window (i .asked)) (window-inside (number + 1) (omega arith) (omega arith)) (filled number buffer (i .first) more f)
+          (asks (window (i .asked)) (window-inside (number + 1) (omega arith) (omega arith))
+          (filled number buffer (i .first) more f)
           (next-gap number t) (passed-next k may (i .first)) stages.Answered.none))
 
       -- or another
@@ -233,7 +238,8 @@ module _ {st : Settings} {rs : receiver-settings.Settings} {m : List ℕ} (c : C
           let old = i .asked in
           let inner : Inside m start (number + 1) last =
           record { first = omega arith; asked = omega arith; inside = omega arith; final = i .final } in
-          answer out at-number [] buffer next-one l same (hears-inside rs m number last wait buffer (f .size) (i .first) more part)
+          answer out at-number [] buffer next-one l same (hears-inside rs m number last wait buffer (f .size)
+          (i .first) more part)
           (rw (lt-leb last number part, add-zero)
           (sends inner (filled number buffer (i .first) more f) (c .gap) (at-once receivers) (next-gap number t)
           (passed-next k may (i .first)) stages.Answered.none))
@@ -254,8 +260,7 @@ module _ {st : Settings} {rs : receiver-settings.Settings} {m : List ℕ} (c : C
 
     pub hear-forward : {w : World} {turn : Turn} {b : Begun} {reports : List sender.Outcome} (l : List ℕ)
         → At w turn b reports
-        → (listened (givenForward k d w l (w .forward) .event .given) (givenForward k d w l (w .forward) .event .receiver) ≡ true
-        → l ≡ w .buffer)
+        → (listens (givenForward k d w l (w .forward)) ≡ true → l ≡ w .buffer)
         → wasRefused (givenForward k d w l (w .forward) .event .receiver) ≡ false
         → Then (givenForward k d w l (w .forward)) turn b reports
     unfolding givenForward
@@ -273,7 +278,8 @@ module _ {st : Settings} {rs : receiver-settings.Settings} {m : List ℕ} (c : C
     hear-forward l (asks {last = last} {p} {back = back} {buffer} a i f t (informed {before = before} e low) q) lent fine =
         let inside = i .inside in
         let final = i .final in
-        answer p (at.Open (connected m (before + 1) last 0)) (windowAck (before + 1) last ∷ back) buffer (informationAt before m) l
+        answer p (at.Open (connected m (before + 1) last 0)) (windowAck (before + 1) last ∷ back) buffer
+        (informationAt before m) l
         (lent (ap not fine)) (hears-passed rs m before last 0 buffer (f .size) low (omega arith))
         (rw (add-zero, append-nil back) (asks a i f t (passed-next k may low) q))
     hear-forward l (sends i f g e t stages.Passed.none q) lent fine = stays d o (sends i f g e t stages.Passed.none q)
@@ -328,7 +334,8 @@ module _ {st : Settings} {rs : receiver-settings.Settings} {m : List ℕ} (c : C
         (sends i f (c .gap) (at-once turn) t u (answered-by k number last may q)))
     hear-back (sends i f g s t u stages.Answered.none) = stays d o (sends i f g s t u stages.Answered.none)
     hear-back (sends {ticks = ticks} {number = number} {last} {wait = wait} {forward} {buffer = buffer} i f g s t u (stages.Answered.more {fs = back} e q)) =
-        reply (Sending (streamed m ticks number number last 0)) (at.Open (connected m number last wait)) forward back buffer (windowAck number last)
+        reply (Sending (streamed m ticks number number last 0)) (at.Open (connected m number last wait)) forward back buffer
+        (windowAck number last)
         (hears-ack st m (again {turn = anyone}) (i .first) (i .inside) (i .final))
         (rw (add-zero, append-nil forward) (sends i f g s t u (answered-by k number last may q)))
     hear-back (sent i f t) = stays d o (sent i f t)

@@ -47,7 +47,8 @@ first-ack last = let whole : last ≡ last - (1 - 1) = omega arith in ap (lmAckO
 module _ (rs : Settings) (m : List ℕ) where
   pub hears-announcement : (buffer : List ℕ) → length buffer ≡ 1785 → 8 < length m → length m ≤ 1785 → length m ≤ rs .capacity
       → hearOf (receiverIn rs Idle) (announcementOf (framesOf m) (length m)) buffer
-      ≡ heard (emitting (receiverIn rs (Open (connected m 1 (windowOf rs 1 (framesOf m)) 0))) (windowAck 1 (windowOf rs 1 (framesOf m)))) buffer
+      ≡ heard (emitting (receiverIn rs (Open (connected m 1 (windowOf rs 1 (framesOf m)) 0)))
+      (windowAck 1 (windowOf rs 1 (framesOf m)))) buffer
   unfolding hearOf hearRead hearKind hearNumbered hearAnnouncement announceIdle readOf namedOf allFiller announcementOf pick
   hears-announcement buffer held long fits space =
       rw (
@@ -111,7 +112,8 @@ module _ (rs : Settings) (m : List ℕ) where
   -- the frame that is expected is stored
   hears-frame : (number last wait : ℕ) (buffer : List ℕ) → length buffer ≡ 1785 → 1 ≤ number → number ≤ framesOf m
       → hearOf (receiverIn rs (Open (connected m number last wait))) (informationAt number m) buffer
-      ≡ heard (stored (receiverIn rs (Open (connected m number last wait))) (connected m number last wait)) (storedIn m number buffer)
+      ≡ heard (stored (receiverIn rs (Open (connected m number last wait))) (connected m number last wait))
+      (storedIn m number buffer)
   unfolding hearOf hearRead hearKind hearNumbered hearInformation informationOpen informationOf pick
   hears-frame number last wait buffer held low high =
       rw (held, reads number low, ne-eqb number 0 (omega arith), le-ltb (framesOf m) number high, eq-eqb number number refl)
@@ -130,7 +132,8 @@ module _ (rs : Settings) (m : List ℕ) where
     -- the message's last: it is delivered
     pub hears-last : number ≡ framesOf m
         → hearOf (receiverIn rs (Open (connected m number last wait))) (informationAt number m) buffer
-        ≡ heard (delivering (receiverIn rs (donePhase m)) (endOfAckOf (framesOf m) (length m)) (length m)) (storedIn m number buffer)
+        ≡ heard (delivering (receiverIn rs (donePhase m)) (endOfAckOf (framesOf m) (length m)) (length m))
+        (storedIn m number buffer)
     unfolding stored pick
     hears-last whole = hears-frame number last wait buffer held low (omega arith) ∙ rw (eq-eqb number (framesOf m) whole)
 

@@ -60,7 +60,8 @@ pub data Awaits (m : List ℕ) : ℕ → ℕ → ℕ → Turn → Phase → Type
   window : {ticks start number before last : ℕ}
       → start ≤ number
       → Awaits m ticks (number + 1) last receivers (awaitedPhase m ticks start number before)
-  again : {ticks number last : ℕ} {turn : Turn} → Awaits m ticks number last turn (Sending (streamed m ticks number number last 0))
+  again : {ticks number last : ℕ} {turn : Turn}
+      → Awaits m ticks number last turn (Sending (streamed m ticks number number last 0))
 
 module _ (st : Settings) (m : List ℕ) where
   pub begins-long : 8 < length m → length m ≤ 1785

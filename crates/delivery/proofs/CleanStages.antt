@@ -22,7 +22,7 @@ use Rattle.delivery.proofs.CleanReceives.{connected, donePhase}
 use Rattle.delivery.proofs.CleanSends.{announcedPhase, streamed, awaitedPhase, outPhase, Awaits}
 use Rattle.delivery.proofs.Stages.{senderIn, framesOf}
 use Rattle.delivery.specs.Clean.{Turn, anyone, senders, receivers, turnBy, reportsOf}
-use Rattle.delivery.specs.Seen.{taken, Begun, since, begunAfter, sortOf}
+use Rattle.delivery.specs.Seen.{taken, Begun, since, begunAfter, listened, sortOf}
 use Rattle.transport.specs.Step.{Stepped}
 use Rattle.transport.specs.World.{World}
 
@@ -57,10 +57,19 @@ pub record Inside (m : List ℕ) (start number last : ℕ) : Type 0 where
   pub inside : number ≤ last
   pub final : last ≤ framesOf m
 
+-- the receiver heard a frame in a step
+abbrev pub listens : Stepped → Bool
+listens x = listened (x .event .given) (x .event .receiver)
+
 module _ (st : Settings) (rs : receiver-settings.Settings) (m : List ℕ) where
   abbrev pub worldAt : Phase → receiver-phase.Phase → List Frame → List Frame → List ℕ → World
   worldAt p q forward back buffer =
       record { sender = senderIn st p; receiver = receiverIn rs q; forward = forward; back = back; buffer = buffer }
+
+  -- frame number of a window is next, for both ends
+  abbrev pub sendsWorld : ℕ → ℕ → ℕ → ℕ → ℕ → ℕ → List Frame → List Frame → List ℕ → World
+  sendsWorld ticks start number last gap wait forward back buffer =
+      worldAt (Sending (streamed m ticks start number last gap)) (at.Open (connected m number last wait)) forward back buffer
 
   abbrev pub announcement : Frame
   announcement = announcementOf (framesOf m) (length m)
@@ -90,7 +99,8 @@ module _ (st : Settings) (rs : receiver-settings.Settings) (m : List ℕ) where
     pub data Passed : ℕ → ℕ → ℕ → List Frame → Type 0 where
       none : {start number gap : ℕ} → Passed start number gap []
       announced : repeats ≡ true → Passed 1 1 0 (announcement ∷ [])
-      informed : {start before gap : ℕ} → repeats ≡ true → 1 ≤ before → Passed start (before + 1) gap (informationAt before m ∷ [])
+      informed : {start before gap : ℕ} → repeats ≡ true → 1 ≤ before
+          → Passed start (before + 1) gap (informationAt before m ∷ [])
 
     -- on back, copies of that window's LM_ACK
     pub data Answered : ℕ → ℕ → ℕ → ℕ → List Frame → Type 0 where
@@ -126,9 +136,7 @@ module _ (st : Settings) (rs : receiver-settings.Settings) (m : List ℕ) where
           → ticks + st .gap ≡ number * st .gap + gap
           → Passed start number gap forward
           → Answered start number last gap back
-          → Stage
-          (worldAt (Sending (streamed m ticks start number last gap)) (at.Open (connected m number last wait)) forward back buffer)
-          turn (since m ticks 0 []) []
+          → Stage (sendsWorld ticks start number last gap wait forward back buffer) turn (since m ticks 0 []) []
       -- it is on its way
       sent : {ticks start number last wait : ℕ} {buffer : List ℕ}
           → Inside m start number last

@@ -17,9 +17,9 @@ use Rattle.sender.specs.Tick.{tickOf}
 use Rattle.sender.specs.Told as sender
 use Rattle.sender.specs.declared.Phase.{Phase}
 use Rattle.sender.specs.declared.Settings.{Settings}
-use Rattle.delivery.proofs.CleanStages.{Clear, announced, informed, Stage, After}
+use Rattle.delivery.proofs.CleanStages.{listens, Clear, announced, informed, Stage, After}
 use Rattle.delivery.proofs.Sends.{tick-taken}
-use Rattle.delivery.specs.Clean.{Turn, SenderMayTick, Empty, turnIn, CleanCall, reportsIn}
+use Rattle.delivery.specs.Clean.{Turn, Empty, turnIn, CleanCall, reportsIn}
 use Rattle.delivery.specs.Demand3.{LentMessage, Condition}
 use Rattle.delivery.specs.Run.{Past}
 use Rattle.delivery.specs.Seen.{taken, Begun, begunAfter, begunIn, listened}
@@ -30,7 +30,8 @@ use Rattle.delivery.proofs.CleanHears.{further-none, stays, hear-forwar
 use Rattle.delivery.proofs.CleanTicks.{tick-receiver, tick-lent}
 
 -- a hearing that is refused
-refused-elim : {rs : receiver-settings.Settings} {f : Frame} {lent : List ℕ} {q : receiver-phase.Phase} (P : receiver.Heard → Type 0) {h : receiver.Heard}
+refused-elim : {rs : receiver-settings.Settings} {f : Frame} {lent : List ℕ} {q : receiver-phase.Phase}
+    (P : receiver.Heard → Type 0) {h : receiver.Heard}
     → ((number : ℕ) → P (receiver.heard (receiver.refusing (receiverIn rs q) number) lent))
     → Hears rs f lent q h
     → not (wasRefused (h .told .outcome)) ≡ false
@@ -62,7 +63,7 @@ unless-elim false u f g = g u
 -- what is asked of a call
 abbrev pub Allowed : Bool → Past → Call → Event → Type 0
 Allowed repeats p (begin l) e = CleanCall p (begin l) e
-Allowed repeats p (senderTick l) e = CleanCall p (senderTick l) e
+Allowed repeats p (senderTick l) e = taken (e .sender) ≡ true → Empty (p .world)
 Allowed repeats p receiverTick e = CleanCall p receiverTick e
 Allowed repeats p (hearForward l) e = CleanCall p (hearForward l) e
 Allowed repeats p (repeatForward l) e = Unless repeats (CleanCall p (repeatForward l) e)
@@ -81,7 +82,8 @@ module _ {st : Settings} {rs : receiver-settings.Settings} {m : List ℕ} (c : C
   -- ---- calls that are refused
 
   module _ (w : World) (turn : Turn) (b : Begun) (reports : List sender.Outcome) (s : At w turn b reports) (l : List ℕ) where
-    refuses-begin : (number : ℕ) → Then (bySender (begin l) w nobody (w .back) (sender.refusing (w .sender) number)) turn b reports
+    refuses-begin : (number : ℕ)
+        → Then (bySender (begin l) w nobody (w .back) (sender.refusing (w .sender) number)) turn b reports
     unfolding begunAfter
     refuses-begin number = record { stage = rw (further-none c repeats b, append-nil (w .forward)) s }
 
@@ -101,19 +103,19 @@ module _ {st : Settings} {rs : receiver-settings.Settings} {m : List ℕ} (c : C
     refuses-tick = record { stage = rw (further-none c repeats b, append-nil (w .forward)) s }
 
     -- any tick of the sender
-    tick-sender : (taken (tickOf (w .sender) l .outcome) ≡ true → LentMessage b l × Empty w × SenderMayTick turn)
+    tick-sender : (taken (tickOf (w .sender) l .outcome) ≡ true → LentMessage b l × Empty w)
         → Then (bySender (senderTick l) w nobody (w .back) (tickOf (w .sender) l)) turn b reports
     tick-sender d =
         let Q : sender.Told → Type 0 = λ a. Then (bySender (senderTick l) w nobody (w .back) a) turn b reports in
         tick-elim (λ (a : sender.Told). (taken (a .outcome) ≡ true → Q a) → Q a) (w .sender) l (λ _. refuses-tick)
         (λ k. k (tick-taken (w .sender) (w .sender .phase) l))
-        (λ t. let (lent, e, may) = d t in tick-lent c repeats l s lent e may)
+        (λ t. let (lent, e) = d t in tick-lent c repeats l s lent e)
 
   -- a frame of forward that is given and refused stays
   repeat-unheard : (w : World) {turn : Turn} {b : Begun} {reports : List sender.Outcome} (l : List ℕ) (fs : List Frame)
       → w .forward ≡ fs
       → At w turn b reports
-      → listened (givenForward still (repeatForward l) w l fs .event .given) (givenForward still (repeatForward l) w l fs .event .receiver) ≡ false
+      → listens (givenForward still (repeatForward l) w l fs) ≡ false
       → Then (givenForward still (repeatForward l) w l fs) turn b reports
   unfolding givenForward begunAfter
   repeat-unheard w l [] e s d = stays c repeats (repeatForward l) refl s
@@ -125,17 +127,18 @@ module _ {st : Settings} {rs : receiver-settings.Settings} {m : List ℕ} (c : C
   -- a frame of forward that is repeated, where that is allowed
   repeat-forward : (w : World) {turn : Turn} {b : Begun} {reports : List sender.Outcome} (l : List ℕ) → repeats ≡ true
       → At w turn b reports
-      → (listened (givenForward still (repeatForward l) w l (w .forward) .event .given) (givenForward still (repeatForward l) w l (w .forward) .event .receiver) ≡ true
-      → l ≡ w .buffer)
+      → (listens (givenForward still (repeatForward l) w l (w .forward)) ≡ true → l ≡ w .buffer)
       → Then (givenForward still (repeatForward l) w l (w .forward)) turn b reports
   repeat-forward w {turn} {b} {reports} l may s lent = go _ refl
     where
       x : Stepped
       x = givenForward still (repeatForward l) w l (w .forward)
 
-      go : (hears : Bool) → listened (x .event .given) (x .event .receiver) ≡ hears → Then x turn b reports
+      go : (hears : Bool) → listens x ≡ hears → Then x turn b reports
       go false e = repeat-unheard w l (w .forward) refl s e
-      go true e = hear-forward c repeats still may (repeatForward l) refl l s lent (heard-listens (x .event .given) (x .event .receiver) e)
+      go true e =
+          hear-forward c repeats still may (repeatForward l) refl l s lent
+          (heard-listens (x .event .given) (x .event .receiver) e)
 
   -- what is done to an empty list
   lose-forward : (w : World) {turn : Turn} {b : Begun} {reports : List sender.Outcome} → w .forward ≡ []
@@ -166,11 +169,12 @@ module _ {st : Settings} {rs : receiver-settings.Settings} {m : List ℕ} (c : C
       → Then (stepOf (p .world) d) (turnIn (p .events)) (begunIn (p .events)) (reportsIn (p .events))
   unfolding stepOf
   step p (begin l) s a q = begin-refused (p .world) _ _ _ s l q
-  step p (senderTick l) s a q = tick-sender (p .world) _ _ _ s l (λ t. let (e, may) = q t in (a t, e, may))
+  step p (senderTick l) s a q = tick-sender (p .world) _ _ _ s l (λ t. (a t, q t))
   step p receiverTick s a q = tick-receiver c repeats s (q .0) (q .1)
   step p (hearForward l) s a q = hear-forward c repeats gone tt (hearForward l) refl l s a q
   step p (repeatForward l) s a q =
-      unless-elim repeats q (λ may. repeat-forward (p .world) l may s a) (λ e. repeat-unheard (p .world) l (p .world .forward) refl s e)
+      unless-elim repeats q (λ may. repeat-forward (p .world) l may s a) (λ e. repeat-unheard (p .world) l
+      (p .world .forward) refl s e)
   step p loseForward s a q = lose-forward (p .world) q s
   step p hearBack s a q = hear-back c repeats gone tt hearBack refl s
   step p repeatBack s a q =

@@ -11,18 +11,16 @@ use lib.Dec.{leb}
 use Rattle.frame.specs.Choice.{pick}
 use Rattle.receiver.specs.Tick as ticking
 use Rattle.receiver.specs.Told as receiver
-use Rattle.receiver.specs.declared.Phase.the-variants as at
 use Rattle.receiver.specs.declared.Settings as receiver-settings
 use Rattle.sender.specs.Tick.{tickPhase, lentTo, tickOf}
 use Rattle.sender.specs.Told as sender
-use Rattle.sender.specs.declared.Phase.the-variants.{Sending}
 use Rattle.sender.specs.declared.Settings.{Settings}
-use Rattle.delivery.proofs.CleanReceives.{connected, waits-on}
-use Rattle.delivery.proofs.CleanSends.{streamed, ticks-on, ticks-frame}
+use Rattle.delivery.proofs.CleanReceives.{waits-on}
+use Rattle.delivery.proofs.CleanSends.{ticks-on, ticks-frame}
 use Rattle.delivery.proofs.CleanStages as stages
-use Rattle.delivery.proofs.CleanStages.{Clear, Paced, Filled, Inside, worldAt, Passed, announced, informed, Answered, Stage, opens, asks, sends, sent, ends, over, After}
+use Rattle.delivery.proofs.CleanStages.{Clear, Paced, Filled, Inside, sendsWorld, Passed, announced, informed, Answered, Stage, opens, asks, sends, sent, ends, over, After}
 use Rattle.delivery.proofs.Stages.{framesOf}
-use Rattle.delivery.specs.Clean.{Turn, anyone, senders, receivers, ReceiverMayTick, SenderMayTick, Empty}
+use Rattle.delivery.specs.Clean.{Turn, anyone, senders, receivers, ReceiverMayTick, Empty}
 use Rattle.delivery.specs.Demand3.{LentMessage}
 use Rattle.delivery.specs.Seen.{Begun, since, begunAfter}
 use Rattle.transport.specs.Step.{Stepped, bySender, byReceiver, stepOf}
@@ -45,14 +43,16 @@ module _ {st : Settings} {rs : receiver-settings.Settings} {m : List ℕ} (c : C
       → gap < st .gap
       → wait ≤ gap
       → ticks + st .gap ≡ number * st .gap + gap
-      → (let w = worldAt st rs m (Sending (streamed m ticks start number last gap)) (at.Open (connected m number last wait)) [] [] buffer in
-      Then (byReceiver receiverTick w nobody [] (receiver.heard (ticking.tickOf (w .receiver)) buffer)) turn (since m ticks 0 []) [])
+      → (let w = sendsWorld st rs m ticks start number last gap wait [] [] buffer in
+      Then (byReceiver receiverTick w nobody [] (receiver.heard (ticking.tickOf (w .receiver)) buffer)) turn
+      (since m ticks 0 []) [])
   unfolding begunAfter
   waits {turn} {ticks} {start} {number} {last} {gap} {wait} {buffer} i f g p t =
-      let w = worldAt st rs m (Sending (streamed m ticks start number last gap)) (at.Open (connected m number last wait)) [] [] buffer in
+      let w = sendsWorld st rs m ticks start number last gap wait [] [] buffer in
       let patient = c .patient in
       let longer : wait + 1 ≤ gap + 1 = omega arith in
-      subst⁻¹ (λ (a : receiver.Told). Then (byReceiver receiverTick w nobody [] (receiver.heard a buffer)) turn (since m ticks 0 []) [])
+      subst⁻¹ (λ (a : receiver.Told). Then (byReceiver receiverTick w nobody [] (receiver.heard a buffer)) turn
+      (since m ticks 0 []) [])
       (waits-on rs m number last wait (omega arith) (c .timeouts))
       (record { stage = rw add-zero (sends i f g longer t stages.Passed.none stages.Answered.none) })
 
@@ -78,10 +78,10 @@ module _ {st : Settings} {rs : receiver-settings.Settings} {m : List ℕ} (c : C
   tick-receiver (over {back = back} size t u cs) e may = record { stage = rw (add-zero, append-nil back) (over size t u cs) }
 
   -- the sender's: the gap grows, or the frame goes out
-  senders-turn : (turn : Turn) (gap wait : ℕ) → SenderMayTick turn → Paced turn gap wait → wait ≤ gap + 1
-  senders-turn anyone gap wait may p = omega arith
-  senders-turn senders gap wait may p = p
-  senders-turn receivers gap wait may p = absurd may
+  a-tick-longer : (turn : Turn) (gap wait : ℕ) → Paced turn gap wait → wait ≤ gap + 1
+  a-tick-longer anyone gap wait p = omega arith
+  a-tick-longer senders gap wait p = p
+  a-tick-longer receivers gap wait p = omega arith
 
   streams : {turn : Turn} {ticks start number last gap wait : ℕ} {buffer : List ℕ}
       → Inside m start number last
@@ -89,13 +89,13 @@ module _ {st : Settings} {rs : receiver-settings.Settings} {m : List ℕ} (c : C
       → gap < st .gap
       → wait ≤ gap + 1
       → ticks + st .gap ≡ number * st .gap + gap
-      → (let w = worldAt st rs m (Sending (streamed m ticks start number last gap)) (at.Open (connected m number last wait)) [] [] buffer in
+      → (let w = sendsWorld st rs m ticks start number last gap wait [] [] buffer in
       Then (bySender (senderTick m) w nobody [] (tickOf (w .sender) m)) turn (since m ticks 0 []) [])
   unfolding begunAfter
   streams {turn} {ticks} {start} {number} {last} {gap} {wait} {buffer} i f g p t = go (leb (st .gap) (gap + 1)) refl
     where
       w : World
-      w = worldAt st rs m (Sending (streamed m ticks start number last gap)) (at.Open (connected m number last wait)) [] [] buffer
+      w = sendsWorld st rs m ticks start number last gap wait [] [] buffer
 
       Told : sender.Told → Type 0
       Told a = Then (bySender (senderTick m) w nobody [] a) turn (since m ticks 0 []) []
@@ -132,21 +132,20 @@ module _ {st : Settings} {rs : receiver-settings.Settings} {m : List ℕ} (c : C
       → At w turn b reports
       → LentMessage b l
       → Empty w
-      → SenderMayTick turn
       → Then (bySender (senderTick l) w nobody (w .back) (tickOf (w .sender) l)) turn b reports
   unfolding begunAfter tickOf lentTo tickPhase pick
-  tick-lent l (opens size) lent (e, _) may = absurd (cons≢nil e)
-  tick-lent l (asks a i f t p q) lent (_, e) may = absurd (cons≢nil e)
-  tick-lent l (sends {turn} {ticks} {start} {number} {last} {gap} {wait} {buffer = buffer} i f g p t stages.Passed.none stages.Answered.none) lent e may =
-      let w = worldAt st rs m (Sending (streamed m ticks start number last gap)) (at.Open (connected m number last wait)) [] [] buffer in
+  tick-lent l (opens size) lent (e, _) = absurd (cons≢nil e)
+  tick-lent l (asks a i f t p q) lent (_, e) = absurd (cons≢nil e)
+  tick-lent l (sends {turn} {ticks} {start} {number} {last} {gap} {wait} {buffer = buffer} i f g p t stages.Passed.none stages.Answered.none) lent e =
+      let w = sendsWorld st rs m ticks start number last gap wait [] [] buffer in
       subst⁻¹ (λ (l : List ℕ). Then (bySender (senderTick l) w nobody [] (tickOf (w .sender) l)) turn (since m ticks 0 []) [])
       (lent refl)
-      (streams i f g (senders-turn turn gap wait may p) t)
-  tick-lent l (sends i f g p t (announced _) q) lent (e, _) may = absurd (cons≢nil e)
-  tick-lent l (sends i f g p t (informed _ _) q) lent (e, _) may = absurd (cons≢nil e)
-  tick-lent l (sends i f g p t stages.Passed.none (stages.Answered.more _ _)) lent (_, e) may = absurd (cons≢nil e)
-  tick-lent l (sent i f t) lent (e, _) may = absurd (cons≢nil e)
-  tick-lent l (ends size t u cs) lent (_, e) may = absurd (cons≢nil e)
-  tick-lent l (over {ticks = ticks} {forward = forward} size t u cs) lent e may =
+      (streams i f g (a-tick-longer turn gap wait p) t)
+  tick-lent l (sends i f g p t (announced _) q) lent (e, _) = absurd (cons≢nil e)
+  tick-lent l (sends i f g p t (informed _ _) q) lent (e, _) = absurd (cons≢nil e)
+  tick-lent l (sends i f g p t stages.Passed.none (stages.Answered.more _ _)) lent (_, e) = absurd (cons≢nil e)
+  tick-lent l (sent i f t) lent (e, _) = absurd (cons≢nil e)
+  tick-lent l (ends size t u cs) lent (_, e) = absurd (cons≢nil e)
+  tick-lent l (over {ticks = ticks} {forward = forward} size t u cs) lent e =
       let later : framesOf m * st .gap ≤ ticks + 1 = omega arith in
       record { stage = rw (append-nil forward) (over size later u cs) }

@@ -90,14 +90,14 @@ CallsMeet Asked line p (c ∷ calls) =
 abbrev pub CleanCalls : Line → Past → List Call → Type 0
 CleanCalls = CallsMeet CleanCall
 
--- E1's other conditions, in its order; limit is M, patience the receiver's T, capacity K
+-- E1's conditions on the settings and the message; limit is M, patience the receiver's T, capacity K
 pub record Fits (gap timeout limit patience capacity : ℕ) (message : List ℕ) : Type 0 where
-  -- both T exceed G
+  -- both T are above G
   pub sendersTimeout : gap < timeout
   pub receiversTimeout : gap < patience
-  -- M exceeds N × G
+  -- M is above N × G
   pub sendingTime : figuresFor (length message) gap .ticks < limit
-  -- L is at most K
+  -- there is space for L
   pub space : length message ≤ capacity
   -- the transfer is a long one
   pub long : 8 < length message
@@ -136,16 +136,19 @@ pub data AtMostOnce (report : sender.Outcome) : List sender.Outcome → Type 0 w
 
 -- what holds after every list of clean calls: f are the figures of this message and gap
 pub record CleanPromise (f : Figures) (message : List ℕ) (p : Past) : Type 0 where
+  -- E1, the report: sent, with these ticks and frames, and the sender makes no other
   pub one : AtMostOnce (sentWith f) (reportsIn (p .events))
+  -- E1, its tick: not before it, and not after it, since the next tick finds the line empty
   pub early : ticksSince (begunIn (p .events)) < f .ticks → reportsIn (p .events) ≡ []
   pub there : f .ticks ≤ ticksSince (begunIn (p .events)) → Empty (p .world) → reportsIn (p .events) ≡ sentWith f ∷ []
+  -- demand 3, of the report sent: the deliveries since the begin
   pub delivered : reportsIn (p .events) ≡ sentWith f ∷ [] → deliveredSince (begunIn (p .events)) ≡ message ∷ []
 
 -- ---- the claim
 
--- On a line, for the ends that making answers, every buffer of 1785 bytes, every message that fits the settings, and every
--- list of calls after its begin that meets what is asked: what is said of the figures, of the message, and of where the calls
--- lead.
+-- E1, a transfer of fresh ends. On a line, for the ends that making answers, every buffer of 1785 bytes, every message that
+-- fits the settings, and every list of calls after its begin that meets what is asked: what is said of the figures, of the
+-- message, and of where the calls lead.
 abbrev pub Cleanly :
     Line
     → (ℕ → ℕ → ℕ → ℕ → ℕ → List ℕ → Type 0)

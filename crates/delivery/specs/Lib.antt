@@ -4,6 +4,6 @@ pub mod Demand3
 pub mod WhileOpen
 pub mod Capped
 pub mod Clean
-pub mod Repeats
+pub mod Lenient
 pub mod Example
 pub mod CleanExample

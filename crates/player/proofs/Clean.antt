@@ -41,12 +41,14 @@ pub pack-clean : PackClean
 unfolding playing.runOf runFrom runOf newestFirst
 pack-clean bytes q opens c =
     let k = q .bodies .settings in
-    let made = make-answers (k .gap) (k .timeout) (k .limit) (k .patience) (k .window) (k .capacity) (q .ends) (opened bytes q opens .made) in
+    let made = make-answers (k .gap) (k .timeout) (k .limit) (k .patience) (k .window) (k .capacity) (q .ends)
+    (opened bytes q opens .made) in
     let m = messageOf bytes (q .bodies) in
     let events = eventsOf bytes (q .bodies) in
     let p = begunOf bytes q in
     subst (CleanPromise (cleanFigures bytes q) m) (same-run m events p)
-    (capped-clean (k .gap) (k .timeout) (k .limit) (q .ends .sender) (made .sender) (k .patience) (k .window) (k .capacity) (q .ends .receiver) (made .receiver) (replicate 1785 0) refl m (c .fits) (callsFor (p .world) m events) (c .events))
+    (capped-clean (k .gap) (k .timeout) (k .limit) (q .ends .sender) (made .sender) (k .patience) (k .window)
+    (k .capacity) (q .ends .receiver) (made .receiver) (replicate 1785 0) refl m (c .fits) (callsFor (p .world) m events) (c .events))
 
 -- ---- the line of a report
 

@@ -1,0 +1,40 @@
+-- Document 02, E1, asks more of a clean transfer than its promise needs, in three places.
+--   A frame may be repeated, so long as the line is empty at every tick. What is heard again is ignored, or draws its answer
+--   again, and the other end takes that answer as it did before: no tick has passed between.
+--   The sender may tick again before the receiver does: the receiver's wait is then the shorter.
+--   The sender's T may be anything: it is neither Opening nor Waiting at any of its ticks.
+use Prim.Native.Nat.{ℕ, _≤_, _<_}
+use mathlib.Core.Bool.{true}
+use mathlib.Core.List.{List}
+use mathlib.Core.Path.{_≡_}
+use lib.ListN.{length}
+use Rattle.clean.specs.Figures.{figuresFor}
+use Rattle.delivery.specs.Clean.{Empty, CleanCall, CleanPromise, Cleanly}
+use Rattle.delivery.specs.Run.{Past}
+use Rattle.delivery.specs.Seen.{taken}
+use Rattle.transport.specs.Step.{stepOf}
+use Rattle.transport.specs.World.{Call, Event}
+use Rattle.transport.specs.World.{begin, senderTick, receiverTick}
+use Rattle.transport.specs.World.{hearForward, repeatForward, loseForward, hearBack, repeatBack, loseBack}
+
+-- what is asked of a call: as of a clean one, but of a repeat nothing, and of the sender's tick only that the line is empty
+abbrev pub LenientCall : Past → Call → Event → Type 0
+LenientCall p (begin m) e = CleanCall p (begin m) e
+LenientCall p (senderTick m) e = taken (e .sender) ≡ true → Empty (p .world)
+LenientCall p receiverTick e = CleanCall p receiverTick e
+LenientCall p (hearForward b) e = CleanCall p (hearForward b) e
+LenientCall p (repeatForward b) e = Unit
+LenientCall p loseForward e = CleanCall p loseForward e
+LenientCall p hearBack e = CleanCall p hearBack e
+LenientCall p repeatBack e = Unit
+LenientCall p loseBack e = CleanCall p loseBack e
+
+-- what is asked of the settings and the message: as in `Fits`, but of the sender's T nothing
+pub record LenientFits (gap timeout limit patience capacity : ℕ) (message : List ℕ) : Type 0 where
+  pub receiversTimeout : gap < patience
+  pub sendingTime : figuresFor (length message) gap .ticks < limit
+  pub space : length message ≤ capacity
+  pub long : 8 < length message
+
+abbrev pub LenientClean : Type 0
+LenientClean = Cleanly stepOf LenientFits LenientCall CleanPromise
