@@ -209,9 +209,15 @@ pub fitting : (line : Line) (Asked : Past → Call → Event → Type 0) (Says :
     → Cleanly line Fits Asked Says
 fitting line Asked Says h gap timeout limit s e patience window capacity r d buffer size m f =
     h gap timeout limit s e patience window capacity r d buffer size m
-    (record { receiversTimeout = f .receiversTimeout; sendingTime = f .sendingTime; space = f .space; long = f .long })
+    (record {
+      sendersTimeout = omega arith;
+      receiversTimeout = f .receiversTimeout;
+      sendingTime = f .sendingTime;
+      space = f .space;
+      long = f .long;
+    })
 
--- a clean call is allowed, with or without repeats
+-- a clean call is allowed where none is repeated, a lenient one where they may be
 pub clean-allowed : (p : Past) (d : Call) (e : Event) → CleanCall p d e → Allowed false p d e
 clean-allowed p (begin l) e q = q
 clean-allowed p (senderTick l) e q = λ t. q t .0

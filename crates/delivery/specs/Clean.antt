@@ -2,7 +2,7 @@
 -- do and what is seen of them are demand 3's.
 --   one        at every moment the sender has reported nothing, or sent with N × G ticks and N + 1 frames, and once
 --   early      it has reported nothing before its tick N × G
---   there      it has reported once that tick is over and its frames have been heard
+--   there      it has reported once that tick is over and every frame has been heard
 --   delivered  by then the receiver has delivered the message, once
 --   CleanCalls  what is asked of the calls; `Fits` what is asked of the settings and the message
 use Prim.Native.Nat.{ℕ, _≤_, _<_}
@@ -29,7 +29,7 @@ use Rattle.transport.specs.World.{hearForward, repeatForward, loseForward, hear
 
 -- ---- whose tick is next
 
--- E1, "alternately": after the begin either end may tick first, then the one that did not tick last
+-- E1, "alternately": either end may tick first, then the one that did not tick last
 pub data Turn : Type 0 where
   anyone : Turn
   senders : Turn
@@ -37,13 +37,13 @@ pub data Turn : Type 0 where
 
 -- by the sort of call, and whether the sender took it: a refused tick is none
 abbrev pub turnBy : Sort → Bool → Turn → Turn
-turnBy (begins message) true turn = anyone
-turnBy (begins message) false turn = turn
+turnBy (begins message) any turn = turn
 turnBy ticksSender true turn = receivers
 turnBy ticksSender false turn = turn
 turnBy ticksReceiver any turn = senders
 turnBy other any turn = turn
 
+-- before the first tick, anyone's
 unfoldable pub turnIn : List Event → Turn
 turnIn [] = anyone
 turnIn (e ∷ past) = turnBy (sortOf (e .call)) (taken (e .sender)) (turnIn past)
@@ -177,7 +177,7 @@ CappedClean = Cleanly cappedStep Fits CleanCall CleanPromise
 
 -- ---- the conditions can be met
 
--- clean calls that go on from here, until the report is there
+-- clean calls that go on from here, until the report is there (of which message does not matter)
 pub record GoesOn (f : Figures) (message : List ℕ) (p : Past) : Type 0 where
   pub calls : List Call
   pub clean : CleanCalls stepOf p calls

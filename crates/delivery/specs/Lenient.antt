@@ -1,15 +1,13 @@
--- Document 02, E1, asks more of a clean transfer than its promise needs, in three places.
+-- Document 02, E1: three of its conditions can be left out whole, and its promise still holds.
 --   A frame may be repeated, so long as the line is empty at every tick. What is heard again is ignored, or draws its answer
 --   again, and the other end takes that answer as it did before: no tick has passed between.
 --   The sender may tick again before the receiver does: the receiver's wait is then the shorter.
 --   The sender's T may be anything: it is neither Opening nor Waiting at any of its ticks.
-use Prim.Native.Nat.{ℕ, _≤_, _<_}
+use Prim.Native.Nat.{ℕ, _+_}
 use mathlib.Core.Bool.{true}
 use mathlib.Core.List.{List}
 use mathlib.Core.Path.{_≡_}
-use lib.ListN.{length}
-use Rattle.clean.specs.Figures.{figuresFor}
-use Rattle.delivery.specs.Clean.{Empty, CleanCall, CleanPromise, Cleanly}
+use Rattle.delivery.specs.Clean.{Empty, CleanCall, Fits, CleanPromise, Cleanly}
 use Rattle.delivery.specs.Run.{Past}
 use Rattle.delivery.specs.Seen.{taken}
 use Rattle.transport.specs.Step.{stepOf}
@@ -29,12 +27,9 @@ LenientCall p hearBack e = CleanCall p hearBack e
 LenientCall p repeatBack e = Unit
 LenientCall p loseBack e = CleanCall p loseBack e
 
--- what is asked of the settings and the message: as in `Fits`, but of the sender's T nothing
-pub record LenientFits (gap timeout limit patience capacity : ℕ) (message : List ℕ) : Type 0 where
-  pub receiversTimeout : gap < patience
-  pub sendingTime : figuresFor (length message) gap .ticks < limit
-  pub space : length message ≤ capacity
-  pub long : 8 < length message
+-- what is asked of the settings and the message: as in `Fits`, whatever the sender's T is
+abbrev pub LenientFits : ℕ → ℕ → ℕ → ℕ → ℕ → List ℕ → Type 0
+LenientFits gap timeout limit patience capacity message = Fits gap (gap + 1) limit patience capacity message
 
 abbrev pub LenientClean : Type 0
 LenientClean = Cleanly stepOf LenientFits LenientCall CleanPromise
