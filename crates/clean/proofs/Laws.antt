@@ -8,11 +8,9 @@ use native.Mathlib.Omega.{arith}
 use borrow.Author.Tests.{le-leb, lt-leb}
 use Rattle.frame.proofs.Choice.{pick-true, pick-false}
 use Rattle.frame.specs.Count.{frameCountOf, within}
-use Rattle.frame.specs.Result.{Result, accepted, refused}
-use Rattle.clean.specs.Figures.{figuresFor, figuresOf, toldClean}
+use Rattle.frame.specs.Result.{accepted, refused}
+use Rattle.clean.specs.Figures.{figuresFor, figuresOf}
 use Rattle.clean.specs.declared.Figures.{Figures}
-use Rattle.clean.specs.declared.Clean.{Clean}
-use Rattle.clean.specs.declared.Clean.the-variants.{Takes, Refused}
 
 -- N is at most 255, so that neither figure wraps.
 module _ (length count : ℕ) (l : length ≤ 1785) (e : count ≡ frameCountOf length) where
@@ -66,12 +64,3 @@ module _ (length gap : ℕ) where
     inside some few e = pick-true _ long (pick-true _ (between 1 gap 10 some (omega arith)) (ap accepted e))
 
 pub ruleset paths = (length-low, length-high, gap-low, gap-high, inside)
-
--- What is told of an answer leaves nothing of it open.
-abbrev pub untoldClean : Result Figures → Clean
-untoldClean (accepted f) = Takes f
-untoldClean (refused n) = Refused n
-
-pub told-clean-whole : (r : Clean) → untoldClean (toldClean r) ≡ r
-told-clean-whole (Takes f) = refl
-told-clean-whole (Refused n) = refl

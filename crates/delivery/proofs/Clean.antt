@@ -20,7 +20,7 @@ use Rattle.sender.specs.Reachable as of-sender
 use Rattle.sender.specs.declared.Sender.{Sender}
 use Rattle.sender.specs.Told as sender
 use Rattle.sender.specs.declared.Settings.{Settings}
-use Rattle.delivery.proofs.CleanStages.{Clear, cleanReport, none-kept, no-copies, none-passed, none-answered, Stage, opens, asks, sends, sent, ends, over}
+use Rattle.delivery.proofs.CleanStages.{Clear, Inside, cleanReport, none-kept, no-copies, none-passed, none-answered, Stage, opens, asks, sends, sent, ends, over}
 use Rattle.delivery.proofs.CleanSteps.{Stands, Allowed, step}
 use Rattle.delivery.proofs.CleanSends.{begins-long}
 use Rattle.delivery.proofs.Stages.{framesOf}
@@ -41,40 +41,44 @@ module _ {st : Settings} {rs : receiver-settings.Settings} {m : List ℕ} (c : C
   -- ---- the promise, read off a stage
 
   -- a frame of the message is due before tick N × G is over
-  pub not-yet : {number ticks gap : ℕ} → number ≤ framesOf m → gap < st .gap → ticks + st .gap ≡ number * st .gap + gap
+  pub not-yet : {ticks start number last gap : ℕ} → Inside m start number last → gap < st .gap
+      → ticks + st .gap ≡ number * st .gap + gap
       → ticks < framesOf m * st .gap
-  not-yet {number} within g t = let below = mul-le-mul-right (st .gap) within in omega arith
+  not-yet {number = number} i g t =
+      let inside = i .inside in
+      let final = i .final in
+      let within : number ≤ framesOf m = omega arith in
+      let below = mul-le-mul-right (st .gap) within in
+      omega arith
 
   -- what is promised, by the world, what was seen since the begin, and the reports
-  record Keeps (w : World) (b : Begun) (reports : List sender.Outcome) : Type 0 where
+  record Promises (w : World) (b : Begun) (reports : List sender.Outcome) : Type 0 where
     one : AtMostOnce (cleanReport st rs m) reports
     early : ticksSince b < framesOf m * st .gap → reports ≡ []
     there : framesOf m * st .gap ≤ ticksSince b → Empty w → reports ≡ cleanReport st rs m ∷ []
     delivered : reports ≡ cleanReport st rs m ∷ [] → deliveredSince b ≡ m ∷ []
 
   -- while a frame is on its way, or more ticks are due
-  unreported : {w : World} {b : Begun} → (framesOf m * st .gap ≤ ticksSince b → Empty w → ⊥) → Keeps w b []
+  unreported : {w : World} {b : Begun} → (framesOf m * st .gap ≤ ticksSince b → Empty w → ⊥) → Promises w b []
   unreported n =
       record { one = notYet; early = λ _. refl; there = λ late e. absurd (n late e); delivered = λ e. absurd (nil≢cons e) }
 
-  keeps : {w : World} {turn : Turn} {b : Begun} {reports : List sender.Outcome}
-      → Stage st rs m repeats w turn b reports → Keeps w b reports
-  keeps (opens _) = unreported (λ _ e. cons≢nil (e .0))
-  keeps (asks _ _ _ _ _ _) = unreported (λ _ e. cons≢nil (e .1))
-  keeps (sends i _ g _ t _ _) =
-      let inside = i .inside in
-      let final = i .final in
-      let early = not-yet (omega arith) g t in
+  promises : {w : World} {turn : Turn} {b : Begun} {reports : List sender.Outcome}
+      → Stage st rs m repeats w turn b reports → Promises w b reports
+  promises (opens _) = unreported (λ _ e. cons≢nil (e .0))
+  promises (asks _ _ _ _ _ _) = unreported (λ _ e. cons≢nil (e .1))
+  promises (sends i _ g _ t _ _) =
+      let early = not-yet i g t in
       unreported (λ late _. omega arith)
-  keeps (sent _ _ _) = unreported (λ _ e. cons≢nil (e .0))
-  keeps (ends _ _ _ _) = unreported (λ _ e. cons≢nil (e .1))
-  keeps (over _ late _ _) =
+  promises (sent _ _ _) = unreported (λ _ e. cons≢nil (e .0))
+  promises (ends _ _ _ _) = unreported (λ _ e. cons≢nil (e .1))
+  promises (over _ late _ _) =
       record { one = once; early = λ e. absurd (omega arith); there = λ _ _. refl; delivered = λ _. refl }
 
   promised : (p : Past) → Stands c repeats p → CleanPromise (figuresFor (length m) (st .gap)) m p
   unfolding figuresFor
   promised p s =
-      let k = keeps s in
+      let k = promises s in
       record { one = k .one; early = k .early; there = k .there; delivered = k .delivered }
 
   -- ---- along a list of calls

@@ -40,23 +40,23 @@ use Rattle.transport.specs.World.{World, Call, senderTick, receiverTick, hearFo
 
 -- how near the ends are to the sender's next tick: frames are to be heard, or the receiver is to tick
 abbrev rank : List Frame → List Frame → Turn → ℕ
-rank (f ∷ fs) back turn = 5
-rank [] (f ∷ fs) turn = 4
-rank [] [] anyone = 2
-rank [] [] senders = 2
-rank [] [] receivers = 3
+rank (f ∷ fs) back turn = 3
+rank [] (f ∷ fs) turn = 2
+rank [] [] anyone = 0
+rank [] [] senders = 0
+rank [] [] receivers = 1
 
-rank-heard : (back : List Frame) (turn : Turn) → rank [] back turn ≤ 4
+rank-heard : (back : List Frame) (turn : Turn) → rank [] back turn ≤ 2
 rank-heard [] anyone = omega arith
 rank-heard [] senders = omega arith
 rank-heard [] receivers = omega arith
 rank-heard (f ∷ fs) turn = omega arith
 
-rank-bound : (forward back : List Frame) (turn : Turn) → rank forward back turn ≤ 5
+rank-bound : (forward back : List Frame) (turn : Turn) → rank forward back turn ≤ 3
 rank-bound (f ∷ fs) back turn = omega arith
 rank-bound [] back turn = let h = rank-heard back turn in omega arith
 
-rank-empty : (turn : Turn) → rank [] [] turn ≤ 3
+rank-empty : (turn : Turn) → rank [] [] turn ≤ 1
 rank-empty anyone = omega arith
 rank-empty senders = omega arith
 rank-empty receivers = omega arith
@@ -83,13 +83,6 @@ module _ {st : Settings} {rs : receiver-settings.Settings} {m : List ℕ} (c : C
         → taken (tickOf (w .sender) m .outcome) ≡ true
         → Advice w turn b reports
 
-  due : {ticks start number last gap : ℕ} → Inside m start number last → gap < st .gap
-      → ticks + st .gap ≡ number * st .gap + gap → ticks < framesOf m * st .gap
-  due i g t =
-      let inside = i .inside in
-      let final = i .final in
-      not-yet c false (omega arith) g t
-
   -- a tick that is lent the message is taken
   lent-taken : (x : Streamed) → x .transfer .length ≡ length m → taken (tickOf (senderIn st (Sending x)) m .outcome) ≡ true
   unfolding tickOf lentTo pick
@@ -106,8 +99,8 @@ module _ {st : Settings} {rs : receiver-settings.Settings} {m : List ℕ} (c : C
       → Advice
       (sendsWorld st rs m ticks start number last gap wait forward back buffer)
       turn (since m ticks 0 []) []
-  advice-sends anyone i g p t d e = tick-sender (d, e) tt refl (due i g t) (lent-taken _ refl)
-  advice-sends senders i g p t d e = tick-sender (d, e) tt refl (due i g t) (lent-taken _ refl)
+  advice-sends anyone i g p t d e = tick-sender (d, e) tt refl (not-yet c false i g t) (lent-taken _ refl)
+  advice-sends senders i g p t d e = tick-sender (d, e) tt refl (not-yet c false i g t) (lent-taken _ refl)
   advice-sends receivers {number = number} {last} {gap} {wait} i g p t d e =
       let patient = c .patient in
       tick-receiver (d, e) refl (ap (λ (a : receiver.Told). a .emits)
@@ -173,7 +166,7 @@ module _ {st : Settings} {rs : receiver-settings.Settings} {m : List ℕ} (c : C
   nearer-receiver p (d, e) t q = rw (d, e, t, q, same-ticks (begunIn (p .events))) (omega arith)
 
   -- the sender has ticked in its turn
-  rank-turn : (turn : Turn) → SenderMayTick turn → rank [] [] turn ≡ 2
+  rank-turn : (turn : Turn) → SenderMayTick turn → rank [] [] turn ≡ 0
   rank-turn anyone may = refl
   rank-turn senders may = refl
   rank-turn receivers may = absurd may

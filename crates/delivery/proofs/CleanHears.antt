@@ -33,7 +33,7 @@ use Rattle.sender.specs.declared.Settings.{Settings}
 use Rattle.delivery.proofs.CleanReceives.{connected, donePhase, storedIn, hears-announcement, hears-announcement-again, hears-passed, hears-delivered, hears-last, hears-window, hears-inside}
 use Rattle.delivery.proofs.CleanSends.{announcedPhase, streamed, awaitedPhase, outPhase, opening, window, again, hears-ack, hears-end, hears-idle}
 use Rattle.delivery.proofs.CleanStages as stages
-use Rattle.delivery.proofs.CleanStages.{listens, Clear, Paced, Filled, Inside, worldAt, announcement, endOfAck, Kept, kept, Copies, Passed, announced, informed, Answered, Stage, opens, asks, sends, sent, ends, over, After}
+use Rattle.delivery.proofs.CleanStages.{listens, Clear, Paced, Filled, Inside, worldAt, announcement, endOfAck, Kept, kept, Repeated, Passed, announced, informed, Answered, Stage, opens, asks, sends, sent, ends, over, After}
 use Rattle.delivery.proofs.Pieces.{next-stored, last-stored}
 use Rattle.delivery.proofs.Stages.{senderIn, framesOf}
 use Rattle.delivery.specs.Clean.{Turn, anyone, senders, receivers, reportsOf}
@@ -51,25 +51,25 @@ module _ {st : Settings} {rs : receiver-settings.Settings} {m : List ℕ} (c : C
   -- ---- what is left of a line
 
   -- a call may keep the frame that it gives
-  abbrev pub Keeps : Rest → Type 0
-  Keeps gone = Unit
-  Keeps still = repeats ≡ true
+  abbrev pub MayKeep : Rest → Type 0
+  MayKeep gone = Unit
+  MayKeep still = repeats ≡ true
 
-  kept-by : (k : Rest) (f : Frame) → Keeps k → Kept st rs m repeats f (leaving k f [])
+  kept-by : (k : Rest) (f : Frame) → MayKeep k → Kept st rs m repeats f (leaving k f [])
   kept-by gone f may = stages.Kept.none
   kept-by still f may = kept may
 
-  copies-by : (k : Rest) (f : Frame) {fs : List Frame} → Keeps k → Copies st rs m repeats f fs
-      → Copies st rs m repeats f (leaving k f fs)
+  copies-by : (k : Rest) (f : Frame) {fs : List Frame} → MayKeep k → Repeated st rs m repeats f fs
+      → Repeated st rs m repeats f (leaving k f fs)
   copies-by gone f may cs = cs
-  copies-by still f may cs = stages.Copies.more may cs
+  copies-by still f may cs = stages.Repeated.more may cs
 
-  copies-join : {f : Frame} {fs : List Frame} → repeats ≡ true → Copies st rs m repeats f fs
-      → Copies st rs m repeats f (fs ++ f ∷ [])
-  copies-join may stages.Copies.none = stages.Copies.more may stages.Copies.none
-  copies-join may (stages.Copies.more e cs) = stages.Copies.more e (copies-join may cs)
+  copies-join : {f : Frame} {fs : List Frame} → repeats ≡ true → Repeated st rs m repeats f fs
+      → Repeated st rs m repeats f (fs ++ f ∷ [])
+  copies-join may stages.Repeated.none = stages.Repeated.more may stages.Repeated.none
+  copies-join may (stages.Repeated.more e cs) = stages.Repeated.more e (copies-join may cs)
 
-  answered-by : (k : Rest) (number last : ℕ) {fs : List Frame} → Keeps k → Answered st rs m repeats number number last 0 fs
+  answered-by : (k : Rest) (number last : ℕ) {fs : List Frame} → MayKeep k → Answered st rs m repeats number number last 0 fs
       → Answered st rs m repeats number number last 0 (leaving k (windowAck number last) fs)
   answered-by gone number last may a = a
   answered-by still number last may a = stages.Answered.more may a
@@ -79,11 +79,11 @@ module _ {st : Settings} {rs : receiver-settings.Settings} {m : List ℕ} (c : C
   answered-join may stages.Answered.none = stages.Answered.more may stages.Answered.none
   answered-join may (stages.Answered.more e a) = stages.Answered.more e (answered-join may a)
 
-  passed-first : (k : Rest) → Keeps k → Passed st rs m repeats 1 1 0 (leaving k (announcement st rs m) [])
+  passed-first : (k : Rest) → MayKeep k → Passed st rs m repeats 1 1 0 (leaving k (announcement st rs m) [])
   passed-first gone may = stages.Passed.none
   passed-first still may = announced may
 
-  passed-next : (k : Rest) {start before gap : ℕ} → Keeps k → 1 ≤ before
+  passed-next : (k : Rest) {start before gap : ℕ} → MayKeep k → 1 ≤ before
       → Passed st rs m repeats start (before + 1) gap (leaving k (informationAt before m) [])
   passed-next gone may low = stages.Passed.none
   passed-next still may low = informed may low
@@ -168,7 +168,7 @@ module _ {st : Settings} {rs : receiver-settings.Settings} {m : List ℕ} (c : C
 
   -- ---- a hearing of the receiver, which keeps the frame or takes it away
 
-  module _ (k : Rest) (may : Keeps k) (d : Call) (o : sortOf d ≡ other) where
+  module _ (k : Rest) (may : MayKeep k) (d : Call) (o : sortOf d ≡ other) where
     -- the receiver's answer to the only frame on forward
     module _ (p : Phase) (q : receiver-phase.Phase) (back : List Frame) (buffer : List ℕ) (f : Frame) where
       abbrev first : World
@@ -218,7 +218,7 @@ module _ {st : Settings} {rs : receiver-settings.Settings} {m : List ℕ} (c : C
             last-stored m buffer number (f .size) (c .fits) (i .first) (omega arith) (f .before) whole,
             whole,
           )
-          (ends size at (kept-by k (informationAt (framesOf m) m) may) stages.Copies.none))
+          (ends size at (kept-by k (informationAt (framesOf m) m) may) stages.Repeated.none))
 
       -- its window's last
       hears-full : number < framesOf m → number ≡ last → Answers
@@ -345,7 +345,7 @@ module _ {st : Settings} {rs : receiver-settings.Settings} {m : List ℕ} (c : C
         reply (awaitedPhase m ticks start (framesOf m) last) (donePhase m) forward back buffer (endOfAck st rs m)
         (hears-end st m ticks start (framesOf m) last (omega arith))
         (rw (add-zero, append-nil forward, t) (over size there u (copies-by k (endOfAck st rs m) may cs)))
-    hear-back (over size t u stages.Copies.none) = stays d o (over size t u stages.Copies.none)
-    hear-back (over {forward = forward} {buffer = buffer} size t u (stages.Copies.more {fs = back} e cs)) =
+    hear-back (over size t u stages.Repeated.none) = stays d o (over size t u stages.Repeated.none)
+    hear-back (over {forward = forward} {buffer = buffer} size t u (stages.Repeated.more {fs = back} e cs)) =
         reply Idle (donePhase m) forward back buffer (endOfAck st rs m) (hears-idle st m)
         (rw (add-zero, append-nil forward) (over size t u (copies-by k (endOfAck st rs m) may cs)))

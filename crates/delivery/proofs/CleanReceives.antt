@@ -1,5 +1,5 @@
 -- What the receiver answers in a clean transfer of m, call by call: its wait is short of T, and each frame heard is the one
--- that it expects.
+-- that it expects or, where frames are repeated, one that it has heard already.
 -- Assumes nothing.
 use Prim.Native.Nat.{ℕ, _+_, _-_, _≤_, _<_}
 use mathlib.Core.Bool.{false}

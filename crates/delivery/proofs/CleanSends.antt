@@ -1,7 +1,8 @@
 -- What the sender answers in a clean transfer of m, call by call: every count is below its limit but the gap's, and each
--- frame heard is the one that its phase awaits.
+-- frame heard is the one that its phase awaits or, where frames are repeated, one that it has heard already.
 -- Assumes nothing.
 use Prim.Native.Nat.{ℕ, _+_, _-_, _≤_, _<_}
+use mathlib.Core.Bool.{false}
 use mathlib.Core.Path.{_≡_, refl}
 use mathlib.Core.List.{List}
 use native.Mathlib.Omega.{arith}
@@ -10,8 +11,9 @@ use lib.Dec.{leb}
 use lib.ListN.{length, getD}
 use Rattle.frame.proofs.Laws.{increment-is, word-whole}
 use Rattle.frame.specs.Choice.{pick}
-use Rattle.frame.specs.Frames.{announcementOf, lmAckOf, endOfAckOf}
+use Rattle.frame.specs.Frames.{announcementOf, lmAckOf, endOfAckOf, blankOf}
 use Rattle.frame.specs.Reading.{readOf, namedOf, allFiller}
+use Rattle.receiver.specs.Window.{windowAck}
 use Rattle.sender.specs.Begin.{beginOf, beginPhase, beginIdle, beginLong}
 use Rattle.sender.specs.Hear.{hearOf, hearRead, hearKind, hearAck, ackOpening, ackWindow, windowLast, taking, hearEnd, ifWhole}
 use Rattle.sender.specs.Tick.{informationAt, unlessOver, atLimit, afterFrame, tickSending, tickPhase, lentTo, tickOf}
@@ -23,14 +25,11 @@ use Rattle.sender.specs.declared.Streamed.{Streamed}
 use Rattle.sender.specs.declared.Transfer.{Transfer}
 use Rattle.delivery.proofs.Stages.{senderIn, framesOf}
 use Rattle.delivery.specs.Clean.{Turn, anyone, receivers}
-use Rattle.receiver.specs.Window.{windowAck}
-use Rattle.frame.specs.Frames.{blankOf}
-use mathlib.Core.Bool.{false}
 
 -- ---- the phases of a clean transfer: no miss is ever counted
 
 -- so many ticks and frames since the begin
-abbrev pub transferAt : List ℕ → ℕ → ℕ → Transfer
+abbrev transferAt : List ℕ → ℕ → ℕ → Transfer
 transferAt m ticks frames =
     record { length = length m; frames = framesOf m; first = getD m 0 0; age = ticks; emitted = frames }
 

@@ -26,7 +26,7 @@ use Rattle.delivery.specs.Seen.{taken, Begun, since, begunAfter, listene
 use Rattle.transport.specs.Step.{Stepped}
 use Rattle.transport.specs.World.{World}
 
--- the conditions on the settings and on m, as far as they are needed: the sender's T is not, since it never waits for a tick
+-- the conditions on the settings and on m, as far as they are needed: the sender's T is not, since no tick finds it waiting
 pub record Clear (st : Settings) (rs : receiver-settings.Settings) (m : List ℕ) : Type 0 where
   pub long : 8 < length m
   pub fits : length m ≤ 1785
@@ -90,9 +90,9 @@ module _ (st : Settings) (rs : receiver-settings.Settings) (m : List ℕ) where
       kept : repeats ≡ true → Kept f (f ∷ [])
 
     -- copies of an answer
-    pub data Copies (f : Frame) : List Frame → Type 0 where
-      none : Copies f []
-      more : {fs : List Frame} → repeats ≡ true → Copies f fs → Copies f (f ∷ fs)
+    pub data Repeated (f : Frame) : List Frame → Type 0 where
+      none : Repeated f []
+      more : {fs : List Frame} → repeats ≡ true → Repeated f fs → Repeated f (f ∷ fs)
 
     -- on forward, where frame number of a window that starts at start is next, after so many ticks of the gap: the frame before
     -- it, or the announcement
@@ -151,7 +151,7 @@ module _ (st : Settings) (rs : receiver-settings.Settings) (m : List ℕ) where
           → length buffer ≡ 1785
           → ticks ≡ framesOf m * st .gap
           → Kept (informationAt (framesOf m) m) forward
-          → Copies endOfAck back
+          → Repeated endOfAck back
           → Stage
           (worldAt (awaitedPhase m ticks start (framesOf m) last) (donePhase m) forward (endOfAck ∷ back) buffer)
           receivers (since m ticks 0 (m ∷ [])) []
@@ -160,7 +160,7 @@ module _ (st : Settings) (rs : receiver-settings.Settings) (m : List ℕ) where
           → length buffer ≡ 1785
           → framesOf m * st .gap ≤ ticks
           → Kept (informationAt (framesOf m) m) forward
-          → Copies endOfAck back
+          → Repeated endOfAck back
           → Stage (worldAt Idle (donePhase m) forward back buffer) turn (since m ticks 1 (m ∷ [])) (cleanReport ∷ [])
 
     -- the stage after a call, by what was seen before it
@@ -175,9 +175,9 @@ module _ (st : Settings) (rs : receiver-settings.Settings) (m : List ℕ) where
   none-kept Kept.none = refl
   none-kept (kept e) = absurd (false≢true e)
 
-  pub no-copies : {f : Frame} {fs : List Frame} → Copies false f fs → fs ≡ []
-  no-copies Copies.none = refl
-  no-copies (Copies.more e _) = absurd (false≢true e)
+  pub no-copies : {f : Frame} {fs : List Frame} → Repeated false f fs → fs ≡ []
+  no-copies Repeated.none = refl
+  no-copies (Repeated.more e _) = absurd (false≢true e)
 
   pub none-passed : {start number gap : ℕ} {fs : List Frame} → Passed false start number gap fs → fs ≡ []
   none-passed Passed.none = refl
