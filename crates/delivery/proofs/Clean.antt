@@ -20,7 +20,7 @@ use Rattle.sender.specs.Reachable as of-sender
 use Rattle.sender.specs.declared.Sender.{Sender}
 use Rattle.sender.specs.Told as sender
 use Rattle.sender.specs.declared.Settings.{Settings}
-use Rattle.delivery.proofs.CleanStages.{Clear, Inside, cleanReport, none-kept, no-copies, none-passed, none-answered, Stage, opens, asks, sends, sent, ends, over}
+use Rattle.delivery.proofs.CleanStages.{Clear, Inside, cleanReport, none-kept, none-repeated, none-passed, none-answered, Stage, opens, asks, sends, sent, ends, over}
 use Rattle.delivery.proofs.CleanSteps.{Stands, Allowed, step}
 use Rattle.delivery.proofs.CleanSends.{begins-long}
 use Rattle.delivery.proofs.Stages.{framesOf}
@@ -123,8 +123,8 @@ module _ {st : Settings} {rs : receiver-settings.Settings} {m : List ℕ} (c : C
   short-lines (asks _ _ _ _ p q) = rw (none-passed st rs m p, none-answered st rs m q)
   short-lines (sends _ _ _ _ _ p q) = rw (none-passed st rs m p, none-answered st rs m q)
   short-lines (sent _ _ _) = refl
-  short-lines (ends _ _ u cs) = rw (none-kept st rs m u, no-copies st rs m cs)
-  short-lines (over _ _ u cs) = rw (none-kept st rs m u, no-copies st rs m cs)
+  short-lines (ends _ _ u cs) = rw (none-kept st rs m u, none-repeated st rs m cs)
+  short-lines (over _ _ u cs) = rw (none-kept st rs m u, none-repeated st rs m cs)
 
   at-64 : Like c false cappedStep
   unfolding cappedStep

@@ -27,7 +27,7 @@ use Rattle.sender.specs.declared.Streamed.{Streamed}
 use Rattle.delivery.proofs.Clean.{plain, next-stands, not-yet, cleanly, fitting, clean-allowed}
 use Rattle.delivery.proofs.CleanReceives.{hears-announcement, hears-accepted, waits-on}
 use Rattle.delivery.proofs.CleanSends.{hears-ack, hears-end}
-use Rattle.delivery.proofs.CleanStages.{Clear, Paced, Inside, sendsWorld, endOfAck, cleanReport, none-kept, no-copies, none-passed, none-answered, Stage, opens, asks, sends, sent, ends, over}
+use Rattle.delivery.proofs.CleanStages.{Clear, Paced, Inside, sendsWorld, endOfAck, cleanReport, none-kept, none-repeated, none-passed, none-answered, Stage, opens, asks, sends, sent, ends, over}
 use Rattle.delivery.proofs.CleanSteps.{Stands}
 use Rattle.delivery.proofs.Sends.{tick-taken}
 use Rattle.delivery.proofs.Stages.{senderIn, framesOf}
@@ -122,7 +122,7 @@ module _ {st : Settings} {rs : receiver-settings.Settings} {m : List ℕ} (c : C
       hear-forward refl (hears-accepted rs m number last wait buffer (f .size) (i .first) (omega arith))
   advice (ends {ticks} {start} {last} size t u cs) =
       let fits = c .fits in
-      hear-back (none-kept st rs m u) (ap (λ (fs : List Frame). endOfAck st rs m ∷ fs) (no-copies st rs m cs))
+      hear-back (none-kept st rs m u) (ap (λ (fs : List Frame). endOfAck st rs m ∷ fs) (none-repeated st rs m cs))
       (ap (λ (a : sender.Told). a .emits) (hears-end st m ticks start (framesOf m) last (omega arith)))
   advice (over _ _ _ _) = done refl
 

@@ -59,15 +59,15 @@ module _ {st : Settings} {rs : receiver-settings.Settings} {m : List ℕ} (c : C
   kept-by gone f may = stages.Kept.none
   kept-by still f may = kept may
 
-  copies-by : (k : Rest) (f : Frame) {fs : List Frame} → MayKeep k → Repeated st rs m repeats f fs
+  repeated-by : (k : Rest) (f : Frame) {fs : List Frame} → MayKeep k → Repeated st rs m repeats f fs
       → Repeated st rs m repeats f (leaving k f fs)
-  copies-by gone f may cs = cs
-  copies-by still f may cs = stages.Repeated.more may cs
+  repeated-by gone f may cs = cs
+  repeated-by still f may cs = stages.Repeated.more may cs
 
-  copies-join : {f : Frame} {fs : List Frame} → repeats ≡ true → Repeated st rs m repeats f fs
+  repeated-join : {f : Frame} {fs : List Frame} → repeats ≡ true → Repeated st rs m repeats f fs
       → Repeated st rs m repeats f (fs ++ f ∷ [])
-  copies-join may stages.Repeated.none = stages.Repeated.more may stages.Repeated.none
-  copies-join may (stages.Repeated.more e cs) = stages.Repeated.more e (copies-join may cs)
+  repeated-join may stages.Repeated.none = stages.Repeated.more may stages.Repeated.none
+  repeated-join may (stages.Repeated.more e cs) = stages.Repeated.more e (repeated-join may cs)
 
   answered-by : (k : Rest) (number last : ℕ) {fs : List Frame} → MayKeep k → Answered st rs m repeats number number last 0 fs
       → Answered st rs m repeats number number last 0 (leaving k (windowAck number last) fs)
@@ -214,7 +214,7 @@ module _ {st : Settings} {rs : receiver-settings.Settings} {m : List ℕ} (c : C
           answer out at-number [] buffer next-one l same (hears-last rs m number last wait buffer (f .size) (i .first) whole)
           (rw (
             le-leb last number (omega arith),
-            add-zero,
+            add-zero ticks,
             last-stored m buffer number (f .size) (c .fits) (i .first) (omega arith) (f .before) whole,
             whole,
           )
@@ -226,7 +226,7 @@ module _ {st : Settings} {rs : receiver-settings.Settings} {m : List ℕ} (c : C
       hears-full more full =
           answer out at-number [] buffer next-one l same (hears-window rs m number last wait buffer (f .size)
           (i .first) more full)
-          (rw (le-leb last number (omega arith), add-zero)
+          (rw (le-leb last number (omega arith), add-zero ticks)
           (asks (window (i .asked)) (window-inside (number + 1) (omega arith) (omega arith))
           (filled number buffer (i .first) more f)
           (next-gap number t) (passed-next k may (i .first)) stages.Answered.none))
@@ -240,7 +240,7 @@ module _ {st : Settings} {rs : receiver-settings.Settings} {m : List ℕ} (c : C
           record { first = omega arith; asked = omega arith; inside = omega arith; final = i .final } in
           answer out at-number [] buffer next-one l same (hears-inside rs m number last wait buffer (f .size)
           (i .first) more part)
-          (rw (lt-leb last number part, add-zero)
+          (rw (lt-leb last number part, add-zero ticks)
           (sends inner (filled number buffer (i .first) more f) (c .gap) (at-once receivers) (next-gap number t)
           (passed-next k may (i .first)) stages.Answered.none))
 
@@ -271,40 +271,40 @@ module _ {st : Settings} {rs : receiver-settings.Settings} {m : List ℕ} (c : C
         (asks opening (window-inside 1 (omega arith) some-frames) (record { size = size; before = refl }) on (passed-first k may)
         stages.Answered.none)
     hear-forward l (asks a i f t stages.Passed.none q) lent fine = stays d o (asks a i f t stages.Passed.none q)
-    hear-forward l (asks {last = last} {p} {back = back} {buffer} a i f t (announced e) q) lent fine =
+    hear-forward l (asks {ticks = ticks} {last = last} {p} {back = back} {buffer} a i f t (announced e) q) lent fine =
         answer p (at.Open (connected m 1 last 0)) (windowAck 1 last ∷ back) buffer (announcement st rs m) l (lent (ap not fine))
         (hears-announcement-again rs m last 0 buffer (f .size) (c .fits))
-        (rw add-zero (asks a i f t (passed-first k may) (answered-join e q)))
-    hear-forward l (asks {last = last} {p} {back = back} {buffer} a i f t (informed {before = before} e low) q) lent fine =
+        (rw (add-zero ticks) (asks a i f t (passed-first k may) (answered-join e q)))
+    hear-forward l (asks {ticks = ticks} {last = last} {p} {back = back} {buffer} a i f t (informed {before = before} e low) q) lent fine =
         let inside = i .inside in
         let final = i .final in
         answer p (at.Open (connected m (before + 1) last 0)) (windowAck (before + 1) last ∷ back) buffer
         (informationAt before m) l
         (lent (ap not fine)) (hears-passed rs m before last 0 buffer (f .size) low (omega arith))
-        (rw (add-zero, append-nil back) (asks a i f t (passed-next k may low) q))
+        (rw (add-zero ticks, append-nil back) (asks a i f t (passed-next k may low) q))
     hear-forward l (sends i f g e t stages.Passed.none q) lent fine = stays d o (sends i f g e t stages.Passed.none q)
     hear-forward l (sends {ticks = ticks} {last = last} {wait = wait} {back = back} {buffer} i f g s t (announced e) q) lent fine =
         answer (Sending (streamed m ticks 1 1 last 0)) (at.Open (connected m 1 last wait)) back buffer (announcement st rs m) l
         (lent (ap not fine)) (hears-announcement-again rs m last wait buffer (f .size) (c .fits))
-        (rw add-zero (sends i f g s t (passed-first k may) (answered-join e q)))
+        (rw (add-zero ticks) (sends i f g s t (passed-first k may) (answered-join e q)))
     hear-forward l (sends {ticks = ticks} {start} {last = last} {gap} {wait} {back = back} {buffer} i f g s t (informed {before = before} e low) q) lent fine =
         let inside = i .inside in
         let final = i .final in
         answer (Sending (streamed m ticks start (before + 1) last gap)) (at.Open (connected m (before + 1) last wait)) back buffer
         (informationAt before m) l (lent (ap not fine)) (hears-passed rs m before last wait buffer (f .size) low (omega arith))
-        (rw (add-zero, append-nil back) (sends i f g s t (passed-next k may low) q))
+        (rw (add-zero ticks, append-nil back) (sends i f g s t (passed-next k may low) q))
     hear-forward l (sent {ticks} {start} {number} {last} {wait} {buffer} i f t) lent fine =
         hears-out ticks start number last wait buffer i f t l (lent (ap not fine))
     hear-forward l (ends size t stages.Kept.none cs) lent fine = stays d o (ends size t stages.Kept.none cs)
     hear-forward l (ends {ticks} {start} {last} {back = back} {buffer} size t (kept e) cs) lent fine =
         answer (awaitedPhase m ticks start (framesOf m) last) (donePhase m) (endOfAck st rs m ∷ back) buffer
         (informationAt (framesOf m) m) l (lent (ap not fine)) (hears-delivered rs m buffer size some-frames)
-        (rw add-zero (ends size t (kept-by k (informationAt (framesOf m) m) may) (copies-join e cs)))
+        (rw (add-zero ticks) (ends size t (kept-by k (informationAt (framesOf m) m) may) (repeated-join e cs)))
     hear-forward l (over size t stages.Kept.none cs) lent fine = stays d o (over size t stages.Kept.none cs)
-    hear-forward l (over {back = back} {buffer} size t (kept e) cs) lent fine =
+    hear-forward l (over {ticks = ticks} {back = back} {buffer} size t (kept e) cs) lent fine =
         answer Idle (donePhase m) back buffer (informationAt (framesOf m) m) l (lent (ap not fine))
         (hears-delivered rs m buffer size some-frames)
-        (rw add-zero (over size t (kept-by k (informationAt (framesOf m) m) may) (copies-join e cs)))
+        (rw (add-zero ticks) (over size t (kept-by k (informationAt (framesOf m) m) may) (repeated-join e cs)))
 
     -- ---- a hearing of the sender, which keeps the frame or takes it away
 
@@ -330,22 +330,22 @@ module _ {st : Settings} {rs : receiver-settings.Settings} {m : List ℕ} (c : C
     hear-back (asks {turn} {ticks} {number} {last} {p} {forward} {back} {buffer} a i f t u q) =
         reply p (at.Open (connected m number last 0)) forward back buffer (windowAck number last)
         (hears-ack st m a (i .first) (i .inside) (i .final))
-        (rw (add-zero, append-nil forward)
+        (rw (add-zero ticks, append-nil forward)
         (sends i f (c .gap) (at-once turn) t u (answered-by k number last may q)))
     hear-back (sends i f g s t u stages.Answered.none) = stays d o (sends i f g s t u stages.Answered.none)
     hear-back (sends {ticks = ticks} {number = number} {last} {wait = wait} {forward} {buffer = buffer} i f g s t u (stages.Answered.more {fs = back} e q)) =
         reply (Sending (streamed m ticks number number last 0)) (at.Open (connected m number last wait)) forward back buffer
         (windowAck number last)
         (hears-ack st m (again {turn = anyone}) (i .first) (i .inside) (i .final))
-        (rw (add-zero, append-nil forward) (sends i f g s t u (answered-by k number last may q)))
+        (rw (add-zero ticks, append-nil forward) (sends i f g s t u (answered-by k number last may q)))
     hear-back (sent i f t) = stays d o (sent i f t)
     hear-back (ends {ticks} {start} {last} {forward} {back} {buffer} size t u cs) =
         let fits = c .fits in
         let there : framesOf m * st .gap ≤ framesOf m * st .gap = omega arith in
         reply (awaitedPhase m ticks start (framesOf m) last) (donePhase m) forward back buffer (endOfAck st rs m)
         (hears-end st m ticks start (framesOf m) last (omega arith))
-        (rw (add-zero, append-nil forward, t) (over size there u (copies-by k (endOfAck st rs m) may cs)))
+        (rw (add-zero ticks, append-nil forward, t) (over size there u (repeated-by k (endOfAck st rs m) may cs)))
     hear-back (over size t u stages.Repeated.none) = stays d o (over size t u stages.Repeated.none)
-    hear-back (over {forward = forward} {buffer = buffer} size t u (stages.Repeated.more {fs = back} e cs)) =
+    hear-back (over {ticks = ticks} {forward = forward} {buffer = buffer} size t u (stages.Repeated.more {fs = back} e cs)) =
         reply Idle (donePhase m) forward back buffer (endOfAck st rs m) (hears-idle st m)
-        (rw (add-zero, append-nil forward) (over size t u (copies-by k (endOfAck st rs m) may cs)))
+        (rw (add-zero ticks, append-nil forward) (over size t u (repeated-by k (endOfAck st rs m) may cs)))

@@ -175,9 +175,9 @@ module _ (st : Settings) (rs : receiver-settings.Settings) (m : List ℕ) where
   none-kept Kept.none = refl
   none-kept (kept e) = absurd (false≢true e)
 
-  pub no-copies : {f : Frame} {fs : List Frame} → Repeated false f fs → fs ≡ []
-  no-copies Repeated.none = refl
-  no-copies (Repeated.more e _) = absurd (false≢true e)
+  pub none-repeated : {f : Frame} {fs : List Frame} → Repeated false f fs → fs ≡ []
+  none-repeated Repeated.none = refl
+  none-repeated (Repeated.more e _) = absurd (false≢true e)
 
   pub none-passed : {start number gap : ℕ} {fs : List Frame} → Passed false start number gap fs → fs ≡ []
   none-passed Passed.none = refl

@@ -54,7 +54,7 @@ module _ {st : Settings} {rs : receiver-settings.Settings} {m : List ℕ} (c : C
       subst⁻¹ (λ (a : receiver.Told). Then (byReceiver receiverTick w nobody [] (receiver.heard a buffer)) turn
       (since m ticks 0 []) [])
       (waits-on rs m number last wait (omega arith) (c .timeouts))
-      (record { stage = rw add-zero (sends i f g longer t stages.Passed.none stages.Answered.none) })
+      (record { stage = rw (add-zero ticks) (sends i f g longer t stages.Passed.none stages.Answered.none) })
 
   in-turn : (turn : Turn) {gap wait : ℕ} → ReceiverMayTick turn → Paced turn gap wait → wait ≤ gap
   in-turn anyone may p = p
@@ -75,7 +75,7 @@ module _ {st : Settings} {rs : receiver-settings.Settings} {m : List ℕ} (c : C
   tick-receiver (sends i f g p t stages.Passed.none (stages.Answered.more _ _)) (_, e) may = absurd (cons≢nil e)
   tick-receiver (sent i f t) (e, _) may = absurd (cons≢nil e)
   tick-receiver (ends size t u cs) (_, e) may = absurd (cons≢nil e)
-  tick-receiver (over {back = back} size t u cs) e may = record { stage = rw (add-zero, append-nil back) (over size t u cs) }
+  tick-receiver (over {ticks = ticks} {back = back} size t u cs) e may = record { stage = rw (add-zero ticks, append-nil back) (over size t u cs) }
 
   -- the sender's: the gap grows, or the frame goes out
   a-tick-longer : (turn : Turn) (gap wait : ℕ) → Paced turn gap wait → wait ≤ gap + 1
