@@ -245,9 +245,9 @@ kospelna_receiver_answer kospelna_receiver_hear(kospelna_receiver receiver, kosp
  * What a long transfer takes where nothing goes wrong: a session in which frames were lost or repeated is rated by how its
  * report stands against the clean figures of its length and gap. A session is clean if, with what `sent` asks above,
  *   - both ends were just made when the transfer began, and nothing was on the line;
- *   - every frame is heard before the next tick of either end, and none is lost or repeated;
+ *   - no frame is on the line at a tick of either end, and none was lost or repeated;
  *   - the two ends tick by turns, either of them first;
- *   - both timeouts are above the gap, the sending time is above N times the gap, and L is at most the capacity.
+ *   - both timeouts are above the gap, the sending time is above N times the gap, and the capacity is at least L.
  * Then the sender's one report is `sent`, with exactly these figures, and the receiver has delivered the message once.
  * Neither the window nor which end ticks first changes them.
  */

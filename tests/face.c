@@ -363,28 +363,33 @@ static void limits(void)
          "a limit of a message's length");
 }
 
-/* A clean session at the edge of its conditions, the receiver ticking first. Its report, and the clean figures of its length
- * and gap, are those of document 02, E1. */
+/* A clean session at the edge of its conditions, the receiver ticking first, of bytes 1, 2, .., 251, 1, ..: no two frames in
+ * a row are alike, and none is what the buffer held. Its report, and the clean figures of its length and gap, are those of
+ * document 02, E1; the message is delivered. */
 static void clean_session(uint16_t length, uint16_t gap, uint16_t ticks, uint16_t frames)
 {
-    static const uint8_t longest[KOSPELNA_MESSAGE_MAX];
+    uint8_t counting[KOSPELNA_MESSAGE_MAX];
+    for (size_t i = 0; i < sizeof counting; i++)
+        counting[i] = 1 + i % 251;
+    memset(buffer, 0, sizeof buffer);
     const kospelna_clean_figures figures = kospelna_clean_figures_of(length, gap);
     must(figures.refusal == 0 && figures.ticks == ticks && figures.frames == frames, "the clean figures");
     const uint16_t timeout = gap + 1, limit = ticks + 1;
     kospelna_receiver_answer b = {.next = kospelna_receiver_make(timeout, 2, length).receiver};
-    kospelna_sender_answer a = kospelna_sender_begin(kospelna_sender_make(gap, timeout, limit).sender, longest, length);
+    kospelna_sender_answer a = kospelna_sender_begin(kospelna_sender_make(gap, timeout, limit).sender, counting, length);
     for (int tick = 0; a.outcome == KOSPELNA_QUIET && tick <= ticks; tick++) {
         if (tick > 0) {
             b = kospelna_receiver_tick(b.next);
             must(b.outcome == KOSPELNA_QUIET && !b.emits, "the receiver waits in vain");
-            a = kospelna_sender_tick(a.next, longest, length);
+            a = kospelna_sender_tick(a.next, counting, length);
         }
         if (a.emits)
             b = hears(b.next, a.frame);
         if (b.emits)
             a = kospelna_sender_hear(a.next, b.frame);
     }
-    must(b.outcome == KOSPELNA_DELIVERED && b.length == length, "the delivery of a clean session");
+    must(b.outcome == KOSPELNA_DELIVERED && b.length == length && memcmp(buffer, counting, length) == 0,
+         "the delivery of a clean session");
     must(a.outcome == KOSPELNA_SENT && a.ticks == ticks && a.frames == frames, "the report of a clean session");
 }
 

@@ -19,6 +19,13 @@ NAMES = [f"clean-{length}-gap-{gap}" for length in (9, 14, 15, 1785) for gap in 
 TICKS = {run_pack.EVENTS["sender tick"]: "S", run_pack.EVENTS["receiver tick"]: "R"}
 # A hearing, and the end whose frame it takes off the line.
 HEARINGS = {run_pack.EVENTS["forward hear"]: "S", run_pack.EVENTS["back hear"]: "R"}
+# A loss or a repeat, and the end whose frame it is; on an empty list there is none.
+LOSSES_AND_REPEATS = {
+    run_pack.EVENTS["forward lose"]: "S",
+    run_pack.EVENTS["forward repeat"]: "S",
+    run_pack.EVENTS["back lose"]: "R",
+    run_pack.EVENTS["back repeat"]: "R",
+}
 
 
 class Session:
@@ -79,7 +86,7 @@ class Session:
                 last = TICKS[event]
             elif event in HEARINGS:
                 line[HEARINGS[event]] = max(line[HEARINGS[event]] - 1, 0)
-            else:
+            elif line[LOSSES_AND_REPEATS[event]]:
                 return f"event {number}: a frame is lost or repeated"
             for end in line:
                 line[end] += self.frames[number, end]
@@ -122,6 +129,11 @@ class Clean(unittest.TestCase):
             self.assertEqual([cell.strip() for cell in cells.split("|")][:6], expected, name)
             said = re.search(r"At event (\d+):", (SAMPLES / f"{name}.txt").read_text())
             self.assertEqual(int(said[1]), session.reports[-1][0], name)
+
+    def test_every_event(self):
+        """Every event comes in these samples, losses and repeats on empty lists among them."""
+        played = {event for name in NAMES for event in Session(*read(name)).events}
+        self.assertEqual(played, set(run_pack.EVENTS.values()))
 
     def test_edges(self):
         """Each edge is met by two samples and more, the longest message among them; that of T with the receiver first."""
@@ -175,6 +187,15 @@ class Unclean(unittest.TestCase):
         ):
             self.assertIn(old, out)
             self.assertEqual(Session(pack, out.replace(old, new)).fault(), fault)
+
+    def test_the_other_list(self):
+        """The losses and repeats of clean-14-gap-10, whose events begin at offset 37, on the list that is not empty."""
+        pack, out = read("clean-14-gap-10")
+        for number, old, new in ((1, 8, 5), (3, 4, 7), (25, 7, 4), (27, 5, 8)):
+            place = 36 + number
+            self.assertEqual(pack[place], old)
+            session = Session(pack[:place] + bytes([new]) + pack[place + 1 :], out)
+            self.assertEqual(session.fault(), f"event {number}: a frame is lost or repeated")
 
 
 if __name__ == "__main__":

@@ -275,8 +275,18 @@ fn with_figures(change: fn(&mut u16, &mut u16)) -> impl Fn(&[u8]) -> String {
     }
 }
 
-/// The reference has the clean figures. A player with others is caught by them, and one that prints
-/// another frame by the comparison alone.
+/// A loss on an empty list takes the first frame of the other.
+fn loses_the_others(bench: &mut Bench, call: Call, message: &[u8], buffer: &mut [u8]) -> Outcome {
+    let call = match call {
+        Call::ForwardLose if bench.forward.is_empty() => Call::BackLose,
+        Call::BackLose if bench.back.is_empty() => Call::ForwardLose,
+        _ => call,
+    };
+    right(bench, call, message, buffer)
+}
+
+/// The reference has the clean figures. A player with others is caught by them, as is one that loses
+/// a frame, and one that prints another frame by the comparison alone.
 #[test]
 fn clean_packs() {
     assert!(fault(play).is_none());
@@ -295,6 +305,8 @@ fn clean_packs() {
         assert!(text.contains(&again));
         assert!(text.contains("the same for tools/make_pack:\n"));
     }
+    let player = |pack: &[u8]| play_with(pack, |b, c, m, f| Ok(loses_the_others(b, c, m, f)));
+    assert!(fault(player).unwrap().unmet.is_some());
     let fault = fault(|pack| play(pack).replace(" R 2 01 ", " R 2 02 ")).unwrap();
     assert!(fault.unmet.is_none() && fault.difference.is_some());
 }

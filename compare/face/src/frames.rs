@@ -1,4 +1,4 @@
-//! Frames near what the ends hold: of every kind, clean and dirty.
+//! Frames near what the ends hold: of every kind, with right and with wrong filler.
 
 use compare::packs::random::Random;
 use compare::reference::frame::frames_for;

@@ -28,7 +28,7 @@ struct Manner {
 }
 
 const MANNERS: [Manner; 5] = [
-    // Clean.
+    // Mostly forward.
     Manner {
         forward: 97,
         weights: [4, 4, 2, 1, 1, 2, 1, 1, 1, 1, 1, 1, 1, 1],

@@ -13,11 +13,15 @@ use crate::reference::frame::{frames_for, BUFFER_LENGTH};
 use crate::reference::line::Bench;
 use crate::reference::player::{event, play, Settings};
 
-/// The events of a clean list: the two ticks and the two hearings.
+/// The events of a clean list: ticks and hearings, and on an empty list losses and repeats too.
 pub const SENDER_TICK: u8 = 1;
 pub const RECEIVER_TICK: u8 = 2;
 pub const FORWARD_HEAR: u8 = 3;
+pub const FORWARD_LOSE: u8 = 4;
+pub const FORWARD_REPEAT: u8 = 5;
 pub const BACK_HEAR: u8 = 6;
+pub const BACK_LOSE: u8 = 7;
+pub const BACK_REPEAT: u8 = 8;
 
 /// The clean pack of this seed.
 pub fn case(seed: u64) -> Case {
@@ -97,10 +101,11 @@ fn events(random: &mut Random, case: &Case) -> Vec<u8> {
     events
 }
 
-/// A hearing at any time, on an empty list too; a tick, of the end whose turn it is, on an empty line.
+/// A hearing while a frame is on the line; else a tick, of the end whose turn it is. At times
+/// something else that is clean.
 fn next(random: &mut Random, bench: &Bench, turn: u8) -> u8 {
-    if random.percent(8) {
-        return random.pick(&[FORWARD_HEAR, BACK_HEAR]);
+    if random.percent(12) {
+        return aside(random, bench);
     }
     match (bench.forward.is_empty(), bench.back.is_empty()) {
         (true, true) => turn,
@@ -108,6 +113,18 @@ fn next(random: &mut Random, bench: &Bench, turn: u8) -> u8 {
         (true, false) => BACK_HEAR,
         (false, false) => random.pick(&[FORWARD_HEAR, BACK_HEAR]),
     }
+}
+
+/// A hearing of either list, be it empty; a loss or a repeat where the list is empty.
+fn aside(random: &mut Random, bench: &Bench) -> u8 {
+    let mut numbers = vec![FORWARD_HEAR, BACK_HEAR];
+    if bench.forward.is_empty() {
+        numbers.extend([FORWARD_LOSE, FORWARD_REPEAT]);
+    }
+    if bench.back.is_empty() {
+        numbers.extend([BACK_LOSE, BACK_REPEAT]);
+    }
+    random.pick(&numbers)
 }
 
 /// The reports that E1 promises for a clean list, by its events alone. With the sender's tick N × G

@@ -20,7 +20,8 @@ struct Manner {
     extra: usize,
 }
 
-const CLEAN: Manner = Manner {
+/// Losses and repeats are rare.
+const FORWARD: Manner = Manner {
     forward: 96,
     weights: [[3, 3, 2, 1, 1, 2, 1, 1]; 2],
     extra: 20,
@@ -179,7 +180,7 @@ fn spoil_shape(random: &mut Random, case: &mut Case) {
 
 /// Events of a session in a manner drawn for it.
 fn add_events(random: &mut Random, case: &mut Case) {
-    let manners = [CLEAN, LOSSY, QUIET, FLOOD, EVEN];
+    let manners = [FORWARD, LOSSY, QUIET, FLOOD, EVEN];
     let manner = manners[random.weighted(&[25, 40, 20, 10, 5])];
     let frames = case.message.len().div_ceil(7);
     let most = match random.percent(5) {

@@ -64,6 +64,7 @@ struct Session {
     ticks: u16,
     /// The tick whose turn it is; none before the first.
     turn: Option<Call>,
+    /// Frames that a repeat gave.
     repeats: u8,
     sent: Vec<sender::Report>,
     delivered: Vec<Vec<u8>>,
@@ -89,8 +90,9 @@ impl Session {
 
     fn call(&mut self, call: Call, message: &[u8]) {
         self.ticks += u16::from(call == Call::SenderTick);
-        self.repeats += u8::from(is_repeat(call));
-        match self.bench.call(call, message, &mut self.buffer).unwrap() {
+        let outcome = self.bench.call(call, message, &mut self.buffer).unwrap();
+        self.repeats += u8::from(is_repeat(call) && outcome != Outcome::Nothing);
+        match outcome {
             Outcome::Nothing => {}
             Outcome::Sender(answer) => self.sent.extend(answer.report),
             Outcome::Receiver(answer) => match answer.report {
@@ -108,14 +110,16 @@ impl Session {
         };
     }
 
-    /// A hearing; or a tick with nothing on the line, by turns.
+    /// A hearing; a loss or a repeat on an empty list; or a tick with nothing on the line, by turns.
     fn is_clean(&self, call: Call) -> bool {
         match call {
+            Call::Begin => false,
             Call::ForwardHear | Call::BackHear => true,
+            Call::ForwardLose | Call::ForwardRepeat => self.bench.forward.is_empty(),
+            Call::BackLose | Call::BackRepeat => self.bench.back.is_empty(),
             Call::SenderTick | Call::ReceiverTick => {
                 self.bench.line_is_empty() && self.turn.is_none_or(|turn| turn == call)
             }
-            _ => false,
         }
     }
 
@@ -151,10 +155,11 @@ fn settings(numbers: [u16; 6]) -> Settings {
     }
 }
 
-/// Random clean lists: those of the clean packs, which are clean.
+/// Random clean lists: those of the clean packs, which are clean. Every event is among them.
 #[test]
 fn random_clean_sessions_have_the_figures() {
     let mut reported = 0;
+    let mut played = [0; 8];
     for Case {
         settings,
         message,
@@ -172,18 +177,22 @@ fn random_clean_sessions_have_the_figures() {
             assert!(session.is_clean(call));
             session.call(call, &message);
             session.check(s.gap, &message);
+            played[usize::from(number) - 1] += 1;
         }
         reported += session.sent.len();
     }
+    assert!(played.iter().all(|&times| times > 500), "{played:?}");
     assert!((350..500).contains(&reported), "{reported}");
 }
 
-const CALLS: [Call; 6] = [
+const CALLS: [Call; 8] = [
     Call::SenderTick,
     Call::ReceiverTick,
     Call::ForwardHear,
+    Call::ForwardLose,
     Call::ForwardRepeat,
     Call::BackHear,
+    Call::BackLose,
     Call::BackRepeat,
 ];
 
@@ -213,8 +222,8 @@ fn reached(
     found
 }
 
-/// Short messages with settings just within the conditions, but for the sender's T: every list of
-/// such calls has the figures.
+/// Messages of a few frames with settings just within the conditions, but for the sender's T: every
+/// list of such calls has the figures.
 fn all_have_the_figures(sender_timeout: fn(u16) -> u16, may: fn(&Session, Call) -> bool) {
     for length in [9, 14, 15, 22] {
         let message = message(length);
@@ -233,20 +242,27 @@ fn all_have_the_figures(sender_timeout: fn(u16) -> u16, may: fn(&Session, Call) 
     }
 }
 
-/// Whoever ticks first, and with hearings on empty lists.
+/// Whoever ticks first, and whatever is called on empty lists.
 #[test]
 fn every_clean_list_has_the_figures() {
     all_have_the_figures(|gap| gap + 1, Session::is_clean);
 }
 
-/// Two conditions of E1 are not needed for the figures. A clean sender is never left waiting, so its
-/// T may be any. A repeated frame changes nothing where it is heard again before the next tick.
+/// Three conditions of E1 are not needed for the figures. A clean sender is never left waiting, so
+/// its T may be any. A repeated frame changes nothing where it is heard again before the next tick.
+/// A sender that ticks out of its turn leaves the receiver less time to wait.
 #[test]
 fn what_the_figures_do_not_need() {
     all_have_the_figures(|_| 1, Session::is_clean);
     all_have_the_figures(
         |gap| gap + 1,
         |session, call| session.is_clean(call) || is_repeat(call) && session.repeats < 3,
+    );
+    all_have_the_figures(
+        |gap| gap + 1,
+        |session, call| {
+            session.is_clean(call) || call == Call::SenderTick && session.bench.line_is_empty()
+        },
     );
 }
 
@@ -291,8 +307,8 @@ fn receiver_timeout_equal_to_the_gap() {
     );
 }
 
-/// The same in every list of short messages: with G = T = 1 the frame still goes at the next tick, from
-/// 2 on no report has the figures.
+/// The same in every list of messages of a few frames: with G = T = 1 the frame still goes at the next
+/// tick, from 2 on no report has the figures.
 #[test]
 fn receiver_timeout_equal_to_every_gap() {
     for length in [9, 15, 22] {

@@ -355,10 +355,10 @@ fn direct_transfer(message: &[u8], buffer: &mut [u8]) -> u64 {
             calls += 1;
             continue;
         };
-        let heard = receiver.hear(frame, buffer).expect("a clean frame");
+        let heard = receiver.hear(frame, buffer).expect("a frame of the sender");
         calls += 1;
         if let Some(frame) = heard.frame {
-            said = sender.hear(frame).expect("a clean frame");
+            said = sender.hear(frame).expect("a frame of the receiver");
             calls += 1;
         }
     }
@@ -379,7 +379,7 @@ pub fn transfer_rows() -> Vec<Row> {
         let mut buffer = vec![0; 1785];
         let calls = direct_transfer(message, &mut buffer);
         Row::new(
-            &format!("clean transfer of {length} bytes, {calls} calls"),
+            &format!("transfer of {length} bytes without loss, {calls} calls"),
             transfers(Proved, message),
             transfers(Behind, message),
             move || direct_transfer(black_box(message), black_box(&mut buffer)),

@@ -21,7 +21,7 @@ struct Sort(&'static str, fn(usize) -> (Settings, Vec<u8>));
 const SORTS: [Sort; 6] = [
     Sort("ticks of both ends", ticks),
     Sort("both lines empty, heard", empty_lines),
-    Sort("a clean transfer, spread by ticks", clean),
+    Sort("a transfer without loss, spread by ticks", without_loss),
     Sort("a transfer, each frame lost twice", lossy),
     Sort("a transfer, frames repeated and ignored", ignored),
     Sort("frame 0 repeated, LM_ACK each time", answered),
@@ -47,7 +47,7 @@ fn empty_lines(count: usize) -> (Settings, Vec<u8>) {
 }
 
 /// A window is one frame: LM_ACK is heard, the frame goes out, both ends tick, the frame is heard.
-fn clean(count: usize) -> (Settings, Vec<u8>) {
+fn without_loss(count: usize) -> (Settings, Vec<u8>) {
     let spare = (count / 255).saturating_sub(3);
     let (_, between) = ticks(spare);
     (
