@@ -89,7 +89,8 @@ senderFirstShown =
 
 -- ---- the receiver ticks first
 
--- Among them stand begins, a tick and a repeat that are refused, and calls on an empty list. They go on after the report.
+-- Among them stand begins, a repeat and a tick that are refused, the tick while a frame is on the line, and calls on an empty
+-- list. They go on after the report.
 unfoldable pub receiverFirstCalls : List Call
 receiverFirstCalls =
     loseBack
@@ -97,12 +98,12 @@ receiverFirstCalls =
     ∷ begin exampleMessage
     ∷ hearBack
     ∷ receiverTick
-    ∷ senderTick []
     ∷ senderTick exampleMessage
     ∷ receiverTick
     ∷ repeatForward (replicate 1785 0)
     ∷ senderTick exampleMessage
     ∷ hearForward (replicate 1785 0)
+    ∷ senderTick []
     ∷ loseForward
     ∷ hearBack
     ∷ receiverTick
@@ -128,12 +129,12 @@ receiverFirstShown =
     ∷ senderSays (sender.refused 3)
     ∷ nothing
     ∷ nothing
-    ∷ senderSays (sender.refused 4)
     ∷ nothing
     ∷ nothing
     ∷ nothing
     ∷ showsFirst
     ∷ showsAck 2
+    ∷ senderSays (sender.refused 4)
     ∷ nothing
     ∷ nothing
     ∷ nothing
