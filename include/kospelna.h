@@ -38,7 +38,8 @@ enum {
     KOSPELNA_REFUSAL_GROUP = 9,         /* group: its code, the lent length or the filler */
     KOSPELNA_REFUSAL_VALUE = 10,        /* group: a value outside its range; version message: CAN type or result */
     KOSPELNA_REFUSAL_VERSIONS = 11,     /* version list, making a talker: not 1 to 8 strictly rising versions */
-    KOSPELNA_REFUSAL_PACK = 12          /* the player's run pack: no function here answers it */
+    KOSPELNA_REFUSAL_PACK = 12,         /* the player's run pack: no function here answers it */
+    KOSPELNA_REFUSAL_HOLD = 13          /* hold: none open, frame 1 is expected, or held; resume: not held */
 };
 
 /* Outcomes: what a call of an end or of a talker came to. */
@@ -110,7 +111,8 @@ enum {
     KOSPELNA_CAPACITY_MIN = 9,     KOSPELNA_CAPACITY_MAX = 1785,
     KOSPELNA_SHORT_MAX = 8,      /* messages of 1 to 8 bytes go short */
     KOSPELNA_MESSAGE_MAX = 1785, /* of 9 to 1785 long: 255 frames of 7 bytes */
-    KOSPELNA_BUFFER_LENGTH = 1785
+    KOSPELNA_BUFFER_LENGTH = 1785,
+    KOSPELNA_HELD_TIMEOUTS_MAX = 20 /* of one connection */
 };
 
 /* ---- The sender ----
@@ -209,6 +211,8 @@ typedef struct kospelna_receiver {
     uint8_t last;      /* w, the number of the window's last frame: Open */
     uint16_t wait;     /* ticks waited: Open */
     uint16_t misses;   /* timeouts in a row: Open */
+    bool held;         /* the transfer is held: Open */
+    uint16_t holds;    /* timeouts of this connection while it was held: Open */
 } kospelna_receiver;
 
 typedef struct kospelna_receiver_made {
@@ -232,6 +236,17 @@ kospelna_receiver_made kospelna_receiver_make(uint16_t timeout, uint16_t window,
 
 /* A tick; never refused. */
 kospelna_receiver_answer kospelna_receiver_tick(kospelna_receiver receiver);
+
+/* Holds the transfer: a receiver that is busy. Emits LM_ACK e - 1, 1, and so does every timeout from then on; the sender
+ * answers with the frame that the receiver has already, so that neither end gives up. Every information frame is ignored.
+ * Of its timeouts while held a connection has KOSPELNA_HELD_TIMEOUTS_MAX in all, however often it is resumed; where one
+ * more would fall due it fails, KOSPELNA_CAUSE_TIMEOUTS. Refused 13 where no connection is open, where frame 1 is still
+ * expected, and where the transfer is held. */
+kospelna_receiver_answer kospelna_receiver_hold(kospelna_receiver receiver);
+
+/* Ends the hold: asks for the window from the expected frame on. Refused 13 where the transfer is not held. Neither call
+ * alters wait or misses. */
+kospelna_receiver_answer kospelna_receiver_resume(kospelna_receiver receiver);
 
 /* A frame is heard: kind 1, 3, 5 or 7. Message bytes go to their place in the buffer, the rest of it stays: lend the same
  * buffer until the delivery. It always has 1785 bytes, the longest message, whatever the capacity, so that every frame's
