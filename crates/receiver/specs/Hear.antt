@@ -1,6 +1,6 @@
 -- What the receiver does at each frame heard. Places are items of document 01, The receiver, unless another part is named.
 use Prim.Native.Nat.{ℕ, _+_, _-_, _*_, min}
-use mathlib.Core.Bool.{Bool, _&&_}
+use mathlib.Core.Bool.{Bool, false, _&&_}
 use mathlib.Core.List.{List}
 use lib.Dec.{eqb, leb, ltb}
 use lib.ListN.{length, drop}
@@ -129,11 +129,22 @@ hearNumbered r f parsed buffer =
     (heard (hearAnnouncement r (r .phase) (byteOf f 1) (wordAt f 2 3)) buffer)
     (hearInformation r (r .phase) (parsed .number) (drop 1 (f .bytes)) buffer)
 
+-- Document 02, E2: a hold stands. A close leaves no connection, and so no mark.
+abbrev pub isHeld : Phase → Bool
+isHeld Idle = false
+isHeld (Done x) = false
+isHeld (Open x) = x .held
+
+-- E2, "While held": a frame of kind 1 is ignored, whatever its number; else it does what its number says
+unfoldable pub hearUnlessHeld : Receiver → Frame → Parsed → List ℕ → Heard
+hearUnlessHeld r f parsed buffer =
+    pick (isHeld (r .phase)) (heard (silently r) buffer) (hearNumbered r f parsed buffer)
+
 -- by the kind that was read. "SM_RM": its bytes are a short delivery, and it is acknowledged by its first; SM_URM is
 -- delivered and not acknowledged; neither touches state or buffer. Refusals, hearing: 7 for the sender's kinds.
 unfoldable pub hearKind : Receiver → Frame → Parsed → List ℕ → Heard
 hearKind r f parsed buffer =
-    pick (eqb (parsed .kind) 1) (hearNumbered r f parsed buffer)
+    pick (eqb (parsed .kind) 1) (hearUnlessHeld r f parsed buffer)
     (pick (eqb (parsed .kind) 3) (heard (hearNack r (r .phase)) buffer)
     (pick (eqb (parsed .kind) 5) (heard (shortWith r (smAckOf (byteOf f 0)) (f .bytes)) buffer)
     (pick (eqb (parsed .kind) 7) (heard (shortOnly r (f .bytes)) buffer)

@@ -2,6 +2,7 @@ pub mod State
 pub mod Told
 pub mod Window
 pub mod Make
+pub mod Hold
 pub mod Tick
 pub mod Hear
 pub mod Reachable

@@ -1,6 +1,7 @@
 -- The states that making and calls bring a receiver to, what holds of them, and that in them the definitions' tests and
--- counts are document 01's own: `EveryReachable`, proved in `proofs/Reachable.antt`.
+-- counts are those of documents 01 and 02: `EveryReachable`, proved in `proofs/Reachable.antt`.
 use Prim.Native.Nat.{ℕ, _+_, _-_, _*_, _≤_, _<_}
+use mathlib.Core.Bool.{true}
 use mathlib.Core.Path.{_≡_}
 use mathlib.Core.List.{List}
 use lib.Dec.{eqb, leb}
@@ -8,6 +9,7 @@ use Rattle.frame.specs.Result.{accepted}
 use Rattle.frame.specs.Count.{frameCountOf, incrementOf}
 use Rattle.frame.specs.declared.Frame.{Frame}
 use Rattle.receiver.specs.Hear.{carried, hearOf}
+use Rattle.receiver.specs.Hold.{holdOf, resumeOf}
 use Rattle.receiver.specs.Make.{makeOf}
 use Rattle.receiver.specs.Tick.{tickOf}
 use Rattle.receiver.specs.Window.{windowOf}
@@ -17,11 +19,13 @@ use Rattle.receiver.specs.declared.Phase.the-variants.{Idle, Done, Open}
 use Rattle.receiver.specs.declared.Receiver.{Receiver}
 use Rattle.receiver.specs.declared.Settings.{Settings}
 
--- a receiver that making answered, and what a tick, or a hearing of any frame with any buffer, leaves of a reachable
--- one
+-- a receiver that making answered, and what a tick, a hold, a resume, or a hearing of any frame with any buffer, leaves
+-- of a reachable one
 pub data Reachable : Receiver → Type 0 where
   new : {r : Receiver} (timeout window capacity : ℕ) → makeOf timeout window capacity ≡ accepted r → Reachable r
   ticked : {r : Receiver} → Reachable r → Reachable (tickOf r .next)
+  held : {r : Receiver} → Reachable r → Reachable (holdOf r .next)
+  resumed : {r : Receiver} → Reachable r → Reachable (resumeOf r .next)
   hearing : {r : Receiver} → Reachable r → (f : Frame) (buffer : List ℕ) → Reachable (hearOf r f buffer .told .next)
 
 -- The receiver, "Settings": the limits
@@ -40,7 +44,8 @@ pub record Announced (s : Settings) (frames length : ℕ) : Type 0 where
   pub fits : frames ≡ frameCountOf length
   pub byte : frames ≤ 255
 
--- an open connection: 1 ≤ e ≤ w ≤ N, w at most e + C − 1, short of T and of the third miss
+-- an open connection: 1 ≤ e ≤ w ≤ N, w at most e + C − 1, short of T, of the third miss and of the 21st held timeout;
+-- it is held only where a frame has been accepted
 pub record OpenWithin (s : Settings) (x : Connection) : Type 0 where
   pub announced : Announced s (x .frames) (x .length)
   pub first : 1 ≤ x .expected
@@ -49,6 +54,8 @@ pub record OpenWithin (s : Settings) (x : Connection) : Type 0 where
   pub window : x .last ≤ x .expected + s .window - 1
   pub waits : x .wait < s .timeout
   pub tries : x .misses < 3
+  pub pauses : x .holds ≤ 20
+  pub begun : x .held ≡ true → 2 ≤ x .expected
 
 abbrev pub PhaseWithin : Settings → Phase → Type 0
 PhaseWithin s Idle = Unit
@@ -59,7 +66,7 @@ pub record Within (r : Receiver) : Type 0 where
   pub settings : SettingsWithin (r .settings)
   pub phase : PhaseWithin (r .settings) (r .phase)
 
--- What the definitions do in another way than document 01 says, for the sake of states that no calls make, is the same
+-- What the definitions do in another way than the documents say, for the sake of states that no calls make, is the same
 -- in a state within: no count is cut, "at least" is "at", no difference is cut, and what is stored lies inside L.
 pub record Exact (r : Receiver) (x : Connection) : Type 0 where
   -- "wait grows by 1", "misses grows by 1"
@@ -68,6 +75,11 @@ pub record Exact (r : Receiver) (x : Connection) : Type 0 where
   -- "At T", "the third"
   pub due : leb (r .settings .timeout) (incrementOf (x .wait)) ≡ eqb (x .wait + 1) (r .settings .timeout)
   pub third : leb 3 (incrementOf (x .misses)) ≡ eqb (x .misses + 1) 3
+  -- document 02, E2: the count of held timeouts, and the 21st
+  pub holds : incrementOf (x .holds) ≡ x .holds + 1
+  pub twentyFirst : leb 21 (incrementOf (x .holds)) ≡ eqb (x .holds + 1) 21
+  -- E2, "LM_ACK e − 1, 1", where it goes out: the start is a frame's number, one below e
+  pub before : x .held ≡ true → (1 ≤ x .expected - 1) × (x .expected - 1 + 1 ≡ x .expected)
   -- "LM_ACK e, w − e + 1": of the window now, asked for again, and of the next
   pub count : x .last - (x .expected - 1) ≡ x .last + 1 - x .expected
   pub again : x .expected ≤ windowOf (r .settings) (x .expected) (x .frames)

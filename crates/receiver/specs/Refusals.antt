@@ -4,14 +4,15 @@
 use Prim.Native.Nat.{ℕ}
 use mathlib.Core.Path.{_≡_}
 use mathlib.Core.Bool.{false}
-use mathlib.Core.List.{List}
+use mathlib.Core.List.{List, []}
 use Rattle.frame.specs.Frames.{blankOf}
 use Rattle.frame.specs.Result as result
 use Rattle.frame.specs.declared.Frame.{Frame}
 use Rattle.receiver.specs.Hear.{hearOf}
+use Rattle.receiver.specs.Hold.{holdOf, resumeOf}
 use Rattle.receiver.specs.Make.{makeOf}
 use Rattle.receiver.specs.Tick.{tickOf}
-use Rattle.receiver.specs.Told.{refused, Heard, noBytes}
+use Rattle.receiver.specs.Told.{refused, Heard, heard, noBytes}
 use Rattle.receiver.specs.declared.Receiver.{Receiver}
 
 -- what a hearing answers leaves the receiver and the lent buffer as they were, emits no frame (the blank one stands there)
@@ -28,6 +29,11 @@ pub record Refusals : Type 0 where
   pub make : (timeout window capacity number : ℕ) → makeOf timeout window capacity ≡ result.refused number → number ≡ 1
   -- no tick of a receiver is refused
   pub tick : (r : Receiver) (number : ℕ) → tickOf r .outcome ≡ refused number → ⊥
+  -- a hold and a resume, which are lent nothing, by the number that document 02, E2, gives to both
+  pub hold : (r : Receiver) (number : ℕ) → holdOf r .outcome ≡ refused number
+      → (number ≡ 13) × Unchanged r [] (heard (holdOf r) [])
+  pub resume : (r : Receiver) (number : ℕ) → resumeOf r .outcome ≡ refused number
+      → (number ≡ 13) × Unchanged r [] (heard (resumeOf r) [])
   -- a hearing, by whatever number it is refused, of any frame, lent anything, in any state
   pub hear : (r : Receiver) (f : Frame) (buffer : List ℕ) (number : ℕ) → hearOf r f buffer .told .outcome ≡ refused number
       → Unchanged r buffer (hearOf r f buffer)

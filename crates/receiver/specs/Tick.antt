@@ -1,9 +1,10 @@
--- Document 01, The receiver, "Tick, Open" and "Tick or LM_NACK, Idle".
+-- Document 01, The receiver, "Tick, Open" and "Tick or LM_NACK, Idle"; document 02, E2, the timeouts while held.
 use lib.Dec.{leb}
 use Rattle.frame.specs.Choice.{pick}
 use Rattle.frame.specs.Count.{incrementOf}
-use Rattle.receiver.specs.State.{moved, inPhase}
-use Rattle.receiver.specs.Told.{Told, silently, failingWith}
+use Rattle.receiver.specs.Hold.{holdAck}
+use Rattle.receiver.specs.State.{moved, marked, inPhase}
+use Rattle.receiver.specs.Told.{Told, silently, emitting, failingWith}
 use Rattle.receiver.specs.Window.{asking}
 use Rattle.receiver.specs.declared.Connection.{Connection}
 use Rattle.receiver.specs.declared.Phase.{Phase}
@@ -20,12 +21,25 @@ waiting r x =
 abbrev pub askingAgain : Receiver → Connection → Told
 askingAgain r x = asking r x (x .expected) (incrementOf (x .misses))
 
--- the third miss fails the connection with NACK 2. A state that no calls make may be past T or the third miss; it does as
--- one that is at it.
+-- the third miss fails the connection with NACK 2
+unfoldable pub timeoutFree : Receiver → Connection → Told
+timeoutFree r x = pick (leb 3 (incrementOf (x .misses))) (failingWith r 2) (askingAgain r x)
+
+-- E2, at T while held: the hold's LM_ACK goes out again and is counted, wait starts again; misses and w stay
+abbrev pub holdingOn : Receiver → Connection → Told
+holdingOn r x =
+    let kept = marked x (x .held) (x .last) 0 (incrementOf (x .holds)) in
+    emitting (inPhase r (Open kept)) (holdAck x)
+
+-- E2, "a connection has 20 of these": in place of the 21st it fails with NACK 2
+unfoldable pub timeoutHeld : Receiver → Connection → Told
+timeoutHeld r x = pick (leb 21 (incrementOf (x .holds))) (failingWith r 2) (holdingOn r x)
+
+-- at T by the held mark. A state that no calls make may be past T, the third miss or the 21st held timeout; it does as one
+-- that is at it.
 unfoldable pub tickOpen : Receiver → Connection → Told
 tickOpen r x =
-    pick (leb (r .settings .timeout) (incrementOf (x .wait)))
-    (pick (leb 3 (incrementOf (x .misses))) (failingWith r 2) (askingAgain r x))
+    pick (leb (r .settings .timeout) (incrementOf (x .wait))) (pick (x .held) (timeoutHeld r x) (timeoutFree r x))
     (waiting r x)
 
 -- by the state; where none is open a tick changes nothing

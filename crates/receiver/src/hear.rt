@@ -1,7 +1,7 @@
 // A hearing: by the length of the buffer, by the reading of the frame, by its kind.
 ghost use mathlib.Core.Path.{_≡_};
 ghost use lib.ListN.{length};
-ghost use Rattle.receiver.specs.Hear.{hearNack, hearNumbered, hearKind, hearOf};
+ghost use Rattle.receiver.specs.Hear.{hearNack, hearNumbered, isHeld, hearUnlessHeld, hearKind, hearOf};
 ghost use Rattle.receiver.specs.Told.{told, heard};
 use crate::Answer;
 use crate::Phase;
@@ -45,6 +45,30 @@ impl Receiver {
         }
     }
 
+    // A hold stands.
+    fn is_held(self) -> bool
+        ensures { λ r. ⌜ r ≡ isHeld (self .phase) ⌝ }
+    {
+        let phase = self.phase;
+        match phase {
+            Phase::Idle => false,
+            Phase::Done(_) => false,
+            Phase::Open(x) => x.held,
+        }
+    }
+
+    // While held every information frame is ignored.
+    fn hear_unless_held(self, f: Frame, parsed: Parsed, buffer: &mut [u8]) -> Answer
+        requires { ⌜ length (now buffer) ≡ 1785 ⌝ }
+        ensures { λ r. ⌜ heard (told r) (now (buffer .exit))
+            ≡ hearUnlessHeld self f parsed (now (buffer .entry)) ⌝ }
+    {
+        if self.is_held() {
+            return self.silently();
+        }
+        self.hear_numbered(f, parsed, buffer)
+    }
+
     // A frame that was read, by its kind. Refused 7 where the kind is for the other end.
     fn hear_kind(self, f: Frame, parsed: Parsed, buffer: &mut [u8]) -> Answer
         requires { ⌜ length (now buffer) ≡ 1785 ⌝ }
@@ -54,7 +78,7 @@ impl Receiver {
         let kind = parsed.kind;
         let bytes = f.bytes;
         match kind {
-            1 => self.hear_numbered(f, parsed, buffer),
+            1 => self.hear_unless_held(f, parsed, buffer),
             3 => self.hear_nack(),
             5 => self.short_with(sm_ack(bytes[0]), bytes),
             7 => self.short_only(bytes),

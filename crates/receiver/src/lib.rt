@@ -1,6 +1,7 @@
 // The receiving end: its settings, its state and its answers. State goes in and out by value.
 mod announce;
 mod hear;
+mod hold;
 mod information;
 mod make;
 mod steps;
@@ -23,7 +24,8 @@ pub struct Delivery {
     pub length: u16,
 }
 
-// An open connection: N and L as announced, the frame number expected (e) and the last of the window (w).
+// An open connection: N and L as announced, the frame number expected (e) and the last of the window (w); whether it is
+// held, and how many timeouts it has had while held.
 pub struct Connection {
     pub frames: u8,
     pub length: u16,
@@ -31,6 +33,8 @@ pub struct Connection {
     pub last: u8,
     pub wait: u16,
     pub misses: u16,
+    pub held: bool,
+    pub holds: u16,
 }
 
 // Idle with nothing delivered that is remembered, Idle with the last delivery (Done), or Open.

@@ -1,6 +1,6 @@
 // The steps that the calls share: the changed state, and the answer of each kind.
 ghost use mathlib.Core.Path.{_≡_};
-ghost use Rattle.receiver.specs.State.{opened, moved, inPhase};
+ghost use Rattle.receiver.specs.State.{opened, moved, marked, inPhase};
 ghost use Rattle.receiver.specs.Told.{
   told,
   refusing,
@@ -35,6 +35,8 @@ impl Connection {
             last,
             wait: 0,
             misses: 0,
+            held: false,
+            holds: 0,
         }
     }
 
@@ -49,6 +51,24 @@ impl Connection {
             last,
             wait,
             misses,
+            held: self.held,
+            holds: self.holds,
+        }
+    }
+
+    // With another held mark, window end, wait and count of held timeouts.
+    pub(crate) fn marked(self, held: bool, last: u8, wait: u16, holds: u16) -> Connection
+        ensures { λ r. ⌜ r ≡ marked self held last wait holds ⌝ }
+    {
+        Connection {
+            frames: self.frames,
+            length: self.length,
+            expected: self.expected,
+            last,
+            wait,
+            misses: self.misses,
+            held,
+            holds,
         }
     }
 }

@@ -1,6 +1,6 @@
 // A tick: the wait of an open connection.
 ghost use mathlib.Core.Path.{_≡_};
-ghost use Rattle.receiver.specs.Tick.{waiting, askingAgain, tickOpen, tickOf};
+ghost use Rattle.receiver.specs.Tick.{waiting, askingAgain, timeoutFree, holdingOn, timeoutHeld, tickOpen, tickOf};
 ghost use Rattle.receiver.specs.Told.{told};
 use crate::Answer;
 use crate::Connection;
@@ -25,17 +25,48 @@ impl Receiver {
         self.asking(x, x.expected, increment(x.misses))
     }
 
-    // At T the window is asked for again, at the third miss the connection fails.
+    // The window is asked for again; at the third miss the connection fails.
+    fn timeout_free(self, x: Connection) -> Answer
+        ensures { λ r. ⌜ told r ≡ timeoutFree self x ⌝ }
+    {
+        if 3 <= increment(x.misses) {
+            self.failing_with(2)
+        } else {
+            self.asking_again(x)
+        }
+    }
+
+    // The hold's LM_ACK again, and counted.
+    fn holding_on(self, x: Connection) -> Answer
+        ensures { λ r. ⌜ told r ≡ holdingOn self x ⌝ }
+    {
+        let holds = increment(x.holds);
+        self.in_phase(Phase::Open(x.marked(x.held, x.last, 0, holds)))
+            .emitting(x.hold_ack())
+    }
+
+    // Twenty times, then the connection fails.
+    fn timeout_held(self, x: Connection) -> Answer
+        ensures { λ r. ⌜ told r ≡ timeoutHeld self x ⌝ }
+    {
+        if 21 <= increment(x.holds) {
+            self.failing_with(2)
+        } else {
+            self.holding_on(x)
+        }
+    }
+
+    // Before T the wait grows; at T by the held mark.
     fn tick_open(self, x: Connection) -> Answer
         ensures { λ r. ⌜ told r ≡ tickOpen self x ⌝ }
     {
         if increment(x.wait) < self.settings.timeout {
             return self.waiting(x);
         }
-        if 3 <= increment(x.misses) {
-            return self.failing_with(2);
+        if x.held {
+            return self.timeout_held(x);
         }
-        self.asking_again(x)
+        self.timeout_free(x)
     }
 
     // One tick. Idle: nothing.

@@ -19,7 +19,7 @@ pub(crate) fn saturating_sub(a: u8, b: u8) -> u8
 }
 
 // LM_ACK e, w − e + 1.
-fn window_ack(expected: u8, last: u8) -> Frame
+pub(crate) fn window_ack(expected: u8, last: u8) -> Frame
     ensures { λ f. ⌜ f ≡ windowAck expected last ⌝ }
 {
     let before = saturating_sub(expected, 1);

@@ -1,4 +1,4 @@
--- Document 01, The sender: Hearing.
+-- Document 01, The sender: Hearing; document 02, E2, for the LM_ACK of a hold.
 use Prim.Native.Nat.{ℕ, _+_, _-_, min}
 use mathlib.Core.Bool.{Bool, _&&_, _||_}
 use lib.Dec.{eqb, ltb}
@@ -19,15 +19,15 @@ use Rattle.sender.specs.declared.Transfer.{Transfer}
 abbrev pub windowLast : ℕ → ℕ → ℕ → ℕ
 windowLast start count frames = min (start + count - 1) frames
 
--- Hearing, LM_ACK: Sending that window, its first frame next and the gap from 0
-abbrev pub sendingFrom : Transfer → ℕ → ℕ → ℕ → Phase
-sendingFrom t start last misses =
-    Sending (record { transfer = t; start = start; next = start; last = last; gap = 0; misses = misses })
+-- Hearing, LM_ACK: Sending that window, its first frame next and the gap from 0, with the last start taken and the misses
+abbrev pub sendingFrom : Transfer → ℕ → ℕ → ℕ → ℕ → Phase
+sendingFrom t taken first last misses =
+    Sending (record { transfer = t; start = taken; next = first; last = last; gap = 0; misses = misses })
 
--- Hearing, LM_ACK, taken: the window that it asks for is sent
+-- Hearing, LM_ACK, taken: the window that it asks for is sent, and its start is the last one taken
 unfoldable pub taking : Sender → Transfer → ℕ → ℕ → ℕ → Told
 taking s t start count misses =
-    silently (inPhase s (sendingFrom t start (windowLast start count (t .frames)) misses))
+    silently (inPhase s (sendingFrom t start start (windowLast start count (t .frames)) misses))
 
 -- Hearing, LM_ACK: a start or a count of 0 asks for nothing
 abbrev pub isVoid : ℕ → ℕ → Bool
@@ -49,11 +49,27 @@ ackOpening s t start count =
 abbrev pub missesAt : ℕ → ℕ → ℕ → ℕ
 missesAt start taken misses = pick (eqb start taken) misses 0
 
--- Hearing, LM_ACK, Sending and Waiting: a window that starts before the last one taken is old and is ignored
+-- Document 02, E2: the LM_ACK of a hold asks for one frame, the one before the last start taken (that it is not frame 0
+-- has been tested by then)
+abbrev pub asksToHold : ℕ → ℕ → ℕ → Bool
+asksToHold taken start count = eqb (start + 1) taken && eqb count 1
+
+-- E2: that frame alone is sent, from a gap count of 0; the last start taken stays, and the misses are 0
+unfoldable pub takingHold : Sender → Transfer → ℕ → ℕ → Told
+takingHold s t taken start = silently (inPhase s (sendingFrom t taken start start 0))
+
+-- Hearing, LM_ACK, Sending and Waiting: a window that starts before the last one taken is old and is ignored, unless it is
+-- a hold's
+unfoldable pub ackBelow : Sender → Transfer → ℕ → ℕ → ℕ → Told
+ackBelow s t taken start count =
+    pick (asksToHold taken start count) (takingHold s t taken start) (silently s)
+
+-- Hearing, LM_ACK, Sending and Waiting: by the last start taken
 unfoldable pub ackWindow : Sender → Transfer → ℕ → ℕ → ℕ → ℕ → Told
 ackWindow s t taken misses start count =
     unlessBad s t start count
-    (pick (ltb start taken) (silently s) (taking s t start count (missesAt start taken misses)))
+    (pick (ltb start taken) (ackBelow s t taken start count)
+    (taking s t start count (missesAt start taken misses)))
 
 -- Hearing, LM_ACK, by the phase: start and count were heard; outside a long transfer it is ignored
 unfoldable pub hearAck : Sender → Phase → ℕ → ℕ → Told

@@ -44,18 +44,21 @@ pub record ShortWithin (r : Settings) (t : Transfer) : Type 0 where
   pub length : (1 ≤ t .length) × (t .length ≤ 8)
   pub frames : t .frames ≡ 1
 
--- the counts of each phase are below their limits, the numbers of its frames within 1 to N
+-- the counts of each phase are below their limits, the numbers of its frames within 1 to N; the last start taken is at most
+-- one above the frame that is sent next or was sent last (document 02, E2: while the receiver holds)
 abbrev pub PhaseWithin : Settings → Phase → Type 0
 PhaseWithin r Idle = Unit
 PhaseWithin r (Opening x) = LongWithin r (x .transfer) × (x .wait < r .timeout) × (x .misses < 3)
 PhaseWithin r (Sending x) =
     LongWithin r (x .transfer)
-    × ((1 ≤ x .start) × (x .start ≤ x .next) × (x .next ≤ x .last) × (x .last ≤ x .transfer .frames))
+    × ((1 ≤ x .start) × (x .start ≤ x .next + 1) × (x .start ≤ x .transfer .frames))
+    × ((1 ≤ x .next) × (x .next ≤ x .last) × (x .last ≤ x .transfer .frames))
     × (x .gap < r .gap)
     × (x .misses < 3)
 PhaseWithin r (Waiting x) =
     LongWithin r (x .transfer)
-    × ((1 ≤ x .start) × (x .start ≤ x .last) × (x .last ≤ x .transfer .frames))
+    × ((1 ≤ x .start) × (x .start ≤ x .last + 1) × (x .start ≤ x .transfer .frames))
+    × ((1 ≤ x .last) × (x .last ≤ x .transfer .frames))
     × (x .wait < r .timeout)
     × (x .misses < 3)
 PhaseWithin r (Short x) = ShortWithin r (x .transfer) × (x .wait < r .timeout)

@@ -1,6 +1,17 @@
 // LM_ACK: the window that it asks for.
 ghost use mathlib.Core.Path.{_≡_};
-ghost use Rattle.sender.specs.Hear.{windowLast, sendingFrom, taking, isVoid, missesAt, ackWindow, hearAck};
+ghost use Rattle.sender.specs.Hear.{
+  windowLast,
+  sendingFrom,
+  taking,
+  isVoid,
+  missesAt,
+  asksToHold,
+  takingHold,
+  ackBelow,
+  ackWindow,
+  hearAck,
+};
 ghost use Rattle.sender.specs.Told.{told};
 use crate::Answer;
 use crate::Phase;
@@ -37,15 +48,22 @@ fn misses_at(start: u8, taken: u8, misses: u16) -> u16
     if start == taken { misses } else { 0 }
 }
 
+// One frame, and that the one before the last start taken.
+fn asks_to_hold(taken: u8, start: u8, count: u8) -> bool
+    ensures { λ r. ⌜ r ≡ asksToHold taken start count ⌝ }
+{
+    (start as u16 + 1 == taken as u16) & (count == 1)
+}
+
 impl Transfer {
-    // Sending, from the first frame of a window to its last.
-    fn sending_from(self, start: u8, last: u8, misses: u16) -> Phase
-        ensures { λ r. ⌜ r ≡ sendingFrom self start last misses ⌝ }
+    // Sending, from the first frame of a window to its last. `taken` is the last start taken.
+    fn sending_from(self, taken: u8, first: u8, last: u8, misses: u16) -> Phase
+        ensures { λ r. ⌜ r ≡ sendingFrom self taken first last misses ⌝ }
     {
         Phase::Sending(Streamed {
             transfer: self,
-            start,
-            next: start,
+            start: taken,
+            next: first,
             last,
             gap: 0,
             misses,
@@ -59,8 +77,27 @@ impl Sender {
         ensures { λ r. ⌜ told r ≡ taking self transfer start count misses ⌝ }
     {
         let last = window_last(start, count, transfer.frames);
-        self.in_phase(transfer.sending_from(start, last, misses))
+        self.in_phase(transfer.sending_from(start, start, last, misses))
             .silently()
+    }
+
+    // Sends the one frame that a hold asks for; the last start taken stays.
+    fn taking_hold(self, transfer: Transfer, taken: u8, start: u8) -> Answer
+        ensures { λ r. ⌜ told r ≡ takingHold self transfer taken start ⌝ }
+    {
+        self.in_phase(transfer.sending_from(taken, start, start, 0))
+            .silently()
+    }
+
+    // A start below the last one taken: a hold's, or an old one.
+    fn ack_below(self, transfer: Transfer, taken: u8, start: u8, count: u8) -> Answer
+        ensures { λ r. ⌜ told r ≡ ackBelow self transfer taken start count ⌝ }
+    {
+        if asks_to_hold(taken, start, count) {
+            self.taking_hold(transfer, taken, start)
+        } else {
+            self.silently()
+        }
     }
 
     // `taken` is the last start taken.
@@ -74,7 +111,7 @@ impl Sender {
             return self.failing_with(transfer, 4);
         }
         if start < taken {
-            return self.silently();
+            return self.ack_below(transfer, taken, start, count);
         }
         let misses = misses_at(start, taken, misses);
         self.taking(transfer, start, count, misses)
