@@ -3,7 +3,7 @@
 -- Assumes nothing.
 use Prim.Native.Nat.{ℕ, _+_, _-_, _*_, _<_, _≤_}
 use mathlib.Core.Path.{_≡_, refl, sym, ap, _∙_}
-use mathlib.Core.Bool.{Bool, true, false, _&&_, and-assoc}
+use mathlib.Core.Bool.{Bool, true, false, not, _&&_, and-assoc}
 use mathlib.Core.Logic.{_⊎_, inl, inr}
 use mathlib.Core.List.{List, _++_, map, append-nil, append-assoc}
 use native.Mathlib.Nat.{le-refl}
@@ -25,10 +25,11 @@ use Rattle.frame.specs.declared.Frame.{Frame}
 use Rattle.frame.specs.declared.Parsed.{Parsed}
 use Rattle.frame.specs.declared.Reading.{Reading}
 use Rattle.frame.specs.declared.Reading.the-variants.{Read, Refused}
-use Rattle.receiver.specs.Hear.{announcesWell, opening, announceIdle, announcedAgain, openingAgain, announceOpen, hearAnnouncement, ending, askingNext, expectingNext, stored, carried, storing, informationOpen, endingAgain, informationDone, hearInformation, hearNack, hearNumbered, hearKind, hearRead, hearOf}
+use Rattle.receiver.specs.Hear.{announcesWell, opening, announceIdle, announcedAgain, openingAgain, announceOpen, hearAnnouncement, ending, askingNext, expectingNext, stored, carried, storing, informationOpen, endingAgain, informationDone, hearInformation, hearNack, hearNumbered, isHeld, hearUnlessHeld, hearKind, hearRead, hearOf}
+use Rattle.receiver.specs.Hold.{mayHold, holding, holdOpen, holdPhase, holdOf, resuming, resumeOpen, resumePhase, resumeOf}
 use Rattle.receiver.specs.Make.{settingsFit, idleWith, makeOf}
 use Rattle.receiver.specs.State.{inPhase}
-use Rattle.receiver.specs.Tick.{waiting, askingAgain, tickOpen, tickPhase, tickOf}
+use Rattle.receiver.specs.Tick.{waiting, askingAgain, timeoutFree, holdingOn, timeoutHeld, tickOpen, tickPhase, tickOf}
 use Rattle.receiver.specs.Told.{Told, Heard, heard, refusing, silently, emitting, failingWith, failing, shortWith, shortOnly}
 use Rattle.receiver.specs.declared.Connection.{Connection}
 use Rattle.receiver.specs.declared.Delivery.{Delivery}
@@ -59,6 +60,25 @@ pub ruleset makes = (make-made, make-refused)
 
 -- ---- a tick
 
+module _ (r : Receiver) (x : Connection) {a : Told} where
+  module _ {misses : ℕ} (m : misses ≡ incrementOf (x .misses)) where
+    pub free-fails : a ≡ failingWith r 2 → 3 ≤ misses → a ≡ timeoutFree r x
+    unfolding timeoutFree
+    free-fails e third = pick-true _ (le-leb 3 (incrementOf (x .misses)) (omega arith)) e
+
+    pub free-asks : a ≡ askingAgain r x → misses < 3 → a ≡ timeoutFree r x
+    unfolding timeoutFree
+    free-asks e more = pick-false _ (lt-leb 3 (incrementOf (x .misses)) (omega arith)) e
+
+  module _ {holds : ℕ} (m : holds ≡ incrementOf (x .holds)) where
+    pub held-fails : a ≡ failingWith r 2 → 21 ≤ holds → a ≡ timeoutHeld r x
+    unfolding timeoutHeld
+    held-fails e over = pick-true _ (le-leb 21 (incrementOf (x .holds)) (omega arith)) e
+
+    pub held-goes-on : a ≡ holdingOn r x → holds < 21 → a ≡ timeoutHeld r x
+    unfolding timeoutHeld
+    held-goes-on e more = pick-false _ (lt-leb 21 (incrementOf (x .holds)) (omega arith)) e
+
 module _ (r : Receiver) (x : Connection) {wait : ℕ} (w : wait ≡ incrementOf (x .wait)) where
   pub tick-waits : {a : Told} → a ≡ waiting r x → wait < r .settings .timeout → a ≡ tickOpen r x
   unfolding tickOpen
@@ -67,16 +87,15 @@ module _ (r : Receiver) (x : Connection) {wait : ℕ} (w : wait ≡ incrementOf 
   late : r .settings .timeout ≤ wait → leb (r .settings .timeout) (incrementOf (x .wait)) ≡ true
   late due = le-leb (r .settings .timeout) (incrementOf (x .wait)) (omega arith)
 
-  module _ {misses : ℕ} (m : misses ≡ incrementOf (x .misses)) (due : r .settings .timeout ≤ wait) where
-    pub tick-fails : {a : Told} → a ≡ failingWith r 2 → 3 ≤ misses → a ≡ tickOpen r x
-    unfolding tickOpen
-    tick-fails e third = pick-true _ (late due) (pick-true _ (le-leb 3 (incrementOf (x .misses)) (omega arith)) e)
+  pub tick-held : {a : Told} → a ≡ timeoutHeld r x → r .settings .timeout ≤ wait → x .held ≡ true → a ≡ tickOpen r x
+  unfolding tickOpen
+  tick-held e due held = pick-true _ (late due) (pick-true _ held e)
 
-    pub tick-asks : {a : Told} → a ≡ askingAgain r x → misses < 3 → a ≡ tickOpen r x
-    unfolding tickOpen
-    tick-asks e more = pick-true _ (late due) (pick-false _ (lt-leb 3 (incrementOf (x .misses)) (omega arith)) e)
+  pub tick-free : {a : Told} → a ≡ timeoutFree r x → r .settings .timeout ≤ wait → x .held ≡ false → a ≡ tickOpen r x
+  unfolding tickOpen
+  tick-free e due free = pick-true _ (late due) (pick-false _ free e)
 
-pub ruleset ticks-open = (tick-waits, tick-fails, tick-asks)
+pub ruleset ticks-open = (free-fails, free-asks, held-fails, held-goes-on, tick-waits, tick-held, tick-free)
 
 module _ (r : Receiver) {a : Told} where
   pub tick-idle : a ≡ silently r → r .phase ≡ Idle → a ≡ tickOf r
@@ -92,6 +111,55 @@ module _ (r : Receiver) {a : Told} where
   tick-opened e p = e ∙ ap (tickPhase r) (sym p)
 
 pub ruleset ticks = (tick-idle, tick-done, tick-opened)
+
+-- ---- a hold and a resume
+
+module _ (r : Receiver) (x : Connection) {a : Told} where
+  module _ {may : Bool} (m : may ≡ mayHold x) where
+    pub hold-holds : a ≡ holding r x → may ≡ true → a ≡ holdOpen r x
+    unfolding holdOpen
+    hold-holds e t = pick-true _ (sym m ∙ t) e
+
+    pub hold-denied : a ≡ refusing r 13 → may ≡ false → a ≡ holdOpen r x
+    unfolding holdOpen
+    hold-denied e t = pick-false _ (sym m ∙ t) e
+
+  pub resume-resumes : a ≡ resuming r x → x .held ≡ true → a ≡ resumeOpen r x
+  unfolding resumeOpen
+  resume-resumes e held = pick-true _ held e
+
+  pub resume-denied : a ≡ refusing r 13 → x .held ≡ false → a ≡ resumeOpen r x
+  unfolding resumeOpen
+  resume-denied e free = pick-false _ free e
+
+module _ (r : Receiver) {a : Told} where
+  pub hold-idle : a ≡ refusing r 13 → r .phase ≡ Idle → a ≡ holdOf r
+  unfolding holdOf holdPhase
+  hold-idle e p = e ∙ ap (holdPhase r) (sym p)
+
+  pub hold-done : {x : Delivery} → a ≡ refusing r 13 → r .phase ≡ Done x → a ≡ holdOf r
+  unfolding holdOf holdPhase
+  hold-done e p = e ∙ ap (holdPhase r) (sym p)
+
+  pub hold-opened : {x : Connection} → a ≡ holdOpen r x → r .phase ≡ Open x → a ≡ holdOf r
+  unfolding holdOf holdPhase
+  hold-opened e p = e ∙ ap (holdPhase r) (sym p)
+
+  pub resume-idle : a ≡ refusing r 13 → r .phase ≡ Idle → a ≡ resumeOf r
+  unfolding resumeOf resumePhase
+  resume-idle e p = e ∙ ap (resumePhase r) (sym p)
+
+  pub resume-done : {x : Delivery} → a ≡ refusing r 13 → r .phase ≡ Done x → a ≡ resumeOf r
+  unfolding resumeOf resumePhase
+  resume-done e p = e ∙ ap (resumePhase r) (sym p)
+
+  pub resume-opened : {x : Connection} → a ≡ resumeOpen r x → r .phase ≡ Open x → a ≡ resumeOf r
+  unfolding resumeOf resumePhase
+  resume-opened e p = e ∙ ap (resumePhase r) (sym p)
+
+pub ruleset holds = (hold-holds, hold-denied, hold-idle, hold-done, hold-opened)
+
+pub ruleset resumes = (resume-resumes, resume-denied, resume-idle, resume-done, resume-opened)
 
 -- A receiver is its settings and its phase. So the state that is handed to a step may be the receiver or be built anew from
 -- it, and is judged by its parts: edits/ has some that build it anew with another part.
@@ -298,7 +366,16 @@ module _ (r : Receiver) (f : Frame) (buffer : List ℕ) where
   unfolding hearNumbered
   numbered-from-one p e other = pick-false _ (ne-eqb _ _ other) e
 
-  pub kind-1 : (p : Parsed) {h : Heard} → h ≡ hearNumbered r f p buffer → p .kind ≡ 1 → h ≡ hearKind r f p buffer
+  module _ (p : Parsed) {held : Bool} (m : held ≡ isHeld (r .phase)) where
+    pub held-ignores : {a : Told} → a ≡ silently r → held ≡ true → heard a buffer ≡ hearUnlessHeld r f p buffer
+    unfolding hearUnlessHeld
+    held-ignores e t = pick-true _ (sym m ∙ t) (cc)
+
+    pub free-hears : {h : Heard} → h ≡ hearNumbered r f p buffer → held ≡ false → h ≡ hearUnlessHeld r f p buffer
+    unfolding hearUnlessHeld
+    free-hears e t = pick-false _ (sym m ∙ t) e
+
+  pub kind-1 : (p : Parsed) {h : Heard} → h ≡ hearUnlessHeld r f p buffer → p .kind ≡ 1 → h ≡ hearKind r f p buffer
   unfolding hearKind
   kind-1 p e at = pick-true _ (eq-eqb _ _ at) e
 
@@ -353,6 +430,8 @@ module _ (r : Receiver) (f : Frame) (buffer : List ℕ) where
 pub ruleset hears = (
   numbered-zero,
   numbered-from-one,
+  held-ignores,
+  free-hears,
   kind-1,
   kind-3,
   kind-5,

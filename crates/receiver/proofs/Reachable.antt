@@ -1,5 +1,5 @@
 -- Every state that making and calls bring a receiver to is within its bounds, and in such a state the definitions'
--- tests and counts are document 01's own. By induction on the calls: each choice of a definition is taken on both
+-- tests and counts are those of documents 01 and 02. By induction on the calls: each choice of a definition is taken on both
 -- sides, with the outcome of its test in hand.
 -- Assumes nothing.
 use Prim.Native.Nat.{ℕ, _+_, _-_, _≤_, _<_}
@@ -15,10 +15,10 @@ use Rattle.frame.specs.Frames.{byteOf, wordAt}
 use Rattle.frame.specs.declared.Frame.{Frame}
 use Rattle.frame.proofs.Choice.{pick-elim, both-left, both-right}
 use Rattle.frame.proofs.Laws.{frame-count-bounds}
-use Rattle.receiver.proofs.View.{receiverIn, Ticks, rests, waits, retries, expires, tick-does, nacks, opens, again, ended, above, delivers, asks, goes-on, Hears, refuses, ignores, announced, informed, closes, short, short-only, hear-does}
+use Rattle.receiver.proofs.View.{receiverIn, Ticks, rests, waits, retries, repeats, expires, tick-does, Pause, hold, resume, Pauses, denied, holds, resumes, pause-does, nacks, opens, again, ended, above, delivers, asks, goes-on, Hears, refuses, ignores, announced, informed, closes, short, short-only, hear-does}
 use Rattle.receiver.specs.Make.{settingsFit, idleWith, makeOf}
-use Rattle.receiver.specs.Reachable.{Reachable, new, ticked, hearing, SettingsWithin, Announced, OpenWithin, PhaseWithin, Within, Exact, EveryReachable}
-use Rattle.receiver.specs.State.{opened, moved}
+use Rattle.receiver.specs.Reachable.{Reachable, new, ticked, held, resumed, hearing, SettingsWithin, Announced, OpenWithin, PhaseWithin, Within, Exact, EveryReachable}
+use Rattle.receiver.specs.State.{opened, moved, marked}
 use Rattle.receiver.specs.Told.{Told, Heard}
 use Rattle.receiver.specs.Window.{windowOf}
 use Rattle.receiver.specs.declared.Connection.{Connection}
@@ -35,6 +35,9 @@ at-bound bound count top h = go (eqb (count + 1) bound) refl
     go : (b : Bool) → eqb (count + 1) bound ≡ b → leb bound (incrementOf count) ≡ b
     go true e = le-leb bound (incrementOf count) (omega (arith, eqb-true (count + 1) bound e))
     go false e = lt-leb bound (incrementOf count) (omega (arith, eqb-false (count + 1) bound e))
+
+false-not-true : false ≡ true → ⊥
+false-not-true e = let z : _≡_ {A = ℕ} 0 1 = cc in omega arith
 
 -- the answer's next state is within
 abbrev Next : Told → Type 0
@@ -90,9 +93,10 @@ window-low s some expected frames h = omega arith
 module _ (s : Settings) (w : SettingsWithin s) where
   -- a connection with a window just asked for
   asked : (x : Connection) (expected misses : ℕ) → Announced s (x .frames) (x .length) → 1 ≤ expected → expected ≤ x .frames → misses < 3
+      → x .holds ≤ 20 → (x .held ≡ true → 2 ≤ expected)
       → Within (receiverIn s (Open (moved x expected (windowOf s expected (x .frames)) 0 misses)))
   unfolding windowOf
-  asked x expected misses a low high more =
+  asked x expected misses a low high more few begun =
       record {
         settings = w;
         phase = record {
@@ -103,6 +107,28 @@ module _ (s : Settings) (w : SettingsWithin s) where
           window = omega arith;
           waits = w .timeoutLow;
           tries = more;
+          pauses = few;
+          begun = begun;
+        };
+      }
+
+  -- a connection with another held mark: e and misses are what they were
+  paused : (x : Connection) (mark : Bool) (last wait count : ℕ) → OpenWithin s x → x .expected ≤ last → last ≤ x .frames
+      → last ≤ x .expected + s .window - 1 → wait < s .timeout → count ≤ 20 → (mark ≡ true → 2 ≤ x .expected)
+      → Within (receiverIn s (Open (marked x mark last wait count)))
+  paused x mark last wait count o low high size early few begun =
+      record {
+        settings = w;
+        phase = record {
+          announced = o .announced;
+          first = o .first;
+          inside = low;
+          final = high;
+          window = size;
+          waits = early;
+          tries = o .tries;
+          pauses = few;
+          begun = begun;
         };
       }
 
@@ -121,11 +147,26 @@ module _ (s : Settings) (w : SettingsWithin s) where
           window = o .window;
           waits = early;
           tries = o .tries;
+          pauses = o .pauses;
+          begun = o .begun;
         };
       }
   ticks-within o (retries {x} _ more) =
-      asked x _ (incrementOf (x .misses)) (o .announced) (o .first) (omega arith) more
+      asked x _ (incrementOf (x .misses)) (o .announced) (o .first) (omega arith) more (o .pauses) (o .begun)
+  ticks-within o (repeats {x} _ _ more) =
+      paused x (x .held) (x .last) 0 (incrementOf (x .holds)) o (o .inside) (o .final) (o .window) (w .timeoutLow) (omega arith) (o .begun)
   ticks-within o expires = record { settings = w; phase = tt }
+
+  -- ---- a hold or a resume
+
+  pauses-within : {k : Pause} {p : Phase} {t : Told} → PhaseWithin s p → Pauses s k p t → Next t
+  unfolding windowOf
+  pauses-within o denied = record { settings = w; phase = o }
+  pauses-within o (holds {x} begun _) =
+      paused x true (x .last) (x .wait) (x .holds) o (o .inside) (o .final) (o .window) (o .waits) (o .pauses) (λ _. begun)
+  pauses-within o (resumes {x} _) =
+      paused x false _ (x .wait) (x .holds) o (window-low s (w .windowLow) (x .expected) (x .frames) (omega arith)) (omega arith) (omega arith)
+      (o .waits) (o .pauses) (λ no. absurd (false-not-true no))
 
   -- ---- a hearing
 
@@ -136,13 +177,14 @@ module _ (s : Settings) (w : SettingsWithin s) where
   hears-within o (announced _ _ (nacks _ _)) = record { settings = w; phase = o }
   hears-within {f} o (announced _ _ (opens _ low high fits room)) =
       let a : Announced s (byteOf f 1) (wordAt f 2 3) = record { long = low; space = room; fits = fits; byte = omega arith } in
-      asked (opened (byteOf f 1) (wordAt f 2 3) 1) 1 0 a (omega arith) (omega arith) (omega arith)
+      asked (opened (byteOf f 1) (wordAt f 2 3) 1) 1 0 a (omega arith) (omega arith) (omega arith) (omega arith)
+      (λ no. absurd (false-not-true no))
   hears-within o (announced _ _ again) = record { settings = w; phase = o }
   hears-within o (informed _ _ _ (ended _)) = record { settings = w; phase = o }
   hears-within o (informed _ _ _ (above _)) = record { settings = w; phase = tt }
   hears-within o (informed _ _ _ (delivers _ _)) = record { settings = w; phase = o .announced }
   hears-within o (informed _ _ _ (asks {x} _ more _)) =
-      asked x (x .expected + 1) 0 (o .announced) (omega arith) (omega arith) (omega arith)
+      asked x (x .expected + 1) 0 (o .announced) (omega arith) (omega arith) (omega arith) (o .pauses) (λ _. omega arith)
   hears-within o (informed _ _ _ (goes-on _ more part)) =
       record {
         settings = w;
@@ -154,6 +196,8 @@ module _ (s : Settings) (w : SettingsWithin s) where
           window = omega arith;
           waits = w .timeoutLow;
           tries = omega arith;
+          pauses = o .pauses;
+          begun = λ _. omega arith;
         };
       }
   hears-within o (closes _) = record { settings = w; phase = tt }
@@ -163,11 +207,15 @@ module _ (s : Settings) (w : SettingsWithin s) where
 pub reachable-within : {r : Receiver} → Reachable r → Within r
 reachable-within (new timeout window capacity e) = made-within timeout window capacity _ e
 reachable-within (ticked {r} h) = let w = reachable-within h in ticks-within (r .settings) (w .settings) (w .phase) (tick-does r)
+reachable-within (held {r} h) =
+    let w = reachable-within h in pauses-within (r .settings) (w .settings) (w .phase) (pause-does hold r)
+reachable-within (resumed {r} h) =
+    let w = reachable-within h in pauses-within (r .settings) (w .settings) (w .phase) (pause-does resume r)
 reachable-within (hearing {r} h f buffer) =
     let w = reachable-within h in
     hears-within (r .settings) (w .settings) (w .phase) (hear-does r f buffer)
 
--- In a state within, the definitions' tests and counts are document 01's own.
+-- In a state within, the definitions' tests and counts are the documents' own.
 pub within-exact : (r : Receiver) (x : Connection) → Within r → r .phase ≡ Open x → Exact r x
 unfolding incrementOf
 within-exact r x w p =
@@ -179,6 +227,9 @@ within-exact r x w p =
       misses = omega arith;
       due = at-bound (r .settings .timeout) (x .wait) (omega arith) (omega arith);
       third = at-bound 3 (x .misses) (omega arith) (omega arith);
+      holds = omega arith;
+      twentyFirst = at-bound 21 (x .holds) (omega arith) (omega arith);
+      before = λ on. let begun = o .begun on in (omega arith, omega arith);
       count = omega arith;
       again = window-low (r .settings) (w .settings .windowLow) (x .expected) (x .frames) (omega arith);
       next = λ more. window-low (r .settings) (w .settings .windowLow) (x .expected + 1) (x .frames) (omega arith);

@@ -3,11 +3,11 @@
 -- Assumes nothing.
 use Prim.Native.Nat.{ℕ}
 use mathlib.Core.Path.{_≡_, refl, sym, ap, subst}
-use mathlib.Core.List.{List}
+use mathlib.Core.List.{List, []}
 use Rattle.frame.proofs.Choice.{pick-elim}
 use Rattle.frame.specs.Result as result
 use Rattle.frame.specs.declared.Frame.{Frame}
-use Rattle.receiver.proofs.View.{receiverIn, Ticks, rests, waits, retries, expires, tick-does, Announced, nacks, opens, again, Informed, ended, above, delivers, asks, goes-on, Hears, refuses, ignores, announced, informed, closes, short, short-only, hear-does}
+use Rattle.receiver.proofs.View.{receiverIn, Ticks, rests, waits, retries, repeats, expires, tick-does, Pause, hold, resume, Pauses, denied, holds, resumes, pause-does, Announced, nacks, opens, again, Informed, ended, above, delivers, asks, goes-on, Hears, refuses, ignores, announced, informed, closes, short, short-only, hear-does}
 use Rattle.receiver.specs.Make.{makeOf}
 use Rattle.receiver.specs.Refusals.{Unchanged, Refusals}
 use Rattle.receiver.specs.Told as told
@@ -44,7 +44,26 @@ tick-taken : {s : Settings} {p : Phase} {t : told.Told} → Ticks s p t → Take
 tick-taken (rests _) = tt
 tick-taken (waits _) = tt
 tick-taken (retries _ _) = tt
+tick-taken (repeats _ _ _) = tt
 tick-taken expires = tt
+
+-- ---- a hold or a resume
+
+number-of : told.Outcome → ℕ
+number-of told.quiet = 0
+number-of (told.refused number) = number
+number-of (told.delivered length) = 0
+number-of (told.failed cause) = 0
+number-of told.short = 0
+
+pause-unchanged : {s : Settings} {k : Pause} {p : Phase} {t : told.Told} {number : ℕ} → Pauses s k p t
+    → t .outcome ≡ told.refused number
+    → (number ≡ 13) × Unchanged (receiverIn s p) [] (told.heard t [])
+unfolding number-of
+pause-unchanged denied e =
+    (sym (ap number-of e), record { receiver = refl; lent = refl; emits = refl; frame = refl; bytes = refl })
+pause-unchanged (holds _ _) e = absurd (not-refused tt e)
+pause-unchanged (resumes _) e = absurd (not-refused tt e)
 
 -- ---- a hearing
 
@@ -78,5 +97,7 @@ refusals =
     record {
       make = make-numbered;
       tick = λ r number e. not-refused (tick-taken (tick-does r)) e;
+      hold = λ r number e. pause-unchanged (pause-does hold r) e;
+      resume = λ r number e. pause-unchanged (pause-does resume r) e;
       hear = λ r f buffer number e. unchanged (hear-does r f buffer) e;
     }

@@ -2,7 +2,8 @@
 -- call matches on these and unfolds no definition.
 -- Assumes nothing.
 use Prim.Native.Nat.{ℕ, _≤_, _<_}
-use mathlib.Core.Path.{_≡_}
+use mathlib.Core.Path.{_≡_, refl, sym}
+use mathlib.Core.Bool.{Bool, true, false, not}
 use mathlib.Core.List.{List}
 use native.Mathlib.Omega.{arith}
 use borrow.Author.Tests.{leb-true, leb-false, eqb-true, eqb-false, ltb-true, ltb-false}
@@ -14,8 +15,9 @@ use Rattle.frame.specs.Frames.{byteOf, wordAt, lmNackOf, smAckOf}
 use Rattle.frame.specs.Result.{Result}
 use Rattle.frame.specs.declared.Frame.{Frame}
 use Rattle.frame.specs.declared.Parsed.{Parsed}
-use Rattle.receiver.specs.Hear.{announcesWell, opening, announceIdle, openingAgain, announceOpen, hearAnnouncement, ending, askingNext, expectingNext, stored, storing, informationOpen, endingAgain, informationDone, hearInformation, hearNack, hearNumbered, hearKind, hearRead, hearOf}
-use Rattle.receiver.specs.Tick.{waiting, askingAgain, tickOpen, tickPhase, tickOf}
+use Rattle.receiver.specs.Hear.{announcesWell, opening, announceIdle, openingAgain, announceOpen, hearAnnouncement, ending, askingNext, expectingNext, stored, storing, informationOpen, endingAgain, informationDone, hearInformation, hearNack, hearNumbered, isHeld, hearUnlessHeld, hearKind, hearRead, hearOf}
+use Rattle.receiver.specs.Hold.{holding, holdOpen, holdPhase, holdOf, resuming, resumeOpen, resumePhase, resumeOf}
+use Rattle.receiver.specs.Tick.{waiting, askingAgain, timeoutFree, holdingOn, timeoutHeld, tickOpen, tickPhase, tickOf}
 use Rattle.receiver.specs.Told.{Told, Heard, heard, refusing, silently, emitting, failingWith, failing, shortWith, shortOnly}
 use Rattle.receiver.specs.declared.Connection.{Connection}
 use Rattle.receiver.specs.declared.Delivery.{Delivery}
@@ -33,6 +35,15 @@ abbrev pub Shut : Phase → Type 0
 Shut Idle = Unit
 Shut (Done x) = Unit
 Shut (Open x) = ⊥
+
+-- the two calls of a hold
+pub data Pause : Type 0 where
+  hold : Pause
+  resume : Pause
+
+abbrev pub pauseOf : Pause → Receiver → Told
+pauseOf hold r = holdOf r
+pauseOf resume r = resumeOf r
 
 module _ (s : Settings) where
   abbrev openWith : Connection → Receiver
@@ -52,7 +63,22 @@ module _ (s : Settings) where
         → s .timeout ≤ incrementOf (x .wait)
         → incrementOf (x .misses) < 3
         → Ticks (Open x) (askingAgain (openWith x) x)
+    repeats : {x : Connection}
+        → s .timeout ≤ incrementOf (x .wait)
+        → x .held ≡ true
+        → incrementOf (x .holds) < 21
+        → Ticks (Open x) (holdingOn (openWith x) x)
     expires : {x : Connection} → Ticks (Open x) (failingWith (openWith x) 2)
+
+  -- ---- a hold or a resume
+
+  pub data Pauses : Pause → Phase → Told → Type 0 where
+    denied : {k : Pause} {p : Phase} → Pauses k p (refusing (receiverIn s p) 13)
+    holds : {x : Connection}
+        → 2 ≤ x .expected
+        → x .held ≡ false
+        → Pauses hold (Open x) (holding (openWith x) x)
+    resumes : {x : Connection} → x .held ≡ true → Pauses resume (Open x) (resuming (openWith x) x)
 
   -- ---- an announcement of N and L that is not ignored
 
@@ -125,17 +151,41 @@ module _ (s : Settings) where
 
 -- ---- the calls do this
 
+was-false : (b : Bool) → not b ≡ true → b ≡ false
+was-false true e = sym e
+was-false false e = refl
+
 module _ (s : Settings) where
   tick-phase : (p : Phase) → Ticks s p (tickPhase (receiverIn s p) p)
-  unfolding tickPhase tickOpen
+  unfolding tickPhase tickOpen timeoutFree timeoutHeld
   tick-phase Idle = rests tt
   tick-phase (Done y) = rests tt
   tick-phase (Open x) =
       let P : Told → Type 0 = Ticks s (Open x) in
       pick-elim P _
-      (λ due. pick-elim P _ (λ third. expires)
-      (λ more. retries (leb-true _ _ due) (leb-false _ _ more)))
+      (λ due. pick-elim P (x .held)
+      (λ held. pick-elim P _ (λ over. expires)
+      (λ more. repeats (leb-true _ _ due) held (leb-false _ _ more)))
+      (λ free. pick-elim P _ (λ third. expires)
+      (λ more. retries (leb-true _ _ due) (leb-false _ _ more))))
       (λ early. waits (leb-false _ _ early))
+
+  hold-phase : (p : Phase) → Pauses s hold p (holdPhase (receiverIn s p) p)
+  unfolding holdPhase holdOpen
+  hold-phase Idle = denied
+  hold-phase (Done y) = denied
+  hold-phase (Open x) =
+      pick-elim (Pauses s hold (Open x)) _
+      (λ may.
+      let begun = leb-true 2 (x .expected) (both-left (leb 2 (x .expected)) (not (x .held)) may) in
+      holds begun (was-false (x .held) (both-right (leb 2 (x .expected)) (not (x .held)) may)))
+      (λ _. denied)
+
+  resume-phase : (p : Phase) → Pauses s resume p (resumePhase (receiverIn s p) p)
+  unfolding resumePhase resumeOpen
+  resume-phase Idle = denied
+  resume-phase (Done y) = denied
+  resume-phase (Open x) = pick-elim (Pauses s resume (Open x)) (x .held) (λ held. resumes held) (λ free. denied)
 
   module _ (f : Frame) (buffer : List ℕ) where
     -- the answer t, and the buffer as it was
@@ -215,16 +265,17 @@ module _ (s : Settings) where
     nack-does three (Open x) = closes three
 
     hear-phase : (p : Phase) → Hears s f buffer p (hearOf (receiverIn s p) f buffer)
-    unfolding hearOf hearRead hearKind hearNumbered
+    unfolding hearOf hearRead hearKind hearUnlessHeld hearNumbered
     hear-phase p =
         let P : Heard → Type 0 = Hears s f buffer p in
         pick-elim P _
         (λ lent. read-elim (λ (j : Result Parsed). P (hearRead (receiverIn s p) f buffer j)) f
         (pick-elim P _
-        (λ one. pick-elim P _ (λ zero. announcement-does (eqb-true _ _ one) (eqb-true _ _ zero) p)
+        (λ one. pick-elim P (isHeld p) (λ held. ignores)
+        (λ free. pick-elim P _ (λ zero. announcement-does (eqb-true _ _ one) (eqb-true _ _ zero) p)
         (λ more.
         let low : 1 ≤ byteOf f 0 = omega (arith, eqb-false (byteOf f 0) 0 more) in
-        information-does (eqb-true _ _ lent) (eqb-true _ _ one) low p))
+        information-does (eqb-true _ _ lent) (eqb-true _ _ one) low p)))
         (λ _. pick-elim P _ (λ three. nack-does (eqb-true _ _ three) p)
         (λ _. pick-elim P _ (λ five. short (eqb-true _ _ five))
         (λ _. pick-elim P _ (λ seven. short-only (eqb-true _ _ seven)) (λ _. refuses 7)))))
@@ -234,6 +285,11 @@ module _ (s : Settings) where
 pub tick-does : (r : Receiver) → Ticks (r .settings) (r .phase) (tickOf r)
 unfolding tickOf
 tick-does r = tick-phase (r .settings) (r .phase)
+
+pub pause-does : (k : Pause) (r : Receiver) → Pauses (r .settings) k (r .phase) (pauseOf k r)
+unfolding holdOf resumeOf
+pause-does hold r = hold-phase (r .settings) (r .phase)
+pause-does resume r = resume-phase (r .settings) (r .phase)
 
 pub hear-does : (r : Receiver) (f : Frame) (buffer : List ℕ)
     → Hears (r .settings) f buffer (r .phase) (hearOf r f buffer)
