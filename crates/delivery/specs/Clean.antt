@@ -20,11 +20,11 @@ use Rattle.sender.specs.Told as sender
 use Rattle.sender.specs.declared.Sender.{Sender}
 use Rattle.delivery.specs.Demand3.{Condition}
 use Rattle.delivery.specs.Run.{Line, Past, fresh, next, runOf}
-use Rattle.delivery.specs.Seen.{taken, Begun, begunIn, listened, Sort, begins, ticksSender, ticksReceiver, other, sortOf}
+use Rattle.delivery.specs.Seen.{taken, Begun, begunIn, listened, Sort, begins, ticksSender, ticksReceiver, holdsReceiver, other, sortOf}
 use Rattle.transport.specs.Capped.{cappedStep}
 use Rattle.transport.specs.Step.{wasRefused, stepOf}
 use Rattle.transport.specs.World.{World, Call, Event}
-use Rattle.transport.specs.World.{begin, senderTick, receiverTick}
+use Rattle.transport.specs.World.{begin, senderTick, receiverTick, hold, resume}
 use Rattle.transport.specs.World.{hearForward, repeatForward, loseForward, hearBack, repeatBack, loseBack}
 
 -- ---- whose tick is next
@@ -41,6 +41,7 @@ turnBy (begins message) any turn = turn
 turnBy ticksSender true turn = receivers
 turnBy ticksSender false turn = turn
 turnBy ticksReceiver any turn = senders
+turnBy holdsReceiver any turn = turn
 turnBy other any turn = turn
 
 -- before the first tick, anyone's
@@ -67,11 +68,13 @@ Empty w = (w .forward ≡ []) × (w .back ≡ [])
 -- What is asked of a call after the begin, besides what demand 3 asks of it. A tick finds the line empty and its end's turn
 -- come. No frame is lost: not by lose, and not to a hearing that is refused. None is repeated to an end that hears it. On an
 -- empty list all of these do nothing and may be called. Calls that are refused may be among them; a begin must be, so
--- that the transfer is the only one.
+-- that the transfer is the only one, and a hold (document 02, E2: E1 speaks of transfers without one).
 abbrev pub CleanCall : Past → Call → Event → Type 0
 CleanCall p (begin m) e = taken (e .sender) ≡ false
 CleanCall p (senderTick m) e = taken (e .sender) ≡ true → Empty (p .world) × SenderMayTick (turnIn (p .events))
 CleanCall p receiverTick e = Empty (p .world) × ReceiverMayTick (turnIn (p .events))
+CleanCall p hold e = wasRefused (e .receiver) ≡ true
+CleanCall p resume e = Unit
 CleanCall p (hearForward b) e = wasRefused (e .receiver) ≡ false
 CleanCall p (repeatForward b) e = listened (e .given) (e .receiver) ≡ false
 CleanCall p loseForward e = p .world .forward ≡ []

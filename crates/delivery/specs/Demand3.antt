@@ -3,12 +3,14 @@
 --              one once, a short one, filled up to eight bytes, once or oftener
 --   reported   an accepted begin is reported once, at the sender's tick M after it at the latest
 --   again      so before the next accepted begin
---   finished   a connection of N frames is reported once, at the receiver's tick 3 × T × N after its opening at the latest
+--   finished   a connection of N frames is reported once, at the receiver's tick 3 × T × N + 21 × T after its opening at the
+--              latest (document 02, E2)
+--   unheld     one that was never held already at its tick 3 × T × N, as document 01 has it
 --   Demand3    this after any calls whatever, refused ones among them, by ends just made and over a line that starts empty
 --   stepOf     the line gives frames in the order and shape in which they were emitted, and no others
 --   Conditions what is asked of whoever makes the calls: to begin only where nothing of an earlier transfer is under way,
 --              and to lend one message and one buffer
-use Prim.Native.Nat.{ℕ, _≤_, _<_, _*_}
+use Prim.Native.Nat.{ℕ, _+_, _≤_, _<_, _*_}
 use mathlib.Core.Bool.{Bool, true, false}
 use mathlib.Core.List.{List, [], _∷_}
 use mathlib.Core.Path.{_≡_}
@@ -21,10 +23,10 @@ use Rattle.sender.specs.Make as sender-making
 use Rattle.sender.specs.Told as sender
 use Rattle.sender.specs.declared.Sender.{Sender}
 use Rattle.delivery.specs.Run.{Line, Past, fresh, next, runOf}
-use Rattle.delivery.specs.Seen.{taken, Begun, Opened, begunIn, openedIn, idle, listened, Sort, begins, ticksSender, ticksReceiver, other, sortOf}
+use Rattle.delivery.specs.Seen.{taken, Begun, Opened, begunIn, openedIn, idle, listened, Sort, begins, ticksSender, ticksReceiver, holdsReceiver, other, sortOf}
 use Rattle.transport.specs.Step.{stepOf}
 use Rattle.transport.specs.World.{Call, Event}
-use Rattle.transport.specs.World.{begin, senderTick, receiverTick}
+use Rattle.transport.specs.World.{begin, senderTick, receiverTick, hold, resume}
 use Rattle.transport.specs.World.{hearForward, repeatForward, loseForward, hearBack, repeatBack, loseBack}
 
 -- ---- the conditions
@@ -42,6 +44,8 @@ Condition p (begin m) e =
     → (idle (openedIn (p .events)) ≡ true) × (p .world .forward ≡ []) × (p .world .back ≡ [])
 Condition p (senderTick m) e = taken (e .sender) ≡ true → LentMessage (begunIn (p .events)) m
 Condition p receiverTick e = Unit
+Condition p hold e = Unit
+Condition p resume e = Unit
 Condition p (hearForward b) e = listened (e .given) (e .receiver) ≡ true → b ≡ p .world .buffer
 Condition p (repeatForward b) e = listened (e .given) (e .receiver) ≡ true → b ≡ p .world .buffer
 Condition p loseForward e = Unit
@@ -90,13 +94,20 @@ AgainAfter (begins message) true b = HadReport b
 AgainAfter (begins message) false b = Unit
 AgainAfter ticksSender any b = Unit
 AgainAfter ticksReceiver any b = Unit
+AgainAfter holdsReceiver any b = Unit
 AgainAfter other any b = Unit
 
--- the last connection has at most one report, and exactly one once 3 × T × N ticks have passed
+-- the last connection has at most one report, and exactly one once 3 × T × N + 21 × T ticks have passed
 abbrev pub Finished : ℕ → Opened → Type 0
 Finished timeout Opened.never = Unit
-Finished timeout (Opened.since frames ticks reports) =
-    (reports ≤ 1) × (3 * timeout * frames ≤ ticks → reports ≡ 1)
+Finished timeout (Opened.since frames ticks reports pauses) =
+    (reports ≤ 1) × (3 * timeout * frames + 21 * timeout ≤ ticks → reports ≡ 1)
+
+-- where no hold was accepted, it has its report once 3 × T × N ticks have passed
+abbrev pub Unheld : ℕ → Opened → Type 0
+Unheld timeout Opened.never = Unit
+Unheld timeout (Opened.since frames ticks reports pauses) =
+    pauses ≡ 0 → 3 * timeout * frames ≤ ticks → reports ≡ 1
 
 -- the two clauses that speak of the newest event
 abbrev pub Sent : List Event → Type 0
@@ -113,6 +124,7 @@ pub record Promise (limit timeout : ℕ) (events : List Event) : Type 0 where
   pub reported : Reported limit (begunIn events)
   pub again : Again events
   pub finished : Finished timeout (openedIn events)
+  pub unheld : Unheld timeout (openedIn events)
 
 -- ---- the claim
 

@@ -12,7 +12,7 @@ use Rattle.delivery.specs.Run.{Past}
 use Rattle.delivery.specs.Seen.{taken}
 use Rattle.transport.specs.Step.{stepOf}
 use Rattle.transport.specs.World.{Call, Event}
-use Rattle.transport.specs.World.{begin, senderTick, receiverTick}
+use Rattle.transport.specs.World.{begin, senderTick, receiverTick, hold, resume}
 use Rattle.transport.specs.World.{hearForward, repeatForward, loseForward, hearBack, repeatBack, loseBack}
 
 -- what is asked of a call: as of a clean one, but of a repeat nothing, and of the sender's tick only that the line is empty
@@ -20,6 +20,8 @@ abbrev pub LenientCall : Past → Call → Event → Type 0
 LenientCall p (begin m) e = CleanCall p (begin m) e
 LenientCall p (senderTick m) e = taken (e .sender) ≡ true → Empty (p .world)
 LenientCall p receiverTick e = CleanCall p receiverTick e
+LenientCall p hold e = CleanCall p hold e
+LenientCall p resume e = CleanCall p resume e
 LenientCall p (hearForward b) e = CleanCall p (hearForward b) e
 LenientCall p (repeatForward b) e = Unit
 LenientCall p loseForward e = CleanCall p loseForward e

@@ -1,5 +1,5 @@
--- What a list of events shows: the words that document 01, The line, gives for demand 3. Nothing here looks at an end's
--- state.
+-- What a list of events shows: the words that document 01, The line, gives for demand 3, and the holds of document 02, E2.
+-- Nothing here looks at an end's state.
 use Prim.Native.Nat.{ℕ, _+_}
 use mathlib.Core.Bool.{Bool, true, false, not, _&&_}
 use mathlib.Core.List.{List, [], _∷_, _++_}
@@ -12,7 +12,7 @@ use Rattle.receiver.specs.Told as receiver
 use Rattle.sender.specs.Told as sender
 use Rattle.transport.specs.Step.{senderRefused, wasRefused}
 use Rattle.transport.specs.World.{Call, Given, nobody, toSender, toReceiver, Event}
-use Rattle.transport.specs.World.{begin, senderTick, receiverTick}
+use Rattle.transport.specs.World.{begin, senderTick, receiverTick, hold, resume}
 use Rattle.transport.specs.World.{hearForward, repeatForward, loseForward, hearBack, repeatBack, loseBack}
 
 -- ---- the calls, by what the words below ask of them
@@ -21,12 +21,15 @@ pub data Sort : Type 0 where
   begins : (message : List ℕ) → Sort
   ticksSender : Sort
   ticksReceiver : Sort
+  holdsReceiver : Sort
   other : Sort
 
 abbrev pub sortOf : Call → Sort
 sortOf (begin message) = begins message
 sortOf (senderTick message) = ticksSender
 sortOf receiverTick = ticksReceiver
+sortOf hold = holdsReceiver
+sortOf resume = other
 sortOf (hearForward buffer) = other
 sortOf (repeatForward buffer) = other
 sortOf loseForward = other
@@ -50,6 +53,7 @@ abbrev pub senderTicksBy : Sort → Bool → ℕ
 senderTicksBy (begins message) accepted = 0
 senderTicksBy ticksSender accepted = one accepted
 senderTicksBy ticksReceiver accepted = 0
+senderTicksBy holdsReceiver accepted = 0
 senderTicksBy other accepted = 0
 
 -- the sender's reports in an event, none or one
@@ -85,6 +89,7 @@ begunBy (begins message) true counted = since message 0 0 []
 begunBy (begins message) false counted = counted
 begunBy ticksSender accepted counted = counted
 begunBy ticksReceiver accepted counted = counted
+begunBy holdsReceiver accepted counted = counted
 begunBy other accepted counted = counted
 
 unfoldable pub begunAfter : Event → Begun → Begun
@@ -105,7 +110,16 @@ abbrev pub receiverTicksBy : Sort → ℕ
 receiverTicksBy (begins message) = 0
 receiverTicksBy ticksSender = 0
 receiverTicksBy ticksReceiver = 1
+receiverTicksBy holdsReceiver = 0
 receiverTicksBy other = 0
+
+-- the accepted holds in an event, none or one: a refused one is none
+abbrev pub pausesBy : Sort → receiver.Outcome → ℕ
+pausesBy (begins message) o = 0
+pausesBy ticksSender o = 0
+pausesBy ticksReceiver o = 0
+pausesBy holdsReceiver o = one (not (wasRefused o))
+pausesBy other o = 0
 
 -- a connection's report: delivered, or failed; a short delivery is none
 abbrev pub receiverReports : receiver.Outcome → ℕ
@@ -115,15 +129,15 @@ receiverReports (receiver.delivered length) = 1
 receiverReports (receiver.failed cause) = 1
 receiverReports receiver.short = 0
 
--- What has been seen since the last opening of a connection: its N, the receiver's ticks, its reports.
+-- What has been seen since the last opening of a connection: its N, the receiver's ticks, its reports, the accepted holds.
 pub data Opened : Type 0 where
   never : Opened
-  since : (frames ticks reports : ℕ) → Opened
+  since : (frames ticks reports pauses : ℕ) → Opened
 
 -- no connection is open: none has been opened, or the last one has had its report
 abbrev pub idle : Opened → Bool
 idle never = true
-idle (since frames ticks reports) = not (eqb reports 0)
+idle (since frames ticks reports pauses) = not (eqb reports 0)
 
 -- the answer to an announcement that is taken: LM_ACK with start 1
 abbrev pub firstAck : List Frame → Bool
@@ -142,15 +156,17 @@ announced nobody = 0
 announced (toSender f) = 0
 announced (toReceiver f) = byteOf f 1
 
-abbrev pub later : Opened → ℕ → ℕ → Opened
-later never ticks reports = never
-later (since frames ticks₀ reports₀) ticks reports = since frames (ticks₀ + ticks) (reports₀ + reports)
+abbrev pub later : Opened → ℕ → ℕ → ℕ → Opened
+later never ticks reports pauses = never
+later (since frames ticks₀ reports₀ pauses₀) ticks reports pauses =
+    since frames (ticks₀ + ticks) (reports₀ + reports) (pauses₀ + pauses)
 
 -- A frame 0 that is answered with LM_ACK 1 opens a connection, unless one is open; all else counts for the one before.
 unfoldable pub openedAfter : Event → Opened → Opened
 openedAfter e o =
-    pick (announces (e .given) && firstAck (e .emitted) && idle o) (since (announced (e .given)) 0 0)
-    (later o (receiverTicksBy (sortOf (e .call))) (receiverReports (e .receiver)))
+    let sort = sortOf (e .call) in
+    pick (announces (e .given) && firstAck (e .emitted) && idle o) (since (announced (e .given)) 0 0 0)
+    (later o (receiverTicksBy sort) (receiverReports (e .receiver)) (pausesBy sort (e .receiver)))
 
 unfoldable pub openedIn : List Event → Opened
 openedIn [] = never

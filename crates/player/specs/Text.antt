@@ -4,7 +4,7 @@ use mathlib.Core.List.{List, [], _∷_, _++_}
 use Rattle.frame.specs.declared.Frame.{Frame}
 use Rattle.text.specs.Text.{letterS, letterR, frameLine, senderReport, receiverReport}
 use Rattle.transport.specs.World.{Call, Event}
-use Rattle.transport.specs.World.{begin, senderTick, receiverTick}
+use Rattle.transport.specs.World.{begin, senderTick, receiverTick, hold, resume}
 use Rattle.transport.specs.World.{hearForward, repeatForward, loseForward, hearBack, repeatBack, loseBack}
 
 -- the end that is called, S or R; a loss calls none and prints nothing
@@ -12,6 +12,8 @@ abbrev pub letterOf : Call → ℕ
 letterOf (begin message) = letterS
 letterOf (senderTick message) = letterS
 letterOf receiverTick = letterR
+letterOf hold = letterR
+letterOf resume = letterR
 letterOf (hearForward buffer) = letterR
 letterOf (repeatForward buffer) = letterR
 letterOf loseForward = letterR

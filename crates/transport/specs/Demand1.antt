@@ -15,7 +15,7 @@ use Rattle.transport.specs.Capped.{cappedStep}
 use Rattle.transport.specs.Make.{makeOf}
 use Rattle.transport.specs.Step.{Stepped, withLines, senderRefused, wasRefused, dropped}
 use Rattle.transport.specs.World.{World, Call, Event}
-use Rattle.transport.specs.World.{begin, senderTick, receiverTick}
+use Rattle.transport.specs.World.{begin, senderTick, receiverTick, hold, resume}
 use Rattle.transport.specs.World.{hearForward, repeatForward, loseForward, hearBack, repeatBack, loseBack}
 use Rattle.transport.specs.declared.Ends.{Ends}
 
@@ -29,6 +29,8 @@ abbrev pub leftBy : Call → World → World
 leftBy (begin message) w = w
 leftBy (senderTick message) w = w
 leftBy receiverTick w = w
+leftBy hold w = w
+leftBy resume w = w
 leftBy (hearForward buffer) w = withLines w (dropped (w .forward)) (w .back)
 leftBy (repeatForward buffer) w = w
 leftBy loseForward w = withLines w (dropped (w .forward)) (w .back)
@@ -41,6 +43,8 @@ abbrev pub lentBy : Call → List ℕ
 lentBy (begin message) = []
 lentBy (senderTick message) = []
 lentBy receiverTick = []
+lentBy hold = []
+lentBy resume = []
 lentBy (hearForward buffer) = buffer
 lentBy (repeatForward buffer) = buffer
 lentBy loseForward = []

@@ -6,6 +6,7 @@ use mathlib.Core.List.{List, [], _∷_, _++_}
 use Rattle.frame.specs.Frames.{blankOf}
 use Rattle.frame.specs.declared.Frame.{Frame}
 use Rattle.receiver.specs.Hear as hearing
+use Rattle.receiver.specs.Hold.{holdOf, resumeOf}
 use Rattle.receiver.specs.Tick as ticking
 use Rattle.receiver.specs.Told as receiver
 use Rattle.sender.specs.Begin.{beginOf}
@@ -13,7 +14,7 @@ use Rattle.sender.specs.Hear.{hearOf}
 use Rattle.sender.specs.Tick.{tickOf}
 use Rattle.sender.specs.Told as sender
 use Rattle.transport.specs.World.{World, Call, Given, nobody, toSender, toReceiver, Event}
-use Rattle.transport.specs.World.{begin, senderTick, receiverTick}
+use Rattle.transport.specs.World.{begin, senderTick, receiverTick, hold, resume}
 use Rattle.transport.specs.World.{hearForward, repeatForward, loseForward, hearBack, repeatBack, loseBack}
 
 -- the world after a call and what is seen of the call
@@ -149,6 +150,8 @@ stepOf w (begin message) = bySender (begin message) w nobody (w .back) (beginOf 
 stepOf w (senderTick message) = bySender (senderTick message) w nobody (w .back) (tickOf (w .sender) message)
 stepOf w receiverTick =
     byReceiver receiverTick w nobody (w .forward) (receiver.heard (ticking.tickOf (w .receiver)) (w .buffer))
+stepOf w hold = byReceiver hold w nobody (w .forward) (receiver.heard (holdOf (w .receiver)) (w .buffer))
+stepOf w resume = byReceiver resume w nobody (w .forward) (receiver.heard (resumeOf (w .receiver)) (w .buffer))
 stepOf w (hearForward buffer) = givenForward gone (hearForward buffer) w buffer (w .forward)
 stepOf w (repeatForward buffer) = givenForward still (repeatForward buffer) w buffer (w .forward)
 stepOf w loseForward = unheard loseForward (withLines w (dropped (w .forward)) (w .back))

@@ -1,4 +1,5 @@
--- Document 01, The line: the two ends, the two lists of frames, the receiving buffer, the calls and what is seen of each.
+-- Document 01, The line: the two ends, the two lists of frames, the receiving buffer, the calls (document 02, E2, adds hold
+-- and resume) and what is seen of each.
 use Prim.Native.Nat.{ℕ}
 use mathlib.Core.List.{List, []}
 use Rattle.frame.specs.declared.Frame.{Frame}
@@ -22,6 +23,8 @@ pub data Call : Type 0 where
   begin : (message : List ℕ) → Call
   senderTick : (message : List ℕ) → Call
   receiverTick : Call
+  hold : Call
+  resume : Call
   hearForward : (buffer : List ℕ) → Call
   repeatForward : (buffer : List ℕ) → Call
   loseForward : Call

@@ -10,6 +10,8 @@ ghost use Rattle.transport.specs.World.{
   begin,
   senderTick,
   receiverTick,
+  hold,
+  resume,
   hearForward,
   repeatForward,
   loseForward,
@@ -69,6 +71,38 @@ impl Ends {
         }
         let r = self.receiver;
         let a = r.tick();
+        self.receiver_spoke(a, back)
+    }
+
+    // The receiver holds the transfer.
+    pub fn hold(self, back: &mut [u8]) -> Answer
+        ensures { λ r. ⌜ ((forward buffer : List ℕ) →
+            told r forward (now (back .exit)) buffer
+            ≡ lentOf (isLine (now (back .entry)))
+            (worldOf self forward (now (back .entry)) buffer)
+            hold) ⌝ }
+    {
+        if back.len() != LINE {
+            return self.unheard();
+        }
+        let r = self.receiver;
+        let a = r.hold();
+        self.receiver_spoke(a, back)
+    }
+
+    // The receiver ends its hold.
+    pub fn resume(self, back: &mut [u8]) -> Answer
+        ensures { λ r. ⌜ ((forward buffer : List ℕ) →
+            told r forward (now (back .exit)) buffer
+            ≡ lentOf (isLine (now (back .entry)))
+            (worldOf self forward (now (back .entry)) buffer)
+            resume) ⌝ }
+    {
+        if back.len() != LINE {
+            return self.unheard();
+        }
+        let r = self.receiver;
+        let a = r.resume();
         self.receiver_spoke(a, back)
     }
 
