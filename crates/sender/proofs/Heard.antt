@@ -5,7 +5,7 @@ use Prim.Native.Nat.{ℕ}
 use mathlib.Core.Path.{refl}
 use Rattle.frame.proofs.Choice.{pick-elim}
 use Rattle.sender.proofs.Choices.{bad-elim, hear-elim}
-use Rattle.sender.specs.Hear.{taking, ackOpening, ackWindow, hearAck, hearNack, ifWhole, hearEnd, ifFirst, hearShortAck}
+use Rattle.sender.specs.Hear.{taking, takingHold, ackOpening, ackBelow, ackWindow, hearAck, hearNack, ifWhole, hearEnd, ifFirst, hearShortAck}
 use Rattle.sender.specs.Heard.{ofSent, ofFailed, Heard, ignored, taken, over, HearingRestartsNoWait}
 use Rattle.sender.specs.Told.{silently, failingWith, failing, finishing}
 use Rattle.sender.specs.declared.Phase.{Phase}
@@ -30,11 +30,17 @@ module _ (s : Sender) where
   unfolding taking
   takes t start count misses = taken _ refl refl refl
 
+  acks-below : (t : Transfer) (last start count : ℕ) → Heard s (ackBelow s t last start count)
+  unfolding ackBelow takingHold
+  acks-below t last start count = pick-elim (Heard s) _ (λ hold. taken _ refl refl refl) (λ old. ignores)
+
   acks-window : (t : Transfer) (last misses start count : ℕ) → Heard s (ackWindow s t last misses start count)
   unfolding ackWindow
   acks-window t last misses start count =
       bad-elim (Heard s) s t start count ignores (fails-with t 4)
-      (λ from some within. pick-elim (Heard s) _ (λ below. ignores) (λ on. takes t start count _))
+      (λ from some within. pick-elim (Heard s) _
+      (λ below. acks-below t last start count)
+      (λ on. takes t start count _))
 
   acks : (p : Phase) (start count : ℕ) → Heard s (hearAck s p start count)
   unfolding hearAck ackOpening

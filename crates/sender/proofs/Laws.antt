@@ -25,7 +25,7 @@ use Rattle.frame.specs.declared.Parsed.{Parsed}
 use Rattle.frame.specs.declared.Reading.{Reading}
 use Rattle.frame.specs.declared.Reading.the-variants.{Read, Refused}
 use Rattle.sender.specs.Begin.{lengthFits, begunWith, beginLong, beginShort, beginPhase}
-use Rattle.sender.specs.Hear.{windowLast, sendingFrom, taking, ackWindow, hearAck, hearNack, hearEnd, hearShortAck, hearKind, hearRead, hearOf}
+use Rattle.sender.specs.Hear.{windowLast, sendingFrom, taking, takingHold, ackWindow, hearAck, hearNack, hearEnd, hearShortAck, hearKind, hearRead, hearOf}
 use Rattle.sender.specs.State.{aged, counted, openingWith, sendingWith, waitingWith, shortWith, inPhase}
 use Rattle.sender.specs.Tick.{unlessOver, atLimit, unlessThird, openingOn, openingAgain, informationAt, waitingAfter, afterFrame, sendingNext, sendingOn, waitingOn, waitingAgain, shortOn, shortAgain, tickPhase}
 use Rattle.sender.specs.Told.{Told, failed, refusing, silently, emitting, closing, failingWith}
@@ -232,12 +232,17 @@ part-at f number from m start e = cc (part-to-end m from, drop-from m (7 * (numb
 
 -- ---- hear
 
-pub takes : (s : Sender) (t : Transfer) (start count misses : ℕ)
-    {a : Told} {p : Sender} {q : Phase} {last : ℕ}
-    → last ≡ windowLast start count (t .frames) → q ≡ sendingFrom t start last misses → p ≡ inPhase s q
-    → a ≡ silently p → a ≡ taking s t start count misses
-unfolding taking
-takes s t start count misses end phase next e = cc
+-- a window is sent
+module _ (s : Sender) (t : Transfer) (start : ℕ) {a : Told} {p : Sender} {q : Phase} (next : p ≡ inPhase s q)
+    (e : a ≡ silently p) where
+  pub takes : (count misses : ℕ) {last : ℕ} → last ≡ windowLast start count (t .frames)
+      → q ≡ sendingFrom t start start last misses → a ≡ taking s t start count misses
+  unfolding taking
+  takes count misses end phase = cc
+
+  pub takes-hold : (taken : ℕ) → q ≡ sendingFrom t taken start start 0 → a ≡ takingHold s t taken start
+  unfolding takingHold
+  takes-hold taken phase = cc
 
 -- A sender is its settings and its phase. So the state that is handed to a step may be the sender or be built anew from it,
 -- and is judged by its parts: edits/ has one that builds it anew with another wait.

@@ -11,14 +11,14 @@ use borrow.Author.Tests.{leb-true, leb-false, eqb-true, eqb-false, le-leb, lt-le
 use lib.Dec.{eqb, leb}
 use lib.ListN.{length}
 use Rattle.frame.specs.Result.{accepted}
-use Rattle.frame.proofs.Choice.{pick-elim}
+use Rattle.frame.proofs.Choice.{pick-elim, both-left}
 use Rattle.frame.proofs.Laws.{increment-is}
 use Rattle.frame.specs.Count.{frameCountOf, incrementOf}
 use Rattle.frame.specs.declared.Frame.{Frame}
 use Rattle.sender.proofs.Choices.{limit-elim, begin-elim, tick-elim, over-elim, timeout-elim, bad-elim, hear-elim}
 use Rattle.sender.specs.Begin.{beginLong, beginShort, beginOf, postOf}
 use Rattle.sender.specs.Call.{Call, begin, tick, hear, post, answerOf}
-use Rattle.sender.specs.Hear.{taking, ackOpening, ackWindow, hearAck, hearNack, ifWhole, hearEnd, ifFirst, hearShortAck, hearOf}
+use Rattle.sender.specs.Hear.{taking, takingHold, ackOpening, ackBelow, ackWindow, hearAck, hearNack, ifWhole, hearEnd, ifFirst, hearShortAck, hearOf}
 use Rattle.sender.specs.Make.{settingsFit, idleWith, makeOf}
 use Rattle.sender.specs.Reachable.{Reachable, fresh, called, SettingsWithin, TransferWithin, LongWithin, PhaseWithin, Within, Counts, OfTransfer, OfWait, OfMisses, OfSending, OfFrame, StartsInside, Exact, EveryReachable}
 use Rattle.sender.specs.State.{aged, counted, inPhase}
@@ -137,18 +137,21 @@ module _ (s : Sender) (h : Within s) where
       (λ young.
       let t = older (x .transfer) (w .0 .counted) young in
       timeout-elim Keeps s (x .transfer) (x .wait) (x .misses) idles
-      (λ few. enters _ (longer (x .transfer) _ refl refl (w .0) (t .1), w .1, h .settings .timeout .0, few))
-      (λ early. enters _ (longer (x .transfer) _ refl refl (w .0) (t .0), w .1, early, w .3)))
+      (λ few. enters _ (longer (x .transfer) _ refl refl (w .0) (t .1), w .1, w .2, h .settings .timeout .0, few))
+      (λ early. enters _ (longer (x .transfer) _ refl refl (w .0) (t .0), w .1, w .2, early, w .4)))
 
   after : (x : Streamed) → PhaseWithin (s .settings) (Sending x)
       → LongWithin (s .settings) (counted (aged (x .transfer)))
       → PhaseWithin (s .settings) (afterFrame x)
   unfolding afterFrame
   after x w l =
-      let n = w .1 in
+      let start = w .1 in
+      let window = w .2 in
       pick-elim (PhaseWithin (s .settings)) _
-      (λ last. (l, omega arith, h .settings .timeout .0, w .3))
-      (λ more. let e : x .next < x .last = leb-false _ _ more in (l, omega arith, h .settings .gap .0, w .3))
+      (λ last. (l, omega arith, omega arith, h .settings .timeout .0, w .4))
+      (λ more.
+      let e : x .next < x .last = leb-false _ _ more in
+      (l, omega arith, omega arith, h .settings .gap .0, w .4))
 
   ticks-sending : (x : Streamed) (m : List ℕ) → PhaseWithin (s .settings) (Sending x) → Keeps (tickSending s x m)
   unfolding tickSending
@@ -158,7 +161,7 @@ module _ (s : Sender) (h : Within s) where
       let t = older (x .transfer) (w .0 .counted) young in
       limit-elim Keeps (s .settings .gap) (x .gap)
       (enters _ (after x w (longer (x .transfer) _ refl refl (w .0) (t .1))))
-      (λ early. enters _ (longer (x .transfer) _ refl refl (w .0) (t .0), w .1, early, w .3)))
+      (λ early. enters _ (longer (x .transfer) _ refl refl (w .0) (t .0), w .1, w .2, early, w .4)))
 
   ticks-short : (x : Single) (m : List ℕ) → PhaseWithin (s .settings) (Short x) → Keeps (tickShort s x m)
   unfolding tickShort
@@ -185,7 +188,7 @@ module _ (s : Sender) (h : Within s) where
       → start ≤ t .frames → misses < 3
       → Keeps (taking s t start count misses)
   unfolding taking
-  takes t start count misses l from some within few = enters _ (l, omega arith, h .settings .gap .0, few)
+  takes t start count misses l from some within few = enters _ (l, omega arith, omega arith, h .settings .gap .0, few)
 
   acks-opening : (t : Transfer) (start count : ℕ) → LongWithin (s .settings) t → Keeps (ackOpening s t start count)
   unfolding ackOpening
@@ -195,12 +198,23 @@ module _ (s : Sender) (h : Within s) where
       (λ one. takes t start count 0 l from some within (omega arith))
       (λ other. h))
 
-  acks-window : (t : Transfer) (taken misses start count : ℕ) → LongWithin (s .settings) t → misses < 3
+  -- a start below the last one taken: that one is at most N, and so is the frame that a hold asks for
+  acks-below : (t : Transfer) (taken start count : ℕ) → LongWithin (s .settings) t → 1 ≤ start → taken ≤ t .frames
+      → Keeps (ackBelow s t taken start count)
+  unfolding ackBelow takingHold
+  acks-below t taken start count l from most =
+      pick-elim Keeps _
+      (λ hold.
+      let e : start + 1 ≡ taken = eqb-true _ _ (both-left _ _ hold) in
+      enters _ (l, omega arith, omega arith, h .settings .gap .0, omega arith))
+      (λ old. h)
+
+  acks-window : (t : Transfer) (taken misses start count : ℕ) → LongWithin (s .settings) t → taken ≤ t .frames → misses < 3
       → Keeps (ackWindow s t taken misses start count)
   unfolding ackWindow
-  acks-window t taken misses start count l few =
+  acks-window t taken misses start count l most few =
       bad-elim Keeps s t start count h idles
-      (λ from some within. pick-elim Keeps _ (λ below. h)
+      (λ from some within. pick-elim Keeps _ (λ below. acks-below t taken start count l from most)
       (λ on. takes t start count _ l from some within
       (pick-elim (λ n. n < 3) (eqb start taken) (λ same. few) (λ other. omega arith))))
 
@@ -208,8 +222,8 @@ module _ (s : Sender) (h : Within s) where
   unfolding hearAck
   acks Idle start count w = h
   acks (Opening x) start count w = acks-opening (x .transfer) start count (w .0)
-  acks (Sending x) start count w = acks-window (x .transfer) (x .start) (x .misses) start count (w .0) (w .3)
-  acks (Waiting x) start count w = acks-window (x .transfer) (x .start) (x .misses) start count (w .0) (w .3)
+  acks (Sending x) start count w = acks-window (x .transfer) (x .start) (x .misses) start count (w .0) (w .1 .2) (w .4)
+  acks (Waiting x) start count w = acks-window (x .transfer) (x .start) (x .misses) start count (w .0) (w .1 .2) (w .4)
   acks (Short x) start count w = h
 
   nacks : (p : Phase) → Keeps (hearNack s p)
@@ -290,14 +304,14 @@ module _ (r : Settings) (w : SettingsWithin r) where
   of-wait Idle h = tt
   of-wait (Opening x) h = counts _ _ (h .1) (omega (arith, w .timeout .1))
   of-wait (Sending x) h = tt
-  of-wait (Waiting x) h = counts _ _ (h .2) (omega (arith, w .timeout .1))
+  of-wait (Waiting x) h = counts _ _ (h .3) (omega (arith, w .timeout .1))
   of-wait (Short x) h = counts _ _ (h .1) (omega (arith, w .timeout .1))
 
   of-misses : (p : Phase) → PhaseWithin r p → OfMisses p (λ misses. Counts misses 3)
   of-misses Idle h = tt
   of-misses (Opening x) h = counts _ 3 (h .2) (omega arith)
-  of-misses (Sending x) h = counts _ 3 (h .3) (omega arith)
-  of-misses (Waiting x) h = counts _ 3 (h .3) (omega arith)
+  of-misses (Sending x) h = counts _ 3 (h .4) (omega arith)
+  of-misses (Waiting x) h = counts _ 3 (h .4) (omega arith)
   of-misses (Short x) h = tt
 
   of-sending : (P : Streamed → Type 0) → ((x : Streamed) → PhaseWithin r (Sending x) → P x) → (p : Phase) → PhaseWithin r p
@@ -312,7 +326,7 @@ module _ (r : Settings) (w : SettingsWithin r) where
   of-frame Idle h = tt
   of-frame (Opening x) h = tt
   of-frame (Sending x) h = inside r (x .transfer) (x .next) (h .0) (omega arith)
-  of-frame (Waiting x) h = inside r (x .transfer) (x .last) (h .0) (h .1 .2)
+  of-frame (Waiting x) h = inside r (x .transfer) (x .last) (h .0) (h .2 .1)
   of-frame (Short x) h = tt
 
 pub within-exact : (s : Sender) → Within s → Exact s
@@ -323,9 +337,9 @@ within-exact s h =
       age = of-transfer r w _ (λ t c. counts (t .age) (r .limit) (c .age) (w .limit .1)) (s .phase) (h .phase);
       emitted = of-transfer r w _ (λ t c. emitted-grows r w t c) (s .phase) (h .phase);
       wait = of-wait r w (s .phase) (h .phase);
-      gap = of-sending r w _ (λ x c. counts (x .gap) (r .gap) (c .2) (omega (arith, w .gap .1))) (s .phase) (h .phase);
+      gap = of-sending r w _ (λ x c. counts (x .gap) (r .gap) (c .3) (omega (arith, w .gap .1))) (s .phase) (h .phase);
       misses = of-misses r w (s .phase) (h .phase);
-      last = of-sending r w _ (λ x c. up-to (x .next) (x .last) (c .1 .2)) (s .phase) (h .phase);
+      last = of-sending r w _ (λ x c. up-to (x .next) (x .last) (c .2 .1)) (s .phase) (h .phase);
       part = of-frame r w (s .phase) (h .phase);
     }
 
