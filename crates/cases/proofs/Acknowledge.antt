@@ -5,10 +5,11 @@ use mathlib.Core.Bool.{Bool, true, false}
 use mathlib.Core.List.{List, []}
 use Prim.Native.Nat.{ℕ}
 use lib.Dec.{eqb, ltb}
+use Rattle.frame.proofs.Choice.{pick-elim}
 use Rattle.frame.specs.Choice.{pick}
 use Rattle.frame.specs.Frames.{lmAckOf, lmNackOf}
 use Rattle.frame.specs.Reading.{namedOf, allFiller, readOf}
-use Rattle.sender.specs.Hear.{hearOf, hearRead, hearKind, hearAck, isVoid, ackOpening, ackWindow, taking}
+use Rattle.sender.specs.Hear.{hearOf, hearRead, hearKind, hearAck, isVoid, ackOpening, takingHold, ackBelow, ackWindow, taking}
 use Rattle.sender.specs.Told.{Told, silently, failingWith}
 use Rattle.sender.specs.declared.Phase.{Phase}
 use Rattle.sender.specs.declared.Sender.{Sender}
@@ -33,11 +34,17 @@ by-tests s t taken ignored false true which ht hi = refl
 by-tests s t taken ignored false false true ht hi = ht
 by-tests s t taken ignored false false false ht hi = hi
 
+-- nor where a hold asks for a frame
+below : (s : Sender) (t : Transfer) (last start count : ℕ) → shownHearing (ackBelow s t last start count) ≡ []
+unfolding ackBelow takingHold unlessRefused
+below s t last start count =
+    pick-elim (λ (a : Told). shownHearing a ≡ []) _ (λ _. refl) (λ _. refl)
+
 in-window : (s : Sender) (t : Transfer) (last misses start count : ℕ)
     → shownHearing (ackWindow s t last misses start count) ≡ ackNumbers (t .frames) start count
 unfolding ackWindow taking ackNumbers unlessRefused pick
 in-window s t last misses start count =
-    by-tests s t _ _ (isVoid start count) (ltb (t .frames) start) (ltb start last) refl refl
+    by-tests s t _ _ (isVoid start count) (ltb (t .frames) start) (ltb start last) (below s t last start count) refl
 
 by-phase : (s : Sender) {p : Phase} {t : Transfer}
     → Long p t
