@@ -5,11 +5,10 @@ use mathlib.Core.Bool.{Bool, true, false}
 use mathlib.Core.List.{List, []}
 use Prim.Native.Nat.{ℕ}
 use lib.Dec.{eqb, ltb}
-use Rattle.frame.proofs.Choice.{pick-elim}
 use Rattle.frame.specs.Choice.{pick}
 use Rattle.frame.specs.Frames.{lmAckOf, lmNackOf}
 use Rattle.frame.specs.Reading.{namedOf, allFiller, readOf}
-use Rattle.sender.specs.Hear.{hearOf, hearRead, hearKind, hearAck, isVoid, ackOpening, takingHold, ackBelow, ackWindow, taking}
+use Rattle.sender.specs.Hear.{hearOf, hearRead, hearKind, hearAck, isVoid, ackOpening, asksToHold, takingHold, ackBelow, ackWindow, taking}
 use Rattle.sender.specs.Told.{Told, silently, failingWith}
 use Rattle.sender.specs.declared.Phase.{Phase}
 use Rattle.sender.specs.declared.Sender.{Sender}
@@ -36,9 +35,12 @@ by-tests s t taken ignored false false false ht hi = hi
 
 -- nor where a hold asks for a frame
 below : (s : Sender) (t : Transfer) (last start count : ℕ) → shownHearing (ackBelow s t last start count) ≡ []
-unfolding ackBelow takingHold unlessRefused
-below s t last start count =
-    pick-elim (λ (a : Told). shownHearing a ≡ []) _ (λ _. refl) (λ _. refl)
+unfolding ackBelow takingHold unlessRefused pick
+below s t last start count = go (asksToHold last start count)
+  where
+    go : (held : Bool) → shownHearing (pick held (takingHold s t last start) (silently s)) ≡ []
+    go true = refl
+    go false = refl
 
 in-window : (s : Sender) (t : Transfer) (last misses start count : ℕ)
     → shownHearing (ackWindow s t last misses start count) ≡ ackNumbers (t .frames) start count
