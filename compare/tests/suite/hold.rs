@@ -1,6 +1,7 @@
 //! Document 02, E2: holding a transfer. States and frames are worked out by hand.
 
 use crate::help::*;
+use compare::packs::random::Random;
 use compare::reference::frame::{self, Frame};
 use compare::reference::line::{Bench, Call, Outcome};
 use compare::reference::receiver::{self, Answer, Connection, Receiver, Report, State};
@@ -646,4 +647,111 @@ fn a_held_transfer_with_window_2() {
             (Call::BackHear, Seen::Sent(5, 6)),
         ],
     );
+}
+
+/// A run on which chance draws the calls, holds and resumes among them.
+struct Run {
+    bench: Bench,
+    message: Vec<u8>,
+    buffer: Vec<u8>,
+    /// Receiver ticks of the connection that is open.
+    ticks: usize,
+    /// Held timeouts that the last connection had.
+    holds: u16,
+    deliveries: usize,
+}
+
+impl Run {
+    fn begun(random: &mut Random) -> Run {
+        let gap = random.between(1, 2) as u8;
+        let timeout = random.between(1, 9) as u16;
+        let sender = Sender::make(gap, timeout, 60000);
+        let timeout = random.between(1, 5) as u16;
+        let receiver = Receiver::make(timeout, random.between(1, 4) as u8, 1785);
+        let length = random.between(9, 40);
+        let mut run = Run {
+            bench: Bench::new(sender.unwrap(), receiver.unwrap()),
+            message: (0..length).map(|_| random.byte()).collect(),
+            buffer: buffer(),
+            ticks: 0,
+            holds: 0,
+            deliveries: 0,
+        };
+        run.call(Call::Begin);
+        run
+    }
+
+    /// One call, and what E2 leaves of demand 3 after it: a delivery is the very message, sent comes
+    /// after one, and a connection is over by 3 x T x N + 21 x T.
+    fn call(&mut self, call: Call) -> Option<sender::Report> {
+        let outcome = self.bench.call(call, &self.message, &mut self.buffer);
+        let mut sent = None;
+        match outcome.unwrap_or(Outcome::Nothing) {
+            Outcome::Nothing => {}
+            Outcome::Sender(answer) => {
+                sent = answer.report;
+                assert!(self.deliveries > 0 || !matches!(sent, Some(sender::Report::Sent { .. })));
+            }
+            Outcome::Receiver(answer) => self.deliver(answer.report),
+        }
+        let timeout = usize::from(self.bench.receiver.timeout);
+        match self.bench.receiver.state {
+            State::Idle { .. } => self.ticks = 0,
+            State::Open(open) => {
+                self.holds = open.holds;
+                self.ticks += usize::from(call == Call::ReceiverTick);
+                assert!(self.ticks < 3 * timeout * usize::from(open.n) + 21 * timeout);
+            }
+        }
+        sent
+    }
+
+    fn deliver(&mut self, report: Option<Report>) {
+        if let Some(Report::Delivered { l }) = report {
+            let (told, rest) = self.buffer.split_at(usize::from(l));
+            assert_eq!(told, self.message);
+            assert!(rest.iter().all(|&byte| byte == 0xEE));
+            self.deliveries += 1;
+        }
+    }
+}
+
+/// Now and then a hold or a resume, now and then a loss or a repeat; else what brings the transfer
+/// forward, or time.
+fn drawn(random: &mut Random, bench: &Bench) -> Call {
+    match random.weighted(&[4, 3, 2, 2, 2, 2, 25, 60]) {
+        0 => Call::Hold,
+        1 => Call::Resume,
+        2 => Call::ForwardLose,
+        3 => Call::ForwardRepeat,
+        4 => Call::BackLose,
+        5 => Call::BackRepeat,
+        6 => Call::ReceiverTick,
+        _ if !bench.back.is_empty() => Call::BackHear,
+        _ if !bench.forward.is_empty() => Call::ForwardHear,
+        _ => Call::SenderTick,
+    }
+}
+
+/// Chance runs with holds. They are worth something only if transfers that were held are sent, and
+/// some use up what they have.
+#[test]
+fn chance_runs_with_holds() {
+    let mut random = Random::new(2027);
+    let (mut sent_after_holds, mut most) = (0, 0);
+    for _ in 0..3000 {
+        let mut run = Run::begun(&mut random);
+        for _ in 0..400 {
+            let call = drawn(&mut random, &run.bench);
+            let report = run.call(call);
+            most = most.max(run.holds);
+            if report.is_some() {
+                let sent = matches!(report, Some(sender::Report::Sent { .. }));
+                sent_after_holds += usize::from(sent && run.holds > 0);
+                break;
+            }
+        }
+    }
+    assert!(sent_after_holds > 500, "{sent_after_holds}");
+    assert_eq!(most, 20);
 }
