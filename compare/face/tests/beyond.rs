@@ -47,6 +47,8 @@ fn receiver(frames: u8, expected: u8) -> FlatReceiver {
         last: 2,
         wait: 4,
         misses: 0,
+        held: false,
+        holds: 0,
     }
 }
 
