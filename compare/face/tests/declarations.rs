@@ -223,6 +223,11 @@ fn another_header_is_found() {
     let header = header();
     for (old, new) in [
         ("uint8_t due;", "uint8_t next;"),
+        ("    bool held; ", "    uint8_t held; "),
+        (
+            "kospelna_receiver_hold(kospelna_receiver receiver);",
+            "kospelna_receiver_hold(kospelna_receiver_answer receiver);",
+        ),
         ("uint16_t ticks;", "uint32_t ticks;"),
         ("    uint8_t p", "    uint8_t q"),
         (

@@ -649,6 +649,57 @@ fn a_held_transfer_with_window_2() {
     );
 }
 
+/// A hold inside a window names the last start itself, so it clears no misses: a sender with T 2 and
+/// start 1 gives up at its third, however often it is asked.
+#[test]
+fn a_hold_inside_a_window_clears_no_misses() {
+    let (mut sender, message) = begun(1, 2, 1000, 21);
+    sender.hear(frame::lm_ack(1, 2)).unwrap();
+    for misses in 0..2 {
+        assert_eq!(sender.hear(frame::lm_ack(1, 1)), Ok(s_nothing()));
+        assert_eq!((sender.misses, sender.start), (misses, Some(1)));
+        // Frame 1, and a whole wait.
+        ticks(&mut sender, &message, 1 + 2);
+    }
+    sender.hear(frame::lm_ack(1, 1)).unwrap();
+    ticks(&mut sender, &message, 1 + 1);
+    // Nine ticks; frame 0, frame 1 three times, twice more at the misses, and the NACK.
+    let failed = s_failed(2, 9, 7, Some(frame::lm_nack(2)));
+    assert_eq!(sender.tick(&message), Ok(failed));
+}
+
+/// LM_ACKs of an earlier transfer can make a sender meet the rule with no hold: the old LM_ACK 1, 1 and
+/// 2, 1, which it takes for its own, are followed by LM_ACK 1, 1 of its own connection. It then sends
+/// frame 1, and the transfer goes on.
+#[test]
+fn old_lm_acks_meet_the_rule() {
+    let message = message(9);
+    let sender = Sender::make(1, 10, 2).unwrap();
+    let mut bench = Bench::new(sender, Receiver::make(10, 1, 1785).unwrap());
+    let mut buffer = buffer();
+    for call in [
+        Call::Begin,
+        Call::ForwardHear,
+        Call::BackRepeat,
+        Call::SenderTick,
+        Call::ForwardHear,
+        // The sending time is over: NACK 3 closes the connection.
+        Call::SenderTick,
+        Call::ForwardHear,
+        Call::Begin,
+        Call::BackHear,
+        Call::BackHear,
+        Call::ForwardHear,
+    ] {
+        bench.call(call, &message, &mut buffer).unwrap();
+    }
+    assert_eq!(bench.sender.start, Some(2));
+    assert_eq!(bench.back.repeat(), Some(frame::lm_ack(1, 1)));
+    bench.call(Call::BackHear, &message, &mut buffer).unwrap();
+    assert_eq!(bench.sender.phase, Phase::Sending { next: 1, last: 1 });
+    assert_eq!(bench.sender.start, Some(2));
+}
+
 /// A run on which chance draws the calls, holds and resumes among them.
 struct Run {
     bench: Bench,
