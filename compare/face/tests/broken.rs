@@ -35,7 +35,7 @@ fn the_reference_is_alike_with_itself() {
     assert_eq!(uncalled, Vec::<&str>::new());
 }
 
-/// Every outcome that a function can have comes, and often enough.
+/// Every outcome that a function can have comes, and often enough; so does all that can be met of a hold.
 #[test]
 fn every_outcome_comes() {
     let (tally, _) = first_difference(&Reference, &Reference, SEED, COUNT);
@@ -75,6 +75,8 @@ fn every_outcome_comes() {
     ] {
         come(name, &[0, 1]);
     }
+    let unmet = Met::ALL.iter().find(|&&met| tally.met[met as usize] < 100);
+    assert_eq!(unmet, None);
 }
 
 #[test]
@@ -120,7 +122,7 @@ fn transfers_go_through() {
     assert!(sent[0] > 5000 && sent[1] > 2000 && sent[2] > 20, "{sent:?}");
 }
 
-/// Whatever can be met of a hold is met often enough by sessions alone, and by forged states alone.
+/// What can be met of a hold is met by sessions alone, and by forged states alone.
 #[test]
 fn holds_come_about() {
     let mut sessions = Pair::new(&Reference, &Reference);

@@ -228,6 +228,19 @@ fn information_while_held() {
     assert_eq!((open(&receiver).e, open(&receiver).w), (4, 5));
 }
 
+/// Not even the announcement of this connection where e is 1, a state that no calls make.
+#[test]
+fn announcement_while_held_at_frame_1() {
+    let (mut receiver, mut buffer) = opened(10, 3, 30);
+    let State::Open(open) = &mut receiver.state else {
+        panic!()
+    };
+    open.held = true;
+    let before = receiver.clone();
+    let answer = receiver.hear(frame::announcement(5, 30), &mut buffer);
+    assert_eq!((answer, receiver), (Ok(r_nothing()), before));
+}
+
 /// The frame that would complete the message is ignored as well.
 #[test]
 fn last_frame_while_held() {

@@ -258,11 +258,15 @@ fn own_counted(r: FlatReceiver, a: &mut FlatReceiverAnswer) {
 }
 
 fn wait_by_hold(_: FlatReceiver, a: &mut FlatReceiverAnswer) {
-    a.next.wait = 0;
+    if is_taken(a) {
+        a.next.wait = 0;
+    }
 }
 
 fn misses_by_hold(_: FlatReceiver, a: &mut FlatReceiverAnswer) {
-    a.next.misses = 0;
+    if is_taken(a) {
+        a.next.misses = 0;
+    }
 }
 
 fn count_by_hold(_: FlatReceiver, a: &mut FlatReceiverAnswer) {
