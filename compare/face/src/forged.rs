@@ -1,6 +1,6 @@
 //! Single calls of the ends and of talkers on forged states: states that a caller can build and calls need not lead to.
 //!
-//! Fields are drawn freely, those that a phase has not included, but only as far as document 01 speaks of them. Beyond it
+//! Fields are drawn freely, those that a phase has not included, but only as far as the documents speak of them. Beyond that
 //! the face and the reference read "= M", "at T" and the like each in its own way (`compare/NOTES.md`, 13;
 //! `docs/DECISIONS.md`, "States that no calls make"), so these hold of every forged state:
 //! - the counts are below their limits: age < M, wait < T, gap count < G, misses < 3; a talker's period < 50, age < 15000;
