@@ -8,6 +8,7 @@ pub mod Moves
 pub mod Lives
 pub mod Theorem
 pub mod Example
+pub mod HeldExample
 pub mod CleanExample
 pub mod Runs
 pub mod CleanSends

@@ -6,4 +6,5 @@ pub mod Capped
 pub mod Clean
 pub mod Lenient
 pub mod Example
+pub mod HeldExample
 pub mod CleanExample
