@@ -76,6 +76,12 @@ static void held_transfer(void)
         must(buffer[i] == i + 1, "the bytes of a held transfer");
 }
 
+static void untouched(void)
+{
+    for (size_t i = 0; i < sizeof buffer; i++)
+        must(buffer[i] == 0xAA, "the buffer while held");
+}
+
 /* What is heard while held: information frames of every number draw nothing and leave the buffer; short messages, refused
  * frames and an LM_NACK do as ever. */
 static void heard_while_held(void)
@@ -90,13 +96,13 @@ static void heard_while_held(void)
         const kospelna_receiver_answer b = hears(held, ignored[i]);
         must(b.outcome == KOSPELNA_QUIET && !b.emits && same_receiver(b.next, held), "an information frame while held");
     }
-    for (size_t i = 0; i < sizeof buffer; i++)
-        must(buffer[i] == 0xAA, "the buffer while held");
+    untouched();
     kospelna_receiver_answer b = hears(held, sm_rm);
     must(b.outcome == KOSPELNA_DELIVERED_SHORT && goes_out(b.emits, b.frame, sm_ack) && same_receiver(b.next, held),
          "a short message while held");
     must(kospelna_receiver_hear(held, three, buffer, sizeof buffer - 1).refusal == KOSPELNA_REFUSAL_BUFFER
-             && hears(held, dirty).refusal == KOSPELNA_REFUSAL_FRAME && hears(held, sm_ack).refusal == KOSPELNA_REFUSAL_OTHER_END,
+             && hears(held, dirty).refusal == KOSPELNA_REFUSAL_FRAME
+             && hears(held, sm_ack).refusal == KOSPELNA_REFUSAL_OTHER_END,
          "a refusal while held");
     b = hears(held, nack(KOSPELNA_NACK_SENDING_TIME));
     must(receiver_failed(b, KOSPELNA_CAUSE_NACK_HEARD) && !b.emits && !b.next.held, "a NACK while held");
@@ -135,7 +141,8 @@ static void held_too_long(void)
     must(same_receiver(held, due), "the receiver after its last timeout while held");
     held = kospelna_receiver_tick(kospelna_receiver_tick(held).next).next;
     const kospelna_receiver_answer b = kospelna_receiver_tick(held);
-    must(receiver_failed(b, KOSPELNA_CAUSE_TIMEOUTS) && goes_out(b.emits, b.frame, nack(KOSPELNA_NACK_TIMEOUTS)),
+    must(receiver_failed(b, KOSPELNA_CAUSE_TIMEOUTS) && goes_out(b.emits, b.frame, nack(KOSPELNA_NACK_TIMEOUTS))
+             && same_receiver(b.next, kospelna_receiver_make(3, 2, 20).receiver),
          "a timeout too many while held");
 }
 
@@ -159,7 +166,7 @@ static void sender_held(kospelna_sender s)
     must(same_sender(kospelna_sender_hear(s, ack(0, 1)).next, s), "an LM_ACK of start 0");
 }
 
-/* In Sending and in Waiting; then the frame goes out at G, and the LM_ACK of a resume, the last start again, keeps misses. */
+/* In Sending and in Waiting; then the frame goes out at G, and a resume's LM_ACK, the last start again, keeps misses. */
 static void sender_holds(void)
 {
     const uint8_t twenty[20] = {1, 2, 3, 4, 5, 6, 7, 8, 9, 10, 11, 12, 13, 14, 15, 16, 17, 18, 19, 20};
