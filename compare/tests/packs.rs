@@ -14,8 +14,8 @@ use compare::packs::shrink::shrink;
 use compare::reference::frame;
 use compare::reference::line::{Bench, Call, List, Outcome};
 use compare::reference::player::{play, play_with};
-use compare::reference::receiver::State;
-use compare::reference::sender::Report;
+use compare::reference::receiver::{Receiver, State};
+use compare::reference::sender::{Phase, Report, Sender};
 use compare::reference::{receiver, sender};
 
 const SEED: u64 = 1;
@@ -171,6 +171,64 @@ fn forgets_misses(bench: &mut Bench, call: Call, message: &[u8], buffer: &mut [u
         open.misses = open.misses.min(1);
     }
     outcome
+}
+
+/// The sender without document 02's E2: an LM_ACK for the frame before the last start is ignored.
+fn rule_left_out(bench: &mut Bench, call: Call, message: &[u8], buffer: &mut [u8]) -> Outcome {
+    let (sender, first) = (bench.sender.clone(), bench.back.repeat());
+    let outcome = right(bench, call, message, buffer);
+    let windowed = matches!(sender.phase, Phase::Sending { .. } | Phase::Waiting { .. });
+    let before = sender.start.map_or(0, |start| start.saturating_sub(1));
+    let asked = before > 0 && first == Some(frame::lm_ack(before, 1));
+    if gives_back(call) && windowed && asked {
+        bench.sender = sender;
+    }
+    outcome
+}
+
+/// A run has no hold, so no pack shows whether the sender has E2's rule.
+#[test]
+fn packs_do_not_meet_the_rule_of_a_hold() {
+    let player = |pack: &[u8]| Ok(play_with(pack, |b, c, m, f| Ok(rule_left_out(b, c, m, f))));
+    let difference = first_difference(&player, SEED, COUNT, &mut Tally::new()).unwrap();
+    assert!(difference.is_none(), "{}", difference.unwrap());
+    let fault = first_fault(&player, SEED, 300).unwrap();
+    assert!(fault.is_none(), "{}", fault.unwrap());
+}
+
+/// A list of calls with a hold does: N 2 and C 1, held when LM_ACK 2, 1 has been heard. What the last
+/// tick emits is frame 1 with the rule, and frame 2 without it.
+#[test]
+fn a_hold_meets_its_rule() {
+    let message = [7; 9];
+    let last_tick = |step: Step| {
+        let sender = Sender::make(1, 10, 100).unwrap();
+        let receiver = Receiver::make(10, 1, 1785).unwrap();
+        let mut bench = Bench::new(sender, receiver);
+        let mut outcome = Outcome::Nothing;
+        for call in [
+            Call::Begin,
+            Call::ForwardHear,
+            Call::BackHear,
+            Call::SenderTick,
+            Call::ForwardHear,
+            Call::BackHear,
+            Call::Hold,
+            Call::BackHear,
+            Call::SenderTick,
+        ] {
+            outcome = step(&mut bench, call, &message, &mut [0; 1785]);
+        }
+        outcome
+    };
+    let emits = |i: u8| {
+        Outcome::Sender(sender::Answer {
+            frame: Some(frame::information(i, &message)),
+            report: None,
+        })
+    };
+    assert_eq!(last_tick(right), emits(1));
+    assert_eq!(last_tick(rule_left_out), emits(2));
 }
 
 #[test]

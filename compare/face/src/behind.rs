@@ -67,6 +67,14 @@ mod called {
             Reference.receiver_tick(receiver)
         }
 
+        fn kospelna_receiver_hold(receiver: FlatReceiver) -> FlatReceiverAnswer {
+            Reference.receiver_hold(receiver)
+        }
+
+        fn kospelna_receiver_resume(receiver: FlatReceiver) -> FlatReceiverAnswer {
+            Reference.receiver_resume(receiver)
+        }
+
         fn kospelna_receiver_hear(
             receiver: FlatReceiver,
             frame: FlatFrame,

@@ -5,6 +5,7 @@ use std::sync::OnceLock;
 
 use compare::packs::random::Random;
 
+use crate::holding::Met;
 use crate::interface::Face;
 use crate::values::*;
 
@@ -51,6 +52,8 @@ pub enum Call {
     /// Timeout T, window C, capacity K.
     ReceiverMake([u16; 3]),
     ReceiverTick(FlatReceiver),
+    ReceiverHold(FlatReceiver),
+    ReceiverResume(FlatReceiver),
     /// With the length of the lent buffer.
     ReceiverHear(FlatReceiver, FlatFrame, usize),
     /// Length and gap.
@@ -113,6 +116,8 @@ pub fn answer(face: &impl Face, call: &Call, buffer: &mut [u8]) -> Answer {
             Answer::ReceiverMade(face.receiver_make(*timeout, *window, *capacity))
         }
         Call::ReceiverTick(end) => Answer::Receiver(face.receiver_tick(*end)),
+        Call::ReceiverHold(end) => Answer::Receiver(face.receiver_hold(*end)),
+        Call::ReceiverResume(end) => Answer::Receiver(face.receiver_resume(*end)),
         Call::ReceiverHear(end, frame, lent) => {
             Answer::Receiver(face.receiver_hear(*end, *frame, &mut buffer[..*lent]))
         }
@@ -153,7 +158,7 @@ fn answer_around(face: &impl Face, call: &Call) -> Answer {
 }
 
 /// The names of the functions, in the order of `Call`'s cases.
-pub const NAMES: [&str; 28] = [
+pub const NAMES: [&str; 30] = [
     "sender_make",
     "sender_begin",
     "sender_post",
@@ -161,6 +166,8 @@ pub const NAMES: [&str; 28] = [
     "sender_hear",
     "receiver_make",
     "receiver_tick",
+    "receiver_hold",
+    "receiver_resume",
     "receiver_hear",
     "clean_figures_of",
     "identifier_join",
@@ -195,27 +202,29 @@ impl Call {
             Call::SenderHear(..) => 4,
             Call::ReceiverMake(_) => 5,
             Call::ReceiverTick(_) => 6,
-            Call::ReceiverHear(..) => 7,
-            Call::CleanFigures(..) => 8,
-            Call::Join(_) => 9,
-            Call::Split(_) => 10,
-            Call::ChargerAddress => 11,
-            Call::VehicleAddress => 12,
-            Call::ChargerVersion => 13,
-            Call::VehicleVersion => 14,
-            Call::List(_) => 15,
-            Call::MessageWrite(_) => 16,
-            Call::MessageRead(_) => 17,
-            Call::TalkerMake(..) => 18,
-            Call::TalkerConnect(_) => 19,
-            Call::TalkerTick(_) => 20,
-            Call::TalkerHear(..) => 21,
-            Call::TalkerStop(_) => 22,
-            Call::TalkerGreet(_) => 23,
-            Call::TalkerFunctionsHeard(_) => 24,
-            Call::GroupRead(_) => 25,
-            Call::GroupWrite(..) => 26,
-            Call::GroupFind(_) => 27,
+            Call::ReceiverHold(_) => 7,
+            Call::ReceiverResume(_) => 8,
+            Call::ReceiverHear(..) => 9,
+            Call::CleanFigures(..) => 10,
+            Call::Join(_) => 11,
+            Call::Split(_) => 12,
+            Call::ChargerAddress => 13,
+            Call::VehicleAddress => 14,
+            Call::ChargerVersion => 15,
+            Call::VehicleVersion => 16,
+            Call::List(_) => 17,
+            Call::MessageWrite(_) => 18,
+            Call::MessageRead(_) => 19,
+            Call::TalkerMake(..) => 20,
+            Call::TalkerConnect(_) => 21,
+            Call::TalkerTick(_) => 22,
+            Call::TalkerHear(..) => 23,
+            Call::TalkerStop(_) => 24,
+            Call::TalkerGreet(_) => 25,
+            Call::TalkerFunctionsHeard(_) => 26,
+            Call::GroupRead(_) => 27,
+            Call::GroupWrite(..) => 28,
+            Call::GroupFind(_) => 29,
         }
     }
 
@@ -260,12 +269,14 @@ pub struct Pair<'a, L, R> {
 /// The outcomes of the ends and of talkers: 0 to 7.
 pub const OUTCOMES: usize = 8;
 
-/// Calls by function, and answers by function and outcome.
+/// Calls by function, answers by function and outcome, and what was met of a hold.
 #[derive(Clone, Debug, Default)]
 pub struct Tally {
     pub calls: [u64; NAMES.len()],
     /// At each function: outcome 0 to 7; where it answers none, 1 is refused.
     pub outcomes: [[u64; OUTCOMES]; NAMES.len()],
+    /// In the order of `Met`.
+    pub met: [u64; Met::ALL.len()],
 }
 
 impl Tally {
@@ -273,9 +284,13 @@ impl Tally {
         self.calls.iter().sum()
     }
 
-    fn add(&mut self, place: usize, answer: &Answer) {
+    fn add(&mut self, call: &Call, answer: &Answer) {
+        let place = call.place();
         self.calls[place] += 1;
         self.outcomes[place][usize::from(outcome(answer)).min(OUTCOMES - 1)] += 1;
+        if let Some(met) = Met::by(call, answer) {
+            self.met[met as usize] += 1;
+        }
     }
 }
 
@@ -322,7 +337,7 @@ impl<'a, L: Face, R: Face> Pair<'a, L, R> {
         let [ours, theirs] = &mut self.buffers;
         let left = answer(self.left, &call, ours);
         let right = answer(self.right, &call, theirs);
-        self.tally.add(call.place(), &right);
+        self.tally.add(&call, &right);
         let written = matches!(call, Call::ReceiverHear(..)) && ours != theirs;
         if left == right && !written {
             return Ok(left);

@@ -80,6 +80,18 @@ impl Ends for Reference {
         receiver_answer(&end, Ok(answer))
     }
 
+    fn receiver_hold(&self, receiver: FlatReceiver) -> FlatReceiverAnswer {
+        let mut end = receiver_of(receiver);
+        let answer = end.hold();
+        receiver_answer(&end, answer)
+    }
+
+    fn receiver_resume(&self, receiver: FlatReceiver) -> FlatReceiverAnswer {
+        let mut end = receiver_of(receiver);
+        let answer = end.resume();
+        receiver_answer(&end, answer)
+    }
+
     fn receiver_hear(
         &self,
         receiver: FlatReceiver,
@@ -242,6 +254,8 @@ pub fn receiver_of(flat: FlatReceiver) -> Receiver {
             w: flat.last,
             wait: flat.wait,
             misses: flat.misses,
+            held: flat.held,
+            holds: flat.holds,
         }),
         _ => State::Idle { delivered: None },
     };
@@ -278,6 +292,8 @@ pub fn flat_receiver(end: &Receiver) -> FlatReceiver {
             last: open.w,
             wait: open.wait,
             misses: open.misses,
+            held: open.held,
+            holds: open.holds,
             ..settings
         },
     }

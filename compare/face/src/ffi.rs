@@ -27,6 +27,8 @@ mod linked {
         pub fn kospelna_receiver_make(timeout: u16, window: u16, capacity: u16)
             -> FlatReceiverMade;
         pub fn kospelna_receiver_tick(receiver: FlatReceiver) -> FlatReceiverAnswer;
+        pub fn kospelna_receiver_hold(receiver: FlatReceiver) -> FlatReceiverAnswer;
+        pub fn kospelna_receiver_resume(receiver: FlatReceiver) -> FlatReceiverAnswer;
         pub fn kospelna_receiver_hear(
             receiver: FlatReceiver,
             frame: FlatFrame,

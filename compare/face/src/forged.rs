@@ -1,12 +1,13 @@
 //! Single calls of the ends and of talkers on forged states: states that a caller can build and calls need not lead to.
 //!
-//! Fields are drawn freely, those that a phase has not included, but only as far as document 01 speaks of them. Beyond it
+//! Fields are drawn freely, those that a phase has not included, but only as far as the documents speak of them. Beyond that
 //! the face and the reference read "= M", "at T" and the like each in its own way (`compare/NOTES.md`, 13;
 //! `docs/DECISIONS.md`, "States that no calls make"), so these hold of every forged state:
 //! - the counts are below their limits: age < M, wait < T, gap count < G, misses < 3; a talker's period < 50, age < 15000;
+//! - a held receiver has had at most its 20 held timeouts;
 //! - N is that of L at the sender, which is 1785 at most (the reference counts N from L), 1 in Short;
 //! - the gap is 1 to 255 and the window 1 to 255 (bytes in the reference, and no end has 0);
-//! - at a receiver's tick the number expected is 1 to N (w − e + 1 is below 0 otherwise);
+//! - at a receiver's tick and resume the number expected is 1 to N (w − e + 1 is below 0 otherwise);
 //! - a talker's timers stand as its state has them; its versions are below 2^24; and where the version at its place is not
 //!   in its list, it hears no continue with that version (the reference keeps it after the list, and finds it there).
 
@@ -22,7 +23,7 @@ use crate::values::*;
 /// A call of an end in a forged state.
 pub fn end_call(random: &mut Random) -> Call {
     let (sender, receiver) = (sender(random), receiver(random));
-    match random.weighted(&[8, 6, 36, 20, 10, 20]) {
+    match random.weighted(&[8, 6, 32, 22, 12, 6, 6, 22]) {
         0 => Call::SenderBegin(sender, any_part(random, sender.length)),
         1 => {
             let length = random.between(0, 10);
@@ -30,11 +31,9 @@ pub fn end_call(random: &mut Random) -> Call {
         }
         2 => Call::SenderTick(sender, any_part(random, sender.length)),
         3 => Call::SenderHear(sender, frames::any(random, &sender, &receiver)),
-        4 => Call::ReceiverTick(FlatReceiver {
-            expected: random.between(1, receiver.frames.max(1).into()) as u8,
-            frames: receiver.frames.max(1),
-            ..receiver
-        }),
+        4 => Call::ReceiverTick(expecting(random, receiver)),
+        5 => Call::ReceiverHold(receiver),
+        6 => Call::ReceiverResume(expecting(random, receiver)),
         _ => {
             let lent = match random.percent(96) {
                 true => 1785,
@@ -155,6 +154,7 @@ fn receiver(random: &mut Random) -> FlatReceiver {
         true => random.between(1, frames.max(1).into()) as u8,
         false => random.byte(),
     };
+    let held = random.percent(40);
     FlatReceiver {
         timeout,
         window: random.between(1, 255) as u16,
@@ -166,6 +166,22 @@ fn receiver(random: &mut Random) -> FlatReceiver {
         last: random.pick(&[expected, frames, 0, 255]),
         wait: below(random, timeout),
         misses: random.between(0, 2) as u16,
+        held,
+        holds: match (random.percent(50), held) {
+            (true, _) => random.pick(&[0, 19, 20]),
+            (false, true) => random.between(0, 20) as u16,
+            (false, false) => random.between(0, 65535) as u16,
+        },
+    }
+}
+
+/// The same with a number expected that the message has.
+fn expecting(random: &mut Random, receiver: FlatReceiver) -> FlatReceiver {
+    let frames = receiver.frames.max(1);
+    FlatReceiver {
+        expected: random.between(1, frames.into()) as u8,
+        frames,
+        ..receiver
     }
 }
 

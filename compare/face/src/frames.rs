@@ -17,10 +17,7 @@ pub fn any(random: &mut Random, sender: &FlatSender, receiver: &FlatReceiver) ->
     let mut bytes = [0xFF; 8];
     match kind {
         1 => information(random, &mut bytes, sender, receiver),
-        2 => {
-            bytes[0] = near(random, &[0, 1, sender.start, sender.last, sender.frames]);
-            bytes[1] = near(random, &[0, 1, 2, 255, sender.frames]);
-        }
+        2 => bytes[..2].copy_from_slice(&asked(random, sender)),
         3 => bytes[0] = random.byte(),
         4 => {
             let [n, low, high] = size(random, sender, receiver);
@@ -35,6 +32,19 @@ pub fn any(random: &mut Random, sender: &FlatSender, receiver: &FlatReceiver) ->
     FlatFrame { kind, bytes }
 }
 
+/// Start and count of an LM_ACK; at times as a held receiver asks, for the frame before the last start.
+fn asked(random: &mut Random, sender: &FlatSender) -> [u8; 2] {
+    let before = sender.start.wrapping_sub(1);
+    let starts = [0, 1, before, sender.start, sender.last, sender.frames];
+    match random.percent(20) {
+        true => [before, 1],
+        false => [
+            near(random, &starts),
+            near(random, &[0, 1, 2, 255, sender.frames]),
+        ],
+    }
+}
+
 fn information(
     random: &mut Random,
     bytes: &mut [u8; 8],
@@ -43,7 +53,11 @@ fn information(
 ) {
     let number = match random.percent(25) {
         true => 0,
-        false => near(random, &[receiver.expected, receiver.last, receiver.frames]),
+        false => {
+            let above = receiver.frames.wrapping_add(1);
+            let ends = [receiver.expected, receiver.last, receiver.frames, above];
+            near(random, &ends)
+        }
     };
     if number == 0 {
         let [n, low, high] = size(random, sender, receiver);

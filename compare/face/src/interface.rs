@@ -12,6 +12,8 @@ pub trait Ends {
     fn sender_hear(&self, sender: FlatSender, frame: FlatFrame) -> FlatSenderAnswer;
     fn receiver_make(&self, timeout: u16, window: u16, capacity: u16) -> FlatReceiverMade;
     fn receiver_tick(&self, receiver: FlatReceiver) -> FlatReceiverAnswer;
+    fn receiver_hold(&self, receiver: FlatReceiver) -> FlatReceiverAnswer;
+    fn receiver_resume(&self, receiver: FlatReceiver) -> FlatReceiverAnswer;
     fn receiver_hear(
         &self,
         receiver: FlatReceiver,
@@ -88,6 +90,16 @@ macro_rules! through {
             #[inline]
             fn receiver_tick(&self, receiver: FlatReceiver) -> FlatReceiverAnswer {
                 unsafe { $module::kospelna_receiver_tick(receiver) }
+            }
+
+            #[inline]
+            fn receiver_hold(&self, receiver: FlatReceiver) -> FlatReceiverAnswer {
+                unsafe { $module::kospelna_receiver_hold(receiver) }
+            }
+
+            #[inline]
+            fn receiver_resume(&self, receiver: FlatReceiver) -> FlatReceiverAnswer {
+                unsafe { $module::kospelna_receiver_resume(receiver) }
             }
 
             #[inline]

@@ -9,6 +9,7 @@ pub mod ends;
 pub mod forged;
 pub mod frames;
 mod groups;
+pub mod holding;
 pub mod interface;
 pub mod lists;
 pub mod session;

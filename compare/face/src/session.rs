@@ -21,6 +21,8 @@ pub enum Step {
     Post(usize),
     SenderTick(usize),
     ReceiverTick,
+    Hold,
+    Resume,
     /// With the length of the lent buffer.
     Forward(Way, usize),
     Back(Way),
@@ -114,6 +116,8 @@ impl World {
             Step::Post(which) => Call::SenderPost(self.sender, messages[which]),
             Step::SenderTick(which) => Call::SenderTick(self.sender, messages[which]),
             Step::ReceiverTick => Call::ReceiverTick(self.receiver),
+            Step::Hold => Call::ReceiverHold(self.receiver),
+            Step::Resume => Call::ReceiverResume(self.receiver),
             Step::Forward(way, lent) => {
                 let frame = given(&mut self.forward, way)?;
                 Call::ReceiverHear(self.receiver, frame, lent)

@@ -21,37 +21,47 @@ const SHORT: usize = 4;
 /// How a session's steps are drawn: so many times in a hundred the one that brings the transfer forward, else by weights:
 /// 0 sender tick, 1 receiver tick, 2 to 4 forward hear, lose, repeat, 5 to 7 back hear, lose, repeat, 8 begin, 9 post,
 /// 10 a tick lent another message, 11 a hearing lent another buffer, 12, 13 the sender, the receiver hears a frame from
-/// elsewhere.
+/// elsewhere, 14 hold, 15 resume.
 struct Manner {
     forward: usize,
-    weights: [usize; 14],
+    weights: [usize; 16],
 }
 
-const MANNERS: [Manner; 5] = [
+const MANNERS: [Manner; 7] = [
     // Mostly forward.
     Manner {
         forward: 97,
-        weights: [4, 4, 2, 1, 1, 2, 1, 1, 1, 1, 1, 1, 1, 1],
+        weights: [4, 4, 2, 1, 1, 2, 1, 1, 1, 1, 1, 1, 1, 1, 1, 1],
     },
     // Lossy.
     Manner {
         forward: 75,
-        weights: [8, 8, 2, 6, 6, 2, 6, 6, 1, 1, 1, 1, 0, 0],
+        weights: [8, 8, 2, 6, 6, 2, 6, 6, 1, 1, 1, 1, 0, 0, 2, 1],
     },
     // Quiet: timeouts.
     Manner {
         forward: 20,
-        weights: [30, 30, 2, 2, 1, 2, 2, 1, 1, 1, 1, 1, 1, 1],
+        weights: [30, 30, 2, 2, 1, 2, 2, 1, 1, 1, 1, 1, 1, 1, 1, 1],
     },
     // Repeats.
     Manner {
         forward: 55,
-        weights: [6, 4, 1, 0, 12, 1, 0, 12, 1, 0, 0, 0, 0, 0],
+        weights: [6, 4, 1, 0, 12, 1, 0, 12, 1, 0, 0, 0, 0, 0, 1, 1],
     },
     // Odd calls and frames.
     Manner {
         forward: 60,
-        weights: [4, 4, 1, 1, 1, 1, 1, 1, 2, 3, 3, 3, 8, 8],
+        weights: [4, 4, 1, 1, 1, 1, 1, 1, 2, 3, 3, 3, 8, 8, 2, 1],
+    },
+    // Held and resumed.
+    Manner {
+        forward: 75,
+        weights: [3, 8, 1, 2, 2, 1, 2, 2, 1, 1, 0, 1, 3, 16, 12, 4],
+    },
+    // Held for long: the receiver's time passes.
+    Manner {
+        forward: 50,
+        weights: [2, 80, 1, 1, 1, 1, 1, 1, 0, 0, 0, 0, 0, 3, 12, 1],
     },
 ];
 
@@ -149,7 +159,7 @@ fn draw_steps<L: Face, R: Face>(
     let Some(mut world) = World::start(session, pair)? else {
         return Ok(());
     };
-    let manner = &MANNERS[random.weighted(&[30, 25, 15, 15, 15])];
+    let manner = &MANNERS[random.weighted(&[25, 20, 12, 12, 11, 10, 10])];
     let needed = 4 * session.messages[FIRST].length.div_ceil(7);
     let count = random.between(20, 60 + 2 * needed);
     let mut begun = FIRST;
@@ -186,6 +196,8 @@ fn draw(random: &mut Random, manner: &Manner, world: &World, begun: usize) -> St
             Step::Forward(way, wrong_buffer(random))
         }
         12 => Step::SenderHears(frames::any(random, &world.sender, &world.receiver)),
+        14 => Step::Hold,
+        15 => Step::Resume,
         _ => {
             let frame = frames::any(random, &world.sender, &world.receiver);
             let lent = match random.percent(90) {
@@ -201,12 +213,18 @@ pub fn wrong_buffer(random: &mut Random) -> usize {
     random.pick(&[0, 1, 7, 8, 9, 14, 15, 1784, 1786, 2048])
 }
 
-/// What brings the transfer forward: frames on the line are heard; with none there the sender begins or ticks.
+/// What brings the transfer forward: frames on the line are heard; with none there a held receiver has its time and
+/// resumes in the end, and the sender begins or ticks.
 fn onward(random: &mut Random, world: &World, begun: usize) -> Step {
     if !world.back.is_empty() {
         Step::Back(Way::Hear)
     } else if !world.forward.is_empty() {
         Step::Forward(Way::Hear, BUFFER)
+    } else if world.receiver.held && random.percent(60) {
+        match random.percent(12) {
+            true => Step::Resume,
+            false => Step::ReceiverTick,
+        }
     } else if world.sender.phase != 0 {
         Step::SenderTick(begun)
     } else {

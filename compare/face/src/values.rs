@@ -67,6 +67,8 @@ pub struct FlatReceiver {
     pub last: u8,
     pub wait: u16,
     pub misses: u16,
+    pub held: bool,
+    pub holds: u16,
 }
 
 #[repr(C)]

@@ -47,6 +47,8 @@ fn receiver(frames: u8, expected: u8) -> FlatReceiver {
         last: 2,
         wait: 4,
         misses: 0,
+        held: false,
+        holds: 0,
     }
 }
 
@@ -90,6 +92,12 @@ fn counts_past_their_limits() {
         ..receiver(3, 1)
     };
     differs(Call::ReceiverTick(third));
+    let held = FlatReceiver {
+        held: true,
+        holds: 21,
+        ..receiver(3, 2)
+    };
+    differs(Call::ReceiverTick(held));
 }
 
 /// The reference counts N from L.
@@ -107,6 +115,11 @@ fn another_n() {
 fn a_window_below_the_frame_expected() {
     differs(Call::ReceiverTick(receiver(3, 0)));
     differs(Call::ReceiverTick(receiver(3, 5)));
+    let held = FlatReceiver {
+        held: true,
+        ..receiver(3, 5)
+    };
+    differs(Call::ReceiverResume(held));
     let none = FlatReceiver {
         window: 0,
         ..receiver(3, 1)

@@ -6,6 +6,8 @@ use compare::packs::random::Random;
 use face::broken::{mistakes, Broken, Mistake};
 use face::call::{Call, Pair, NAMES, OUTCOMES};
 use face::differences::{first_difference, Case, Difference};
+use face::forged;
+use face::holding::Met;
 use face::sessions;
 use face::values::{FlatFrame, FlatSender, FlatSenderAnswer};
 use face::Reference;
@@ -33,7 +35,7 @@ fn the_reference_is_alike_with_itself() {
     assert_eq!(uncalled, Vec::<&str>::new());
 }
 
-/// Every outcome that a function can have comes, and often enough.
+/// Every outcome that a function can have comes, and often enough; so does all that can be met of a hold.
 #[test]
 fn every_outcome_comes() {
     let (tally, _) = first_difference(&Reference, &Reference, SEED, COUNT);
@@ -50,6 +52,8 @@ fn every_outcome_comes() {
     come("sender_tick", &[0, 1, 3]);
     come("sender_hear", &[0, 1, 3, 5]);
     come("receiver_tick", &[0, 3]);
+    come("receiver_hold", &[0, 1]);
+    come("receiver_resume", &[0, 1]);
     come("receiver_hear", &[0, 1, 2, 3, 4]);
     come("talker_connect", &[0]);
     come("talker_tick", &[0, 3]);
@@ -71,6 +75,8 @@ fn every_outcome_comes() {
     ] {
         come(name, &[0, 1]);
     }
+    let unmet = Met::ALL.iter().find(|&&met| tally.met[met as usize] < 100);
+    assert_eq!(unmet, None);
 }
 
 #[test]
@@ -114,6 +120,29 @@ fn transfers_go_through() {
     let sent = SENT.each_ref().map(|sent| sent.load(Ordering::Relaxed));
     println!("sent: {sent:?} of {} calls", pair.tally.total());
     assert!(sent[0] > 5000 && sent[1] > 2000 && sent[2] > 20, "{sent:?}");
+}
+
+/// What can be met of a hold is met by sessions alone, and by forged states alone.
+#[test]
+fn holds_come_about() {
+    let mut sessions = Pair::new(&Reference, &Reference);
+    for seed in 0..5000 {
+        let (_, played) = sessions::run(&mut Random::new(seed), &mut sessions);
+        assert!(played.is_ok());
+    }
+    let mut forged = Pair::new(&Reference, &Reference);
+    let mut random = Random::new(SEED);
+    for _ in 0..100_000 {
+        let call = forged::end_call(&mut random);
+        assert!(forged.compare(call).is_ok());
+    }
+    let mut rare = Vec::new();
+    for met in Met::ALL {
+        let times = [&sessions, &forged].map(|pair| pair.tally.met[met as usize]);
+        println!("{met:?}: {times:?}");
+        rare.extend(times.iter().any(|&times| times < 50).then_some(met));
+    }
+    assert_eq!(rare, Vec::<Met>::new());
 }
 
 /// The seed that is named shows the difference at once.

@@ -104,7 +104,7 @@ fn declared_by_the_crate() -> (Structs, Functions) {
 #[test]
 fn declarations_are_those_of_the_crate() {
     let (structs_there, functions_there) = declared_by_the_crate();
-    assert_eq!((structs_there.len(), functions_there.len()), (25, 28));
+    assert_eq!((structs_there.len(), functions_there.len()), (25, 30));
     let here = text("src", "rs");
     assert_eq!(structs(&here), structs_there);
     let block = after(&here, "extern \"C\" {", '}')[0];
@@ -223,6 +223,11 @@ fn another_header_is_found() {
     let header = header();
     for (old, new) in [
         ("uint8_t due;", "uint8_t next;"),
+        ("    bool held; ", "    uint8_t held; "),
+        (
+            "kospelna_receiver_hold(kospelna_receiver receiver);",
+            "kospelna_receiver_hold(kospelna_receiver_answer receiver);",
+        ),
         ("uint16_t ticks;", "uint32_t ticks;"),
         ("    uint8_t p", "    uint8_t q"),
         (

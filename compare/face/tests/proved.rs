@@ -28,6 +28,7 @@ fn the_program() {
     assert_eq!(status, Some(0), "{text}");
     assert!(text.contains("calls from seed 7 alike"));
     assert!(text.contains("calls: kospelna_receiver_hear "));
+    assert!(text.contains("calls: of a hold: HeldTimeout "));
 
     let (status, text) = calls(&["--mistake", "filler copied past L"]);
     assert_eq!(status, Some(1));

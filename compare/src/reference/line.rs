@@ -60,7 +60,7 @@ impl List {
     }
 }
 
-/// What can be done on the bench: demand 3's calls.
+/// What can be done on the bench: demand 3's calls, hold and resume among them (document 02, E2).
 #[derive(Clone, Copy, Debug, PartialEq, Eq)]
 pub enum Call {
     Begin,
@@ -72,6 +72,8 @@ pub enum Call {
     BackHear,
     BackLose,
     BackRepeat,
+    Hold,
+    Resume,
 }
 
 /// What a call on the bench gave, by the end that gave it.
@@ -162,6 +164,14 @@ impl Bench {
             Call::BackRepeat => {
                 let given = self.back.repeat();
                 self.give_sender(given)
+            }
+            Call::Hold => {
+                let answer = self.receiver.hold()?;
+                Ok(self.join_back(answer))
+            }
+            Call::Resume => {
+                let answer = self.receiver.resume()?;
+                Ok(self.join_back(answer))
             }
         }
     }

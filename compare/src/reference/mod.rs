@@ -14,7 +14,7 @@ pub mod version;
 #[derive(Clone, Copy, Debug, PartialEq, Eq)]
 pub struct Refused(pub u8);
 
-/// The numbers of the table "Refusals, by place".
+/// The numbers of the table "Refusals, by place", and those that document 02 adds.
 pub mod refusal {
     use super::Refused;
 
@@ -43,4 +43,6 @@ pub mod refusal {
     pub const VERSIONS: Refused = Refused(11);
     /// A run pack that breaks a rule of its form.
     pub const PACK: Refused = Refused(12);
+    /// Document 02, E2: a hold of nothing that can be held, or a resume of nothing that is.
+    pub const HOLD: Refused = Refused(13);
 }

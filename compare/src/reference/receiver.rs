@@ -1,4 +1,4 @@
-//! Chapter "The receiver".
+//! Chapter "The receiver", and document 02, E2: holding a transfer.
 
 use super::frame::{self, Content, Frame};
 use super::{refusal, Refused};
@@ -27,7 +27,14 @@ pub struct Connection {
     pub w: u8,
     pub wait: u16,
     pub misses: u16,
+    /// The transfer is held.
+    pub held: bool,
+    /// Timeouts of this connection that fell while it was held.
+    pub holds: u16,
 }
+
+/// So many timeouts while held a connection has; one more closes it.
+pub const HELD_TIMEOUTS: u16 = 20;
 
 /// What the receiver tells its caller: a long message is in the buffer, a connection is lost, or
 /// these eight bytes came short.
@@ -92,18 +99,39 @@ impl Receiver {
             self.state = State::Open(open);
             return Answer::default();
         }
-        // A miss: the wait begins anew.
+        // A timeout: the wait begins anew.
         open.wait = 0;
-        open.misses = open.misses.saturating_add(1);
-        // The third in a row closes the connection.
-        if open.misses == 3 {
-            let nack = frame::lm_nack(frame::CAUSE_TIMEOUTS);
-            return self.fail(frame::CAUSE_TIMEOUTS, Some(nack));
+        if open.held {
+            self.time_out_held(open)
+        } else {
+            self.miss(open)
         }
-        // The first two ask for a whole window from the frame expected on, or for what is left.
-        open.w = self.window_end(open.e, open.n);
-        self.state = State::Open(open);
-        Answer::frame(ask(&open))
+    }
+
+    /// Holds the transfer. Refusal 13 without a connection, before its first frame, and while held. Only
+    /// the mark is set: wait, misses, window and count go on from where they are.
+    pub fn hold(&mut self) -> Result<Answer, Refused> {
+        match &mut self.state {
+            State::Open(open) if open.e >= 2 && !open.held => {
+                open.held = true;
+                Ok(Answer::frame(pause(open)))
+            }
+            _ => Err(refusal::HOLD),
+        }
+    }
+
+    /// Goes on with a held transfer: a whole window from the frame expected on is asked for, as at a
+    /// miss. Refusal 13 where none is held. Wait, misses and count stay.
+    pub fn resume(&mut self) -> Result<Answer, Refused> {
+        match self.state {
+            State::Open(mut open) if open.held => {
+                open.held = false;
+                open.w = self.window_end(open.e, open.n);
+                self.state = State::Open(open);
+                Ok(Answer::frame(ask(&open)))
+            }
+            _ => Err(refusal::HOLD),
+        }
     }
 
     /// "hearing: 5 buffer not 1785 (receiver); 6 ...; 7 kind for the other end (... receiver 1, 3,
@@ -114,6 +142,10 @@ impl Receiver {
         }
         let content = frame::read(heard)?;
         match content {
+            // Nothing of kind 1 reaches a held transfer: neither number 0 nor one above N.
+            Content::Announcement { .. } | Content::Information { .. } if self.held() => {
+                Ok(Answer::default())
+            }
             Content::Announcement { n, l } => Ok(self.hear_announcement(n, l)),
             Content::Information { i, bytes } => Ok(self.hear_information(i, bytes, buffer)),
             Content::LmNack { .. } => Ok(match self.state {
@@ -159,6 +191,8 @@ impl Receiver {
                     w,
                     wait: 0,
                     misses: 0,
+                    held: false,
+                    holds: 0,
                 });
                 Answer::frame(frame::lm_ack(1, w))
             }
@@ -230,10 +264,44 @@ impl Receiver {
         Answer::default()
     }
 
+    /// A timeout while no hold stands.
+    fn miss(&mut self, mut open: Connection) -> Answer {
+        open.misses = open.misses.saturating_add(1);
+        // The third in a row closes the connection.
+        if open.misses == 3 {
+            return self.give_up();
+        }
+        // The first two ask for a whole window from the frame expected on, or for what is left.
+        open.w = self.window_end(open.e, open.n);
+        self.state = State::Open(open);
+        Answer::frame(ask(&open))
+    }
+
+    /// A timeout while held: no miss, and the window stays. The one that the connection no longer has
+    /// closes it.
+    fn time_out_held(&mut self, mut open: Connection) -> Answer {
+        if open.holds == HELD_TIMEOUTS {
+            return self.give_up();
+        }
+        open.holds = open.holds.saturating_add(1);
+        self.state = State::Open(open);
+        Answer::frame(pause(&open))
+    }
+
+    fn held(&self) -> bool {
+        matches!(self.state, State::Open(open) if open.held)
+    }
+
     /// "the smaller of e + C - 1 and N"
     fn window_end(&self, e: u8, n: u8) -> u8 {
         let end = (u16::from(e) + u16::from(self.window)).saturating_sub(1);
         end.min(u16::from(n)) as u8
+    }
+
+    /// Too many timeouts.
+    fn give_up(&mut self) -> Answer {
+        let nack = frame::lm_nack(frame::CAUSE_TIMEOUTS);
+        self.fail(frame::CAUSE_TIMEOUTS, Some(nack))
     }
 
     /// "A failure forgets the last delivery."
@@ -244,6 +312,11 @@ impl Receiver {
             report: Some(Report::Failed { cause }),
         }
     }
+}
+
+/// What a held receiver says: the frame that it took last, once more.
+fn pause(open: &Connection) -> Frame {
+    frame::lm_ack(open.e.saturating_sub(1), 1)
 }
 
 /// "LM_ACK e, w - e + 1"

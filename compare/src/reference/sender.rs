@@ -1,4 +1,4 @@
-//! Chapter "The sender".
+//! Chapter "The sender", and document 02, E2: what a held receiver asks for.
 
 use super::frame::{self, Content, Frame};
 use super::{refusal, Refused};
@@ -230,14 +230,20 @@ impl Sender {
             // "Opening ignores s other than 1."
             Phase::Opening if s != 1 => return Answer::default(),
             Phase::Opening => {}
-            // Later a start may not go back behind the one taken last.
+            // A held receiver asks for the frame before the last start, and for it alone.
+            _ if c == 1 && self.start_back() == Some(s) => return self.send_again(s),
+            // Any other start may not go back behind the one taken last.
             _ => {
                 if self.start.is_some_and(|start| s < start) {
                     return Answer::default();
                 }
             }
         }
-        // The window begins at s and has c frames, or as many as the message has left.
+        self.take_window(s, c, n)
+    }
+
+    /// The window begins at s and has c frames, or as many as the message has left.
+    fn take_window(&mut self, s: u8, c: u8, n: u16) -> Answer {
         let last = (u16::from(s) + u16::from(c) - 1).min(n);
         self.phase = Phase::Sending {
             next: s,
@@ -249,6 +255,20 @@ impl Sender {
             self.misses = 0;
         }
         self.start = Some(s);
+        Answer::default()
+    }
+
+    /// The number before the last start taken.
+    fn start_back(&self) -> Option<u8> {
+        self.start.and_then(|start| start.checked_sub(1))
+    }
+
+    /// One frame before the last start goes out again. The last start stands, and the misses go: the
+    /// receiver is there.
+    fn send_again(&mut self, s: u8) -> Answer {
+        self.phase = Phase::Sending { next: s, last: s };
+        self.gap_count = 0;
+        self.misses = 0;
         Answer::default()
     }
 

@@ -110,10 +110,11 @@ impl Session {
         };
     }
 
-    /// A hearing; a loss or a repeat on an empty list; or a tick with nothing on the line, by turns.
+    /// A hearing; a loss or a repeat on an empty list; or a tick with nothing on the line, by turns. No
+    /// hold: E2 leaves those to itself.
     fn is_clean(&self, call: Call) -> bool {
         match call {
-            Call::Begin => false,
+            Call::Begin | Call::Hold | Call::Resume => false,
             Call::ForwardHear | Call::BackHear => true,
             Call::ForwardLose | Call::ForwardRepeat => self.bench.forward.is_empty(),
             Call::BackLose | Call::BackRepeat => self.bench.back.is_empty(),

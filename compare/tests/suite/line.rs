@@ -66,7 +66,7 @@ fn empty_line() {
     assert_eq!(bench, before);
 }
 
-/// A refused hearing leaves the ends and the buffer; its frame is off the line where it was heard,
+/// A refused call leaves the ends and the buffer. A hearing's frame is off the line where it was heard,
 /// and still there where it was repeated.
 #[test]
 fn refused_calls_on_the_line() {
@@ -88,6 +88,9 @@ fn refused_calls_on_the_line() {
         bench.call(Call::SenderTick, &message[1..], &mut lent),
         Err(Refused(4))
     );
+    for call in [Call::Hold, Call::Resume] {
+        assert_eq!(bench.call(call, &message, &mut lent), Err(Refused(13)));
+    }
     assert_eq!(bench, before);
     assert_eq!(
         bench.call(Call::ForwardHear, &message, &mut lent),

@@ -4,6 +4,7 @@ mod clean;
 mod edge_cases;
 mod frames;
 mod groups;
+mod hold;
 mod identifier;
 mod line;
 mod mistakes;

@@ -78,6 +78,8 @@ fn opening() {
             w,
             wait: 0,
             misses: 0,
+            held: false,
+            holds: 0,
         };
         assert_eq!(receiver.state, State::Open(open));
         // A failure leaves no last delivery behind.
@@ -142,6 +144,8 @@ fn one_frame() {
         w: 3,
         wait: 0,
         misses: 0,
+        held: false,
+        holds: 0,
     };
     assert_eq!(receiver.state, State::Open(open));
     assert_eq!(buffer[..7], message[..7]);
@@ -191,6 +195,8 @@ fn timeout_moves_the_window() {
         w: 4,
         wait: 0,
         misses: 1,
+        held: false,
+        holds: 0,
     };
     assert_eq!(receiver.state, State::Open(open));
     // 3 is no longer the window's end, 4 is.

@@ -172,7 +172,7 @@ fn receiver_hearing() {
         frame::sm_rm(&[1]),
         frame::sm_urm(&[1]),
     ];
-    for receiver in [open, idle, after] {
+    for receiver in [open, idle, after, held()] {
         let mut called = receiver.clone();
         // 5 goes before 6, 7 and everything else.
         for length in [0, 9, 1784, 1786] {
@@ -192,5 +192,44 @@ fn receiver_hearing() {
         }
         assert_eq!(called, receiver);
         assert_eq!(lent, buffer());
+    }
+}
+
+/// A held receiver.
+fn held() -> Receiver {
+    let (mut receiver, mut buffer) = opened(10, 2, 21);
+    let first = frame::information(1, &message(21));
+    receiver.hear(first, &mut buffer).unwrap();
+    receiver.hold().unwrap();
+    receiver
+}
+
+/// Refusal 13, document 02: which of hold and resume each state takes.
+#[test]
+fn hold_and_resume() {
+    let idle = Receiver::make(10, 2, 1785).unwrap();
+    let mut after = idle.clone();
+    after.state = State::Idle {
+        delivered: Some(Delivered { n: 3, l: 21 }),
+    };
+    let (first, _) = opened(10, 2, 21);
+    let mut second = held();
+    second.resume().unwrap();
+    for (receiver, takes_hold, takes_resume) in [
+        (idle, false, false),
+        (after, false, false),
+        (first, false, false),
+        (second, true, false),
+        (held(), false, true),
+    ] {
+        let (mut holding, mut resuming) = (receiver.clone(), receiver.clone());
+        let (hold, resume) = (holding.hold(), resuming.resume());
+        assert_eq!((hold.is_ok(), resume.is_ok()), (takes_hold, takes_resume));
+        if !takes_hold {
+            assert_eq!((hold, &holding), (Err(Refused(13)), &receiver));
+        }
+        if !takes_resume {
+            assert_eq!((resume, &resuming), (Err(Refused(13)), &receiver));
+        }
     }
 }

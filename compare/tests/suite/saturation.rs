@@ -79,6 +79,8 @@ fn receiver_counts_stay_at_65535() {
                                 w,
                                 wait: count,
                                 misses: count,
+                                held: false,
+                                holds: 0,
                             };
                             receiver.state = State::Open(open);
                             for i in [1, e.max(1), 255] {
@@ -94,6 +96,36 @@ fn receiver_counts_stay_at_65535() {
                     }
                 }
             }
+        }
+    }
+}
+
+/// No held connection overflows either, whatever a caller has built: e - 1 stays at 0, and a count past
+/// the last held timeout stays at 65535.
+#[test]
+fn held_counts_stay_at_65535() {
+    for (e, start) in [(0, 0), (1, 0), (2, 1), (255, 254)] {
+        for holds in [21, 65534, 65535] {
+            let mut receiver = Receiver::make(1, 255, 9).unwrap();
+            let open = Connection {
+                n: 255,
+                l: 1785,
+                e,
+                w: 0,
+                wait: 0,
+                misses: 65535,
+                held: true,
+                holds,
+            };
+            receiver.state = State::Open(open);
+            assert_eq!(receiver.tick(), r_frame(frame::lm_ack(start, 1)));
+            let after = Connection {
+                holds: holds.saturating_add(1),
+                ..open
+            };
+            assert_eq!(receiver.state, State::Open(after));
+            let resumed = receiver.resume().unwrap().frame.unwrap();
+            assert_eq!(resumed.data[0], e);
         }
     }
 }

@@ -173,7 +173,8 @@ fn lm_ack_in_opening() {
     }
 }
 
-/// A start may not fall in Sending or Waiting; one above the window is taken.
+/// A start may not fall in Sending or Waiting (but for what `hold.rs` has); one above the window is
+/// taken.
 #[test]
 fn lm_ack_below_the_last_start() {
     let (mut sender, message) = begun(1, 10, 1000, 30);
@@ -186,7 +187,7 @@ fn lm_ack_below_the_last_start() {
     sender.hear(frame::lm_ack(5, 1)).unwrap();
     assert_eq!(sender.phase, Phase::Sending { next: 5, last: 5 });
     let before = sender.clone();
-    assert_eq!(sender.hear(frame::lm_ack(4, 1)), Ok(s_nothing()));
+    assert_eq!(sender.hear(frame::lm_ack(4, 2)), Ok(s_nothing()));
     assert_eq!(sender, before);
     // s > N still fails: one tick; frame 0, frame 3 and the NACK.
     let answer = sender.hear(frame::lm_ack(6, 1));

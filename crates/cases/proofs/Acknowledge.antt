@@ -8,7 +8,7 @@ use lib.Dec.{eqb, ltb}
 use Rattle.frame.specs.Choice.{pick}
 use Rattle.frame.specs.Frames.{lmAckOf, lmNackOf}
 use Rattle.frame.specs.Reading.{namedOf, allFiller, readOf}
-use Rattle.sender.specs.Hear.{hearOf, hearRead, hearKind, hearAck, isVoid, ackOpening, ackWindow, taking}
+use Rattle.sender.specs.Hear.{hearOf, hearRead, hearKind, hearAck, isVoid, ackOpening, asksToHold, takingHold, ackBelow, ackWindow, taking}
 use Rattle.sender.specs.Told.{Told, silently, failingWith}
 use Rattle.sender.specs.declared.Phase.{Phase}
 use Rattle.sender.specs.declared.Sender.{Sender}
@@ -33,11 +33,20 @@ by-tests s t taken ignored false true which ht hi = refl
 by-tests s t taken ignored false false true ht hi = ht
 by-tests s t taken ignored false false false ht hi = hi
 
+-- nor where a hold asks for a frame
+below : (s : Sender) (t : Transfer) (last start count : ℕ) → shownHearing (ackBelow s t last start count) ≡ []
+unfolding ackBelow takingHold unlessRefused pick
+below s t last start count = go (asksToHold last start count)
+  where
+    go : (held : Bool) → shownHearing (pick held (takingHold s t last start) (silently s)) ≡ []
+    go true = refl
+    go false = refl
+
 in-window : (s : Sender) (t : Transfer) (last misses start count : ℕ)
     → shownHearing (ackWindow s t last misses start count) ≡ ackNumbers (t .frames) start count
 unfolding ackWindow taking ackNumbers unlessRefused pick
 in-window s t last misses start count =
-    by-tests s t _ _ (isVoid start count) (ltb (t .frames) start) (ltb start last) refl refl
+    by-tests s t _ _ (isVoid start count) (ltb (t .frames) start) (ltb start last) (below s t last start count) refl
 
 by-phase : (s : Sender) {p : Phase} {t : Transfer}
     → Long p t

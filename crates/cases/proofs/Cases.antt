@@ -43,9 +43,9 @@ unfolding
     sender-make.makeOf sender-begin.beginOf sender-begin.beginPhase sender-begin.beginIdle sender-begin.beginShort sender-begin.beginLong
     sender-hear.hearOf sender-hear.hearRead sender-hear.hearKind sender-hear.hearAck sender-hear.ackOpening
     sender-tick.tickOf sender-tick.lentTo sender-tick.tickPhase sender-tick.tickOpening sender-tick.unlessOver sender-tick.atLimit sender-tick.unlessThird
-    receiver-hear.hearOf receiver-hear.hearRead receiver-hear.hearKind receiver-hear.hearNumbered
+    receiver-hear.hearOf receiver-hear.hearRead receiver-hear.hearKind receiver-hear.hearUnlessHeld receiver-hear.hearNumbered
     receiver-hear.hearAnnouncement receiver-hear.announceIdle
-    receiver-making.makeOf receiver-tick.tickOf receiver-tick.tickPhase receiver-tick.tickOpen
+    receiver-making.makeOf receiver-tick.tickOf receiver-tick.tickPhase receiver-tick.tickOpen receiver-tick.timeoutFree
     shownJoined joinOf fitsOf numberOf
 all-right = tt
 

@@ -13,10 +13,10 @@ use Rattle.frame.specs.Choice.{pick}
 use Rattle.frame.specs.Count.{frameCountOf, incrementOf, lowByte, highByte, wordOf}
 use Rattle.frame.specs.Frames.{announcementOf, lmAckOf, lmNackOf}
 use Rattle.frame.specs.Reading.{namedOf, allFiller, readOf}
-use Rattle.receiver.specs.Hear.{hearOf, hearRead, hearKind, hearNumbered, hearAnnouncement, announceIdle, opening}
+use Rattle.receiver.specs.Hear.{hearOf, hearRead, hearKind, isHeld, hearUnlessHeld, hearNumbered, hearAnnouncement, announceIdle, opening}
 use Rattle.receiver.specs.Make.{idleWith, makeOf}
 use Rattle.receiver.specs.State.{inPhase}
-use Rattle.receiver.specs.Tick.{tickOf, tickPhase, tickOpen}
+use Rattle.receiver.specs.Tick.{waiting, tickOf, tickPhase, timeoutFree, tickOpen}
 use Rattle.receiver.specs.Told.{Told, failingWith}
 use Rattle.receiver.specs.declared.Connection.{Connection}
 use Rattle.receiver.specs.declared.Phase.the-variants.{Idle, Open}
@@ -54,16 +54,24 @@ by-tests r tick ticks again waits frames silence true true ha hw =
 by-tests r tick ticks again waits frames silence true false ha hw = ha
 by-tests r tick ticks again waits frames silence false third ha hw = hw
 
-open-shows : (r : Receiver) (x : Connection) (tick ticks : ℕ)
+-- where no hold stands, a tick makes these two tests
+free-tick : (r : Receiver) (x : Connection) → x .held ≡ false
+    → tickOf (inPhase r (Open x))
+    ≡ pick (leb (r .settings .timeout) (incrementOf (x .wait))) (timeoutFree (inPhase r (Open x)) x) (waiting (inPhase r (Open x)) x)
+unfolding tickOf tickPhase tickOpen pick
+free-tick r x free = rw free
+
+open-shows : (r : Receiver) (x : Connection) (tick ticks : ℕ) → x .held ≡ false
     → receiverTicks (inPhase r (Open x)) tick ticks ≡ openNumbers (r .settings .timeout) (x .expected) (x .wait) (x .misses) tick ticks
-unfolding receiverTicks openNumbers after tickOf tickPhase tickOpen lmAckOf pick
-open-shows r x tick zero = refl
-open-shows r x tick (suc ticks) =
-    by-tests (inPhase r (Open x)) tick ticks _ _ _ _
+unfolding receiverTicks openNumbers after timeoutFree lmAckOf pick
+open-shows r x tick zero free = refl
+open-shows r x tick (suc ticks) free =
+    ap (λ (t : Told). after t tick ticks) (free-tick r x free)
+    ∙ by-tests (inPhase r (Open x)) tick ticks _ _ _ _
     (leb (r .settings .timeout) (incrementOf (x .wait)))
     (leb 3 (incrementOf (x .misses)))
-    (ap {B = List ℕ} (λ rest. at tick (2 ∷ x .expected ∷ []) ++ rest) (open-shows r _ (suc tick) ticks))
-    (open-shows r _ (suc tick) ticks)
+    (ap {B = List ℕ} (λ rest. at tick (2 ∷ x .expected ∷ []) ++ rest) (open-shows r _ (suc tick) ticks free))
+    (open-shows r _ (suc tick) ticks free)
 
 -- a word's bytes give the word
 word-back : (l : ℕ) → l ≤ 1785 → wordOf (lowByte l) (highByte l) ≡ l
@@ -88,9 +96,9 @@ opens : (r : Receiver) (frames l : ℕ) (buffer : List ℕ)
     → frames ≡ frameCountOf l
     → length buffer ≡ 1785
     → hearOf r (announcementOf frames l) buffer .told ≡ opening r frames l
-unfolding hearOf hearRead hearKind hearNumbered hearAnnouncement readOf namedOf allFiller announcementOf pick
+unfolding hearOf hearRead hearKind hearUnlessHeld hearNumbered hearAnnouncement readOf namedOf allFiller announcementOf pick
 opens r frames l buffer idle low room high fits lent =
-    rw (eq-eqb (length buffer) 1785 lent, word-back l high)
+    rw (eq-eqb (length buffer) 1785 lent, ap isHeld idle, word-back l high)
     (ap (λ p. hearAnnouncement r p frames l) idle ∙ opens-idle r frames l low room high fits)
 
 -- the numbers of a run from making on
@@ -108,7 +116,7 @@ alone-shows : (r : Receiver) (frames l : ℕ) (buffer : List ℕ) (ticks : ℕ)
 unfolding receiverInSilence
 alone-shows r frames l buffer ticks idle low room high fits lent =
     ap (λ (t : Told). receiverTicks (t .next) 1 ticks) (opens r frames l buffer idle low room high fits lent)
-    ∙ open-shows r _ 1 ticks
+    ∙ open-shows r _ 1 ticks refl
 
 by-fit : (timeout window capacity frames l : ℕ) (buffer : List ℕ) (ticks : ℕ) (fit : Bool)
     → 9 ≤ l

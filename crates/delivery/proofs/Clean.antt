@@ -34,7 +34,7 @@ use Rattle.delivery.specs.Seen.{Begun, begunAfter, begunIn}
 use Rattle.transport.specs.Capped.{capped, cappedStep}
 use Rattle.transport.specs.Step.{stepOf}
 use Rattle.transport.specs.World.{World, Call, Event, startOf}
-use Rattle.transport.specs.World.{begin, senderTick, receiverTick}
+use Rattle.transport.specs.World.{begin, senderTick, receiverTick, hold, resume}
 use Rattle.transport.specs.World.{hearForward, repeatForward, loseForward, hearBack, repeatBack, loseBack}
 
 module _ {st : Settings} {rs : receiver-settings.Settings} {m : List ℕ} (c : Clear st rs m) (repeats : Bool) where
@@ -226,6 +226,8 @@ pub clean-allowed : (p : Past) (d : Call) (e : Event) → CleanCall p d e → Al
 clean-allowed p (begin l) e q = q
 clean-allowed p (senderTick l) e q = λ t. q t .0
 clean-allowed p receiverTick e q = q
+clean-allowed p hold e q = q
+clean-allowed p resume e q = q
 clean-allowed p (hearForward l) e q = q
 clean-allowed p (repeatForward l) e q = q
 clean-allowed p loseForward e q = q
@@ -237,6 +239,8 @@ lenient-allowed : (p : Past) (d : Call) (e : Event) → LenientCall p d e → Al
 lenient-allowed p (begin l) e q = q
 lenient-allowed p (senderTick l) e q = q
 lenient-allowed p receiverTick e q = q
+lenient-allowed p hold e q = q
+lenient-allowed p resume e q = q
 lenient-allowed p (hearForward l) e q = q
 lenient-allowed p (repeatForward l) e q = q
 lenient-allowed p loseForward e q = q

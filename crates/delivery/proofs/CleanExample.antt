@@ -42,7 +42,7 @@ unfolding
     sender-hear.hearOf sender-hear.hearRead sender-hear.hearKind sender-hear.hearAck sender-hear.ackOpening
     sender-hear.ackWindow sender-hear.taking sender-hear.hearEnd sender-hear.ifWhole
     receiver-make.makeOf
-    receiver-hear.hearOf receiver-hear.hearRead receiver-hear.hearKind receiver-hear.hearNumbered
+    receiver-hear.hearOf receiver-hear.hearRead receiver-hear.hearKind receiver-hear.hearUnlessHeld receiver-hear.hearNumbered
     receiver-hear.hearAnnouncement receiver-hear.announceIdle receiver-hear.hearInformation
     receiver-hear.informationOpen receiver-hear.stored receiver-hear.storing receiver-window.windowOf
     receiver-tick.tickOf receiver-tick.tickPhase receiver-tick.tickOpen

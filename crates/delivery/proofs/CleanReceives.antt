@@ -15,7 +15,7 @@ use Rattle.frame.specs.Frames.{fillTo, partFrom, announcementOf, informationOf,
 use Rattle.frame.specs.Reading.{parsedOf, readOf, namedOf, allFiller}
 use Rattle.frame.specs.Result.{accepted}
 use Rattle.receiver.proofs.View.{receiverIn}
-use Rattle.receiver.specs.Hear.{announceIdle, announceOpen, hearAnnouncement, stored, storing, informationOpen, informationDone, hearInformation, hearNumbered, hearKind, hearRead, hearOf}
+use Rattle.receiver.specs.Hear.{announceIdle, announceOpen, hearAnnouncement, stored, storing, informationOpen, informationDone, hearInformation, hearNumbered, hearUnlessHeld, hearKind, hearRead, hearOf}
 use Rattle.receiver.specs.Tick.{tickOpen, tickPhase, tickOf}
 use Rattle.receiver.specs.Told.{Told, Heard, heard, silently, emitting, delivering}
 use Rattle.receiver.specs.Window.{windowOf, windowAck}
@@ -27,10 +27,19 @@ use Rattle.sender.specs.Tick.{informationAt}
 use Rattle.delivery.proofs.Stages.{framesOf}
 use Rattle.transport.specs.Step.{wasRefused}
 
--- the connection of m, at this frame of a window; no miss is ever counted
+-- the connection of m, at this frame of a window; no miss is ever counted, and it is never held
 abbrev pub connected : List ℕ → ℕ → ℕ → ℕ → Connection
 connected m expected last wait =
-    record { frames = framesOf m; length = length m; expected = expected; last = last; wait = wait; misses = 0 }
+    record {
+      frames = framesOf m;
+      length = length m;
+      expected = expected;
+      last = last;
+      wait = wait;
+      misses = 0;
+      held = false;
+      holds = 0;
+    }
 
 -- m has been delivered
 abbrev pub donePhase : List ℕ → Phase
@@ -49,7 +58,7 @@ module _ (rs : Settings) (m : List ℕ) where
       → hearOf (receiverIn rs Idle) (announcementOf (framesOf m) (length m)) buffer
       ≡ heard (emitting (receiverIn rs (Open (connected m 1 (windowOf rs 1 (framesOf m)) 0)))
       (windowAck 1 (windowOf rs 1 (framesOf m)))) buffer
-  unfolding hearOf hearRead hearKind hearNumbered hearAnnouncement announceIdle readOf namedOf allFiller announcementOf pick
+  unfolding hearOf hearRead hearKind hearUnlessHeld hearNumbered hearAnnouncement announceIdle readOf namedOf allFiller announcementOf pick
   hears-announcement buffer held long fits space =
       rw (
         held,
@@ -65,7 +74,7 @@ module _ (rs : Settings) (m : List ℕ) where
   pub hears-announcement-again : (last wait : ℕ) (buffer : List ℕ) → length buffer ≡ 1785 → length m ≤ 1785
       → hearOf (receiverIn rs (Open (connected m 1 last wait))) (announcementOf (framesOf m) (length m)) buffer
       ≡ heard (emitting (receiverIn rs (Open (connected m 1 last wait))) (windowAck 1 last)) buffer
-  unfolding hearOf hearRead hearKind hearNumbered hearAnnouncement announceOpen readOf namedOf allFiller announcementOf pick
+  unfolding hearOf hearRead hearKind hearUnlessHeld hearNumbered hearAnnouncement announceOpen readOf namedOf allFiller announcementOf pick
   hears-announcement-again last wait buffer held fits =
       rw (
         held,
@@ -91,7 +100,7 @@ module _ (rs : Settings) (m : List ℕ) where
   pub hears-passed : (number last wait : ℕ) (buffer : List ℕ) → length buffer ≡ 1785 → 1 ≤ number → number < framesOf m
       → hearOf (receiverIn rs (Open (connected m (number + 1) last wait))) (informationAt number m) buffer
       ≡ heard (silently (receiverIn rs (Open (connected m (number + 1) last wait)))) buffer
-  unfolding hearOf hearRead hearKind hearNumbered hearInformation informationOpen informationOf pick
+  unfolding hearOf hearRead hearKind hearUnlessHeld hearNumbered hearInformation informationOpen informationOf pick
   hears-passed number last wait buffer held low high =
       rw (
         held,
@@ -105,7 +114,7 @@ module _ (rs : Settings) (m : List ℕ) where
   pub hears-delivered : (buffer : List ℕ) → length buffer ≡ 1785 → 1 ≤ framesOf m
       → hearOf (receiverIn rs (donePhase m)) (informationAt (framesOf m) m) buffer
       ≡ heard (emitting (receiverIn rs (donePhase m)) (endOfAckOf (framesOf m) (length m))) buffer
-  unfolding hearOf hearRead hearKind hearNumbered hearInformation informationDone informationOf pick
+  unfolding hearOf hearRead hearKind hearUnlessHeld hearNumbered hearInformation informationDone informationOf pick
   hears-delivered buffer held some =
       rw (held, reads (framesOf m) some, ne-eqb (framesOf m) 0 (omega arith), eq-eqb (framesOf m) (framesOf m) refl)
 
@@ -114,7 +123,7 @@ module _ (rs : Settings) (m : List ℕ) where
       → hearOf (receiverIn rs (Open (connected m number last wait))) (informationAt number m) buffer
       ≡ heard (stored (receiverIn rs (Open (connected m number last wait))) (connected m number last wait))
       (storedIn m number buffer)
-  unfolding hearOf hearRead hearKind hearNumbered hearInformation informationOpen informationOf pick
+  unfolding hearOf hearRead hearKind hearUnlessHeld hearNumbered hearInformation informationOpen informationOf pick
   hears-frame number last wait buffer held low high =
       rw (held, reads number low, ne-eqb number 0 (omega arith), le-ltb (framesOf m) number high, eq-eqb number number refl)
 

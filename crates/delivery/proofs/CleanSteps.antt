@@ -5,9 +5,11 @@ use mathlib.Core.Bool.{Bool, true, false, not, true≢false, false≢true}
 use mathlib.Core.Path.{_≡_, refl, sym, _∙_, subst, subst⁻¹}
 use mathlib.Core.List.{List, [], _∷_, append-nil}
 use borrow.Author.Tests.{not-true}
+use Rattle.frame.specs.Choice.{pick}
 use Rattle.frame.specs.declared.Frame.{Frame}
 use Rattle.receiver.proofs.View as view
 use Rattle.receiver.proofs.View.{receiverIn, Hears, refuses, ignores, closes, short, short-only, hear-does}
+use Rattle.receiver.specs.Hold.{resumeOf, resumePhase, resumeOpen}
 use Rattle.receiver.specs.Told as receiver
 use Rattle.receiver.specs.declared.Phase as receiver-phase
 use Rattle.receiver.specs.declared.Settings as receiver-settings
@@ -17,7 +19,7 @@ use Rattle.sender.specs.Tick.{tickOf}
 use Rattle.sender.specs.Told as sender
 use Rattle.sender.specs.declared.Phase.{Phase}
 use Rattle.sender.specs.declared.Settings.{Settings}
-use Rattle.delivery.proofs.CleanStages.{listens, Clear, announced, informed, Stage, After}
+use Rattle.delivery.proofs.CleanStages.{listens, Clear, announced, informed, Stage, opens, asks, sends, sent, ends, over, After}
 use Rattle.delivery.proofs.Sends.{tick-taken}
 use Rattle.delivery.specs.Clean.{Turn, Empty, turnIn, CleanCall, reportsIn}
 use Rattle.delivery.specs.Demand3.{LentMessage, Condition}
@@ -25,7 +27,7 @@ use Rattle.delivery.specs.Run.{Past}
 use Rattle.delivery.specs.Seen.{taken, Begun, begunAfter, begunIn, listened}
 use Rattle.transport.proofs.Refusals.{announced-taken, informed-taken}
 use Rattle.transport.specs.Step.{wasRefused, Stepped, unheard, bySender, byReceiver, gone, still, withLines, dropped, givenForward, givenBack, stepOf}
-use Rattle.transport.specs.World.{World, Call, Event, Given, nobody, toReceiver, toSender, begin, senderTick, receiverTick, hearForward, repeatForward, loseForward, hearBack, repeatBack, loseBack}
+use Rattle.transport.specs.World.{World, Call, Event, Given, nobody, toReceiver, toSender, begin, senderTick, receiverTick, hold, resume, hearForward, repeatForward, loseForward, hearBack, repeatBack, loseBack}
 use Rattle.delivery.proofs.CleanHears.{further-none, stays, hear-forward, hear-back}
 use Rattle.delivery.proofs.CleanTicks.{tick-receiver, tick-lent}
 
@@ -44,7 +46,22 @@ refused-elim P k (closes _) e = absurd (true≢false e)
 refused-elim P k (short _) e = absurd (true≢false e)
 refused-elim P k (short-only _) e = absurd (true≢false e)
 
--- one that the receiver hears is not
+-- a hold or a resume that is refused
+denied-elim : {rs : receiver-settings.Settings} {k : view.Pause} {q : receiver-phase.Phase} (P : receiver.Told → Type 0)
+    {t : receiver.Told}
+    → P (receiver.refusing (receiverIn rs q) 13)
+    → view.Pauses rs k q t
+    → wasRefused (t .outcome) ≡ true
+    → P t
+denied-elim P x view.denied e = x
+denied-elim P x (view.holds _ _) e = absurd (false≢true e)
+denied-elim P x (view.resumes _) e = absurd (false≢true e)
+
+abbrev callOf : view.Pause → Call
+callOf view.hold = hold
+callOf view.resume = resume
+
+-- a hearing that the receiver hears is not
 heard-listens : (g : Given) (o : receiver.Outcome) → listened g o ≡ true → wasRefused o ≡ false
 heard-listens nobody o e = absurd (false≢true e)
 heard-listens (toSender f) o e = absurd (false≢true e)
@@ -65,6 +82,8 @@ abbrev pub Allowed : Bool → Past → Call → Event → Type 0
 Allowed repeats p (begin l) e = CleanCall p (begin l) e
 Allowed repeats p (senderTick l) e = taken (e .sender) ≡ true → Empty (p .world)
 Allowed repeats p receiverTick e = CleanCall p receiverTick e
+Allowed repeats p hold e = CleanCall p hold e
+Allowed repeats p resume e = CleanCall p resume e
 Allowed repeats p (hearForward l) e = CleanCall p (hearForward l) e
 Allowed repeats p (repeatForward l) e = Unless repeats (CleanCall p (repeatForward l) e)
 Allowed repeats p loseForward e = CleanCall p loseForward e
@@ -110,6 +129,35 @@ module _ {st : Settings} {rs : receiver-settings.Settings} {m : List ℕ} (c : C
         tick-elim (λ (a : sender.Told). (taken (a .outcome) ≡ true → Q a) → Q a) (w .sender) l (λ _. refuses-tick)
         (λ k. k (tick-taken (w .sender) (w .sender .phase) l))
         (λ t. let (lent, e) = d t in tick-lent c repeats l s lent e)
+
+  -- a hold or a resume
+  refuses-pause : (k : view.Pause) (w : World) {turn : Turn} {b : Begun} {reports : List sender.Outcome} → At w turn b reports
+      → Then
+      (byReceiver (callOf k) w nobody (w .forward) (receiver.heard (receiver.refusing (w .receiver) 13) (w .buffer)))
+      turn b reports
+  unfolding begunAfter
+  refuses-pause view.hold w {b = b} s = record { stage = rw (further-none c repeats b, append-nil (w .back)) s }
+  refuses-pause view.resume w {b = b} s = record { stage = rw (further-none c repeats b, append-nil (w .back)) s }
+
+  pause-refused : (k : view.Pause) (w : World) {turn : Turn} {b : Begun} {reports : List sender.Outcome} → At w turn b reports
+      → wasRefused (view.pauseOf k (w .receiver) .outcome) ≡ true
+      → Then (byReceiver (callOf k) w nobody (w .forward) (receiver.heard (view.pauseOf k (w .receiver)) (w .buffer)))
+      turn b reports
+  pause-refused k w {turn} {b} {reports} s e =
+      denied-elim
+      (λ (t : receiver.Told). Then (byReceiver (callOf k) w nobody (w .forward) (receiver.heard t (w .buffer))) turn b reports)
+      (refuses-pause k w s) (view.pause-does k (w .receiver)) e
+
+  -- no stage is held, so that a resume is refused
+  resume-refused : {w : World} {turn : Turn} {b : Begun} {reports : List sender.Outcome} → At w turn b reports
+      → wasRefused (resumeOf (w .receiver) .outcome) ≡ true
+  unfolding resumeOf resumePhase resumeOpen pick
+  resume-refused (opens _) = refl
+  resume-refused (asks _ _ _ _ _ _) = refl
+  resume-refused (sends _ _ _ _ _ _ _) = refl
+  resume-refused (sent _ _ _) = refl
+  resume-refused (ends _ _ _ _) = refl
+  resume-refused (over _ _ _ _) = refl
 
   -- a frame of forward that is given and refused stays
   repeat-unheard : (w : World) {turn : Turn} {b : Begun} {reports : List sender.Outcome} (l : List ℕ) (fs : List Frame)
@@ -171,6 +219,8 @@ module _ {st : Settings} {rs : receiver-settings.Settings} {m : List ℕ} (c : C
   step p (begin l) s a q = begin-refused (p .world) _ _ _ s l q
   step p (senderTick l) s a q = tick-sender (p .world) _ _ _ s l (λ t. (a t, q t))
   step p receiverTick s a q = tick-receiver c repeats s (q .0) (q .1)
+  step p hold s a q = pause-refused view.hold (p .world) s q
+  step p resume s a q = pause-refused view.resume (p .world) s (resume-refused s)
   step p (hearForward l) s a q = hear-forward c repeats gone tt (hearForward l) refl l s a q
   step p (repeatForward l) s a q =
       unless-elim repeats q (λ may. repeat-forward (p .world) l may s a) (λ e. repeat-unheard (p .world) l

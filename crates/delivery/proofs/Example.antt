@@ -29,7 +29,7 @@ unfolding
     sender-tick.tickShort sender-tick.unlessOver sender-tick.atLimit sender-tick.afterFrame
     sender-hear.hearOf sender-hear.hearRead sender-hear.hearKind sender-hear.hearAck sender-hear.ackOpening
     sender-hear.taking sender-hear.hearEnd sender-hear.ifWhole sender-hear.hearShortAck sender-hear.ifFirst
-    receiver-hear.hearOf receiver-hear.hearRead receiver-hear.hearKind receiver-hear.hearNumbered
+    receiver-hear.hearOf receiver-hear.hearRead receiver-hear.hearKind receiver-hear.hearUnlessHeld receiver-hear.hearNumbered
     receiver-hear.hearAnnouncement receiver-hear.announceIdle receiver-hear.announceOpen receiver-hear.hearInformation
     receiver-hear.informationOpen receiver-hear.stored receiver-hear.storing receiver-window.windowOf
 examples =

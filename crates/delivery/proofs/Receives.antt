@@ -1,8 +1,8 @@
 -- What the receiver does in a long transfer, at a tick and at each frame that the sender of that transfer emits.
 use Prim.Native.Nat.{ℕ, _+_, _-_, _≤_, _<_}
-use mathlib.Core.Bool.{_&&_}
+use mathlib.Core.Bool.{false, false≢true, _&&_}
 use mathlib.Core.List.{List}
-use mathlib.Core.Path.{_≡_, refl, _∙_}
+use mathlib.Core.Path.{_≡_, refl, sym, _∙_}
 use native.Mathlib.Omega.{arith}
 use lib.ListN.{length, take}
 use borrow.Author.Tests.{eqb-true}
@@ -13,8 +13,8 @@ use Rattle.frame.specs.Reading.{readOf, namedOf, allFiller}
 use Rattle.frame.proofs.Choice.{pick-elim, both-right}
 use Rattle.frame.proofs.Laws.{word-whole}
 use Rattle.frame.specs.declared.Frame.{Frame}
-use Rattle.receiver.proofs.View.{receiverIn, Ticks, rests, waits, retries, expires, Announced, nacks, opens, again, Informed, above, delivers, asks, goes-on, Hears, refuses, ignores, announced, informed, closes, short, short-only}
-use Rattle.receiver.specs.Hear.{ending, storing, announcedAgain, announceOpen, hearAnnouncement, hearNumbered, hearKind, hearRead, hearOf}
+use Rattle.receiver.proofs.View.{receiverIn, Ticks, rests, waits, retries, repeats, expires, Pause, Pauses, denied, holds, resumes, Announced, nacks, opens, again, Informed, above, delivers, asks, goes-on, Hears, refuses, ignores, announced, informed, closes, short, short-only}
+use Rattle.receiver.specs.Hear.{ending, storing, announcedAgain, announceOpen, hearAnnouncement, hearNumbered, hearUnlessHeld, hearKind, hearRead, hearOf}
 use Rattle.receiver.specs.State.{moved}
 use Rattle.receiver.specs.Told.{Told, Heard, heard, refusing, silently, emitting, failingWith}
 use Rattle.receiver.specs.declared.Connection.{Connection}
@@ -25,6 +25,7 @@ use Rattle.sender.specs.Tick.{informationAt}
 use Rattle.delivery.proofs.Pieces.{next-stored, last-stored}
 use Rattle.delivery.proofs.Stages as stages
 use Rattle.delivery.proofs.Stages.{framesOf, Other, Replies, grants, Early, Halfway, opened, stray}
+use Rattle.transport.specs.Step.{wasRefused}
 use Rattle.transport.proofs.Refusals.{Unrefused, announced-taken, informed-taken}
 
 -- ---- the frames of a transfer, as the receiver reads them
@@ -61,17 +62,19 @@ module _ {rs : Settings} {lent : List ℕ} where
 -- an announcement while the receiver is past the first frame of another transfer: refused or ignored
 pub early-reads : (rs : Settings) (frames l : ℕ) (lent : List ℕ) (q : Phase) → Early q
     → Read rs q lent (λ _. ⊥) (hearOf (receiverIn rs q) (announcementOf frames l) lent)
-unfolding hearOf hearRead hearKind hearNumbered hearAnnouncement announceOpen readOf namedOf allFiller pick announcementOf
+unfolding hearOf hearRead hearKind hearUnlessHeld hearNumbered hearAnnouncement announceOpen readOf namedOf allFiller pick announcementOf
 early-reads rs frames l lent Idle e = absurd e
 early-reads rs frames l lent (Done y) e = absurd e
 early-reads rs frames l lent (Open x) e =
     let P : Heard → Type 0 = Read rs (Open x) lent (λ _. ⊥) in
+    let past = e .0 in
     pick-elim P (eqb (length lent) 1785)
+    (λ _. pick-elim P (x .held) (λ _. ignored)
     (λ _. pick-elim (λ (t : Told). P (heard t lent)) (announcedAgain x frames (wordAt (announcementOf frames l) 2 3))
     (λ again.
     let first = eqb-true (x .expected) 1 (both-right (eqb frames (x .frames) && eqb (wordAt (announcementOf frames l) 2 3) (x .length)) _ again) in
     absurd (omega arith))
-    (λ _. ignored))
+    (λ _. ignored)))
     (λ _. refused 5)
 
 -- ---- what the receiver answers while the message is on its way
@@ -105,7 +108,19 @@ module _ (m : List ℕ) (rs : Settings) where
   half-tick (retries _ _) (opened many long low high before) = replies (opened many long low high before) (grants _ _)
   half-tick (waits _) (stray other small) = silent (stray other small)
   half-tick (retries _ _) (stray other small) = replies (stray other small) (grants _ _)
+  half-tick (repeats _ _ _) (opened many long low high before) = replies (opened many long low high before) (grants _ _)
+  half-tick (repeats _ _ _) (stray other small) = replies (stray other small) (grants _ _)
   half-tick expires h = fails 2
+
+  -- a hold or a resume that is not refused
+  pub half-pause : {k : Pause} {q : Phase} {t : Told} {left : List ℕ} → wasRefused (t .outcome) ≡ false → Pauses rs k q t
+      → Halfway m q left
+      → Goes m rs (heard t left)
+  half-pause u denied h = absurd (false≢true (sym u))
+  half-pause u (holds _ _) (opened many long low high before) = replies (opened many long low high before) (grants _ _)
+  half-pause u (holds _ _) (stray other small) = replies (stray other small) (grants _ _)
+  half-pause u (resumes _) (opened many long low high before) = replies (opened many long low high before) (grants _ _)
+  half-pause u (resumes _) (stray other small) = replies (stray other small) (grants _ _)
 
   -- the announcement of m: refused, or the connection is open for m
   pub half-announcement : {q : Phase} {left : List ℕ} {h : Heard} → 1 ≤ framesOf m → Announced rs (framesOf m) (length m) left q h

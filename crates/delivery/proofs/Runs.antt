@@ -21,6 +21,7 @@ use Rattle.delivery.specs.Seen.{further, Begun, Opened, begunIn, begunAf
 use Rattle.frame.specs.Choice.{pick}
 use Rattle.frame.specs.declared.Frame.{Frame}
 use Rattle.receiver.specs.Hear as hearing
+use Rattle.receiver.specs.Hold.{holdOf, resumeOf}
 use Rattle.receiver.specs.Tick as ticking
 use Rattle.receiver.specs.Told as receiver
 use Rattle.receiver.specs.declared.Receiver.{Receiver}
@@ -31,7 +32,7 @@ use Rattle.sender.specs.Told as sender
 use Rattle.sender.specs.declared.Sender.{Sender}
 use Rattle.transport.specs.Capped.{capped, cappedStep}
 use Rattle.transport.specs.Step.{emission, Stepped, uncalled, unheard, bySender, byReceiver, Rest, gone, still, leaving, dropped, givenForward, givenBack, stepOf}
-use Rattle.transport.specs.World.{World, Call, begin, senderTick, receiverTick, hearForward, repeatForward, loseForward, hearBack, repeatBack, loseBack, Given, nobody, toSender, toReceiver, Event}
+use Rattle.transport.specs.World.{World, Call, begin, senderTick, receiverTick, hold, resume, hearForward, repeatForward, loseForward, hearBack, repeatBack, loseBack, Given, nobody, toSender, toReceiver, Event}
 
 -- ---- a list and the same with frames more
 
@@ -227,6 +228,10 @@ steps-alike (senderTick m) s r buffer {forward} {front} {back} {rear} x nx y ny 
     by-sender (senderTick m) nobody (tickOf s m) s r buffer back rear (levelled x nx) (levelled y ny)
 steps-alike receiverTick s r buffer {forward} {front} x nx y ny =
     by-receiver receiverTick nobody (receiver.heard (ticking.tickOf r) buffer) s r buffer forward front (levelled x nx) (levelled y ny)
+steps-alike hold s r buffer {forward} {front} x nx y ny =
+    by-receiver hold nobody (receiver.heard (holdOf r) buffer) s r buffer forward front (levelled x nx) (levelled y ny)
+steps-alike resume s r buffer {forward} {front} x nx y ny =
+    by-receiver resume nobody (receiver.heard (resumeOf r) buffer) s r buffer forward front (levelled x nx) (levelled y ny)
 steps-alike (hearForward b) s r buffer x nx y ny = gives-forward gone (hearForward b) b s r buffer x nx (levelled y ny)
 steps-alike (repeatForward b) s r buffer x nx y ny = gives-forward still (repeatForward b) b s r buffer x nx (levelled y ny)
 steps-alike loseForward s r buffer x nx y ny = by-nobody loseForward s r buffer (lost x nx) (levelled y ny)
@@ -240,9 +245,9 @@ begun-same : (b : Begun) → further b 0 0 [] ≡ b
 begun-same Begun.never = refl
 begun-same (Begun.since m ticks reports ds) = rw (add-zero ticks, add-zero reports) refl
 
-opened-same : (o : Opened) → Seen.later o 0 0 ≡ o
+opened-same : (o : Opened) → Seen.later o 0 0 0 ≡ o
 opened-same Opened.never = refl
-opened-same (Opened.since frames ticks reports) = rw (add-zero ticks, add-zero reports) refl
+opened-same (Opened.since frames ticks reports pauses) = rw (add-zero ticks, add-zero reports, add-zero pauses) refl
 
 losses-begun : {events later : List Event} → Losses events later → begunIn later ≡ begunIn events
 unfolding begunIn begunAfter
@@ -284,6 +289,8 @@ meets (begin m) s r buffer e seen events x y b o d =
     λ accepted. let found = d accepted in (rw o (found .0), level-empty x (found .1), level-empty y (found .2))
 meets (senderTick m) s r buffer e seen events x y b o d = λ accepted. rw b (d accepted)
 meets receiverTick s r buffer e seen events x y b o d = tt
+meets hold s r buffer e seen events x y b o d = tt
+meets resume s r buffer e seen events x y b o d = tt
 meets (hearForward lent) s r buffer e seen events x y b o d = d
 meets (repeatForward lent) s r buffer e seen events x y b o d = d
 meets loseForward s r buffer e seen events x y b o d = tt
@@ -365,6 +372,7 @@ kept-among limit timeout (follows e a l) p =
       reported = rw (← b) (p .reported);
       again = rw (← among-begun a, ← losses-begun l) (p .again);
       finished = rw (← among-opened (follows e a l)) (p .finished);
+      unheld = rw (← among-opened (follows e a l)) (p .unheld);
     }
 
 pub capped-demand-3 : CappedDemand3

@@ -4,6 +4,7 @@ use Prim.Native.Nat.{ℕ, _+_, _≤_, _<_}
 use mathlib.Core.Bool.{Bool, true, false}
 use mathlib.Core.List.{List}
 use mathlib.Core.Path.{_≡_, refl, sym, ap, ap₂, _∙_, subst⁻¹}
+use native.Mathlib.Nat.{le-refl}
 use native.Mathlib.Omega.{arith}
 use borrow.Author.Tests.{leb-false, eqb-true}
 use lib.Dec.{eqb}
@@ -14,7 +15,7 @@ use Rattle.frame.specs.Frames.{wordAt, announcementOf, lmAckOf, lmNackOf, endOf
 use Rattle.frame.specs.Reading.{readOf, namedOf, allFiller}
 use Rattle.frame.specs.declared.Frame.{Frame}
 use Rattle.sender.proofs.Choices.{limit-elim, tick-elim, over-elim, timeout-elim, bad-elim, hear-elim}
-use Rattle.sender.specs.Hear.{hearOf, hearRead, hearKind, hearAck, hearNack, hearEnd, hearShortAck, ackOpening, ackWindow, windowLast, taking, isWhole, ifWhole, ifFirst}
+use Rattle.sender.specs.Hear.{hearOf, hearRead, hearKind, hearAck, hearNack, hearEnd, hearShortAck, ackOpening, takingHold, ackBelow, ackWindow, windowLast, taking, isWhole, ifWhole, ifFirst}
 use Rattle.sender.specs.State.{aged, counted}
 use Rattle.sender.specs.Tick.{tickOf, lentTo, tickPhase, tickOpening, tickSending, tickWaiting, tickShort, afterFrame}
 use Rattle.sender.specs.Told.{Told, quiet, refused, sent, failed, refusing}
@@ -226,11 +227,18 @@ module _ (st : Settings) (m : List ℕ) (n : ℕ) where
 
   window-ack : (p : Phase) → Moving m n false p → (t : Transfer) (start misses s c : ℕ) → Keeps m t n
       → Hears st (Acked m n false) ⊥ (ackWindow (senderIn st p) t start misses s c)
-  unfolding ackWindow
+  unfolding ackWindow ackBelow takingHold
   window-ack p v t start misses s c k =
       let P = Hears st (Acked m n false) ⊥ in
       bad-elim P (senderIn st p) t s c (stays (same v)) over
-      (λ low some inside. pick-elim P _ (λ old. stays (same v)) (λ new. takes-window p t s c _ k low some inside))
+      (λ low some inside. pick-elim P _
+      (λ below. pick-elim P _
+      (λ held.
+      let g = k .many in
+      let high : s ≤ framesOf m = omega arith in
+      stays (windowed (sending k low (le-refl s) high)))
+      (λ old. stays (same v)))
+      (λ new. takes-window p t s c _ k low some inside))
 
   pub long-ack : {isOpening : Bool} {p : Phase} → Moving m n isOpening p → (start count : ℕ)
       → Hears st (Acked m n isOpening) ⊥ (hearOf (senderIn st p) (lmAckOf start count))

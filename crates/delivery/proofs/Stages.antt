@@ -89,11 +89,11 @@ pub data Moving (m : List ℕ) (n : ℕ) : Bool → Phase → Type 0 where
       → Moving m n false (Sending x)
   waiting : {x : Awaited} → Keeps m (x .transfer) n → 1 ≤ x .last → x .last ≤ framesOf m → Moving m n false (Waiting x)
 
--- the receiver is open for an earlier transfer and past its first frame
+-- the receiver is open for an earlier transfer, past its first frame and not held
 abbrev pub Early : receiver-phase.Phase → Type 0
 Early at.Idle = ⊥
 Early (at.Done y) = ⊥
-Early (at.Open x) = 1 < x .expected
+Early (at.Open x) = (1 < x .expected) × (x .held ≡ false)
 
 -- The receiver has forgotten every earlier delivery, and holds the first bytes of m if it is open; or it is open for an
 -- earlier transfer of another N or L.
@@ -108,43 +108,45 @@ pub data Halfway (m : List ℕ) : receiver-phase.Phase → List ℕ → Type 0 w
       → Halfway m (at.Open x) buffer
   stray : {x : Connection} {buffer : List ℕ} → Other m (x .frames) (x .length) → x .length ≤ 1785 → Halfway m (at.Open x) buffer
 
+-- Lax: a begin may find a connection open, and no hold is accepted; where it is empty, no stage is early.
 -- early: the receiver is still at an earlier transfer, past its first frame, and hears announcements only, which it ignores.
 -- fresh: it is shut and has not opened since the begin. asked: it has opened for m, or stands at the first frame of an earlier
 -- transfer, and the sender has not taken up its LM_ACK. going: the sender has; every announcement stands before every
 -- information frame, so that none follows the last frame. there: m has been delivered, and no announcement is left to open
 -- again. lost: frames of m have ended an earlier transfer of another N or L, and no announcement is left, so that m is never
 -- acknowledged.
-pub data Stage (m : List ℕ) : Bool → receiver-phase.Phase → (forward back : List Frame) → List ℕ → List (List ℕ) → Type 0 where
+pub data Stage (Lax : Type 0) (m : List ℕ) : Bool → receiver-phase.Phase → (forward back : List Frame) → List ℕ → List (List ℕ) → Type 0 where
   early : {p : receiver-phase.Phase} {forward back : List Frame} {buffer : List ℕ}
+      → Lax
       → Early p
       → Line (Announces m) forward
       → Line Declines back
-      → Stage m true p forward back buffer []
+      → Stage Lax m true p forward back buffer []
   fresh : {p : receiver-phase.Phase} {forward back : List Frame} {buffer : List ℕ}
       → Shut p
       → Line (Announces m) forward
       → Line Declines back
-      → Stage m true p forward back buffer []
+      → Stage Lax m true p forward back buffer []
   asked : {p : receiver-phase.Phase} {forward back : List Frame} {buffer : List ℕ}
       → Halfway m p buffer
       → Line (Announces m) forward
       → Line Replies back
-      → Stage m true p forward back buffer []
+      → Stage Lax m true p forward back buffer []
   going : {p : receiver-phase.Phase} {forward back : List Frame} {buffer : List ℕ}
       → Halfway m p buffer
       → Ordered (Announces m) (Carries m) forward
       → Line Replies back
-      → Stage m false p forward back buffer []
+      → Stage Lax m false p forward back buffer []
   there : {forward back : List Frame} {buffer : List ℕ}
       → Line (Carries m) forward
       → Line (Closes m) back
-      → Stage m false (at.Done (record { frames = framesOf m; length = length m })) forward back buffer (m ∷ [])
+      → Stage Lax m false (at.Done (record { frames = framesOf m; length = length m })) forward back buffer (m ∷ [])
   lost : {y : Delivery} {forward back : List Frame} {buffer : List ℕ} {ds : List (List ℕ)}
       → Other m (y .frames) (y .length)
       → y .length ≤ 1785
       → Line (Carries m) forward
       → Line (Strays m) back
-      → Stage m false (at.Done y) forward back buffer ds
+      → Stage Lax m false (at.Done y) forward back buffer ds
 
 -- ---- a short transfer of m
 
@@ -163,17 +165,17 @@ pub data Repeats (m : List ℕ) : Frame → Type 0 where
 -- ---- the world as a whole
 
 -- the sender, the receiver, the lists and the buffer, beside what has been seen since the last accepted begin
-pub data Live (st : Settings) : Sender → Receiver → (forward back : List Frame) → List ℕ → Begun → Type 0 where
+pub data Live (Lax : Type 0) (st : Settings) : Sender → Receiver → (forward back : List Frame) → List ℕ → Begun → Type 0 where
   resting : {r : Receiver} {forward back : List Frame} {buffer : List ℕ} {b : Begun}
       → HadReport b
-      → Live st (senderIn st Idle) r forward back buffer b
+      → Live Lax st (senderIn st Idle) r forward back buffer b
   long : {m : List ℕ} {n : ℕ} {isOpening : Bool} {p : Phase} {r : Receiver} {forward back : List Frame} {buffer : List ℕ} {ds : List (List ℕ)}
       → 8 < length m
       → length m ≤ 1785
       → n < st .limit
       → Moving m n isOpening p
-      → Stage m isOpening (r .phase) forward back buffer ds
-      → Live st (senderIn st p) r forward back buffer (since m n 0 ds)
+      → Stage Lax m isOpening (r .phase) forward back buffer ds
+      → Live Lax st (senderIn st p) r forward back buffer (since m n 0 ds)
   short : {m : List ℕ} {n : ℕ} {p : Phase} {r : Receiver} {forward back : List Frame} {buffer : List ℕ} {ds : List (List ℕ)}
       → length m ≤ 8
       → n < st .limit
@@ -181,4 +183,4 @@ pub data Live (st : Settings) : Sender → Receiver → (forward back : List Fra
       → Line (Repeats m) forward
       → Line (Echoes ds) back
       → Copies (fillTo 8 m) ds
-      → Live st (senderIn st p) r forward back buffer (since m n 0 ds)
+      → Live Lax st (senderIn st p) r forward back buffer (since m n 0 ds)

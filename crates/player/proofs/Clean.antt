@@ -33,7 +33,7 @@ use Rattle.transport.proofs.Forms.{Forms, begin-tells, tick-tells, hear-tells}
 use Rattle.transport.proofs.Making.{make-answers}
 use Rattle.transport.specs.Capped.{cappedStep}
 use Rattle.transport.specs.Step.{emission, Rest, givenForward, givenBack, stepOf}
-use Rattle.transport.specs.World.{World, Call, begin, senderTick, receiverTick, hearForward, repeatForward, loseForward, hearBack, repeatBack, loseBack, Event}
+use Rattle.transport.specs.World.{World, Call, begin, senderTick, receiverTick, hold, resume, hearForward, repeatForward, loseForward, hearBack, repeatBack, loseBack, Event}
 
 -- ---- what E1 promises
 
@@ -88,6 +88,8 @@ unfolding cappedStep stepOf
 alone-call w (begin m) = begin-tells AloneTold (w .sender) (alone-told (w .sender)) m
 alone-call w (senderTick m) = tick-tells AloneTold (w .sender) (alone-told (w .sender)) m
 alone-call w receiverTick = λ _ _ e. (cc, cc)
+alone-call w hold = λ _ _ e. (cc, cc)
+alone-call w resume = λ _ _ e. (cc, cc)
 alone-call w (hearForward b) = alone-forward _ _ w b (w .forward)
 alone-call w (repeatForward b) = alone-forward _ _ w b (w .forward)
 alone-call w loseForward = λ _ _ e. (refl, refl)

@@ -175,7 +175,7 @@ unfolding
     sender-hear.hearOf sender-hear.hearRead sender-hear.hearKind sender-hear.hearAck
     sender-hear.ackOpening sender-hear.taking sender-hear.hearEnd sender-hear.ifWhole
     receiver-hear.hearOf receiver-hear.hearRead receiver-hear.hearKind
-    receiver-hear.hearNumbered receiver-hear.hearAnnouncement receiver-hear.announceIdle
+    receiver-hear.hearUnlessHeld receiver-hear.hearNumbered receiver-hear.hearAnnouncement receiver-hear.announceIdle
     receiver-hear.hearInformation receiver-hear.informationOpen receiver-hear.stored receiver-hear.storing
     receiver-tick.tickOf receiver-tick.tickPhase receiver-tick.tickOpen receiver-window.windowOf
     digitsIn decimal hexGlyph spaced hexes headOf frameLine sentLine deliveredLine senderReport receiverReport refusedText

@@ -9,7 +9,7 @@ use lib.ListN.{replicate}
 use Rattle.delivery.proofs.Runs.{capped-demand-3}
 use Rattle.delivery.specs.Demand3.{LentMessage, Condition, Conditions, Promise}
 use Rattle.delivery.specs.Run.{Past, fresh, next, runOf}
-use Rattle.delivery.specs.Seen.{Sort, begins, ticksSender, ticksReceiver, other, sortOf, taken, Begun, further, begunBy, begunIn, begunAfter, openedIn}
+use Rattle.delivery.specs.Seen.{Sort, begins, ticksSender, ticksReceiver, holdsReceiver, other, sortOf, taken, Begun, further, begunBy, begunIn, begunAfter, openedIn}
 use Rattle.frame.proofs.Choice.{pick-elim}
 use Rattle.player.proofs.Opened.{opened}
 use Rattle.player.specs.Claim.{PlayerMeets, newestFirst, PlayerKeeps, PackKeeps}
@@ -37,12 +37,14 @@ abbrev Goes : Sort → Type 0
 Goes (begins message) = ⊥
 Goes ticksSender = Unit
 Goes ticksReceiver = Unit
+Goes holdsReceiver = Unit
 Goes other = Unit
 
 about-by : (m : List ℕ) (s : Sort) (accepted : Bool) (b : Begun) → Goes s → About m b → About m (begunBy s accepted b)
 about-by m (begins message) accepted b g a = absurd g
 about-by m ticksSender accepted b g a = a
 about-by m ticksReceiver accepted b g a = a
+about-by m holdsReceiver accepted b g a = a
 about-by m other accepted b g a = a
 
 about-step : (m : List ℕ) (w : World) (c : Call) (events : List Event) → Goes (sortOf c) → About m (begunIn events)

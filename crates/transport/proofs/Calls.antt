@@ -19,6 +19,7 @@ use Rattle.line.proofs.Laws.{rest-empty}
 use Rattle.line.specs.Ring.{framesIn, headOf, restOf, Kept, kept, joinOf}
 use Rattle.line.specs.declared.Ring.{Ring}
 use Rattle.receiver.specs.Hear as hearing
+use Rattle.receiver.specs.Hold.{holdOf, resumeOf}
 use Rattle.receiver.specs.Tick as ticking
 use Rattle.receiver.specs.Told as receiver
 use Rattle.receiver.specs.declared.Outcome as receiver-outcome
@@ -36,7 +37,7 @@ use Rattle.transport.proofs.Told.{ends-told}
 use Rattle.transport.specs.Answer.{worldOf, Told, told, toldStep, quietly, answerOf, lentOf}
 use Rattle.transport.specs.Capped.{capped, atLine, cappedStep}
 use Rattle.transport.specs.Step.{emission, Stepped, unheard, bySender, wasRefused, bufferAfter, byReceiver, Rest, gone, still, dropped, givenForward, givenBack, stepOf}
-use Rattle.transport.specs.World.{World, Call, begin, senderTick, receiverTick, hearForward, repeatForward, loseForward, hearBack, repeatBack, loseBack, Given, nobody, toSender, toReceiver}
+use Rattle.transport.specs.World.{World, Call, begin, senderTick, receiverTick, hold, resume, hearForward, repeatForward, loseForward, hearBack, repeatBack, loseBack, Given, nobody, toSender, toReceiver}
 use Rattle.transport.specs.declared.Answer.{Answer}
 use Rattle.transport.specs.declared.Ends.{Ends}
 
@@ -163,17 +164,30 @@ unfolding answerOf cappedStep stepOf worldOf
 ticks-sender ends a bytes after m t e size h back buffer =
     lent-one (length bytes) (worldOf ends bytes back buffer) (senderTick m) size (h (senderTick m) nobody back buffer ∙ rw e refl)
 
-pub ticks-receiver : (ends : Ends) (a : Answer) (bytes after : List ℕ) (t : receiver.Told)
-    → t ≡ ticking.tickOf (ends .receiver)
-    → length bytes ≡ 576
-    → ReceiverSpoke ends bytes t a after
-    → (forward buffer : List ℕ)
-    → told a forward after buffer ≡ lentOf (eqb (length bytes) 576) (worldOf ends forward bytes buffer) receiverTick
-unfolding answerOf cappedStep stepOf worldOf
-ticks-receiver ends a bytes after t e size h forward buffer =
-    lent-one (length bytes) (worldOf ends forward bytes buffer) receiverTick size (h receiverTick nobody forward buffer ∙ rw e refl)
+module _ (ends : Ends) (a : Answer) (bytes after : List ℕ) (t : receiver.Told) where
+  -- the receiver has told t, lent the line back
+  abbrev Calls : Call → Type 0
+  Calls c =
+      length bytes ≡ 576 → ReceiverSpoke ends bytes t a after → (forward buffer : List ℕ)
+      → told a forward after buffer ≡ lentOf (eqb (length bytes) 576) (worldOf ends forward bytes buffer) c
 
-pub ruleset begins-and-ticks = (no-forward, no-back, begins, ticks-sender, ticks-receiver)
+  pub ticks-receiver : t ≡ ticking.tickOf (ends .receiver) → Calls receiverTick
+  unfolding answerOf cappedStep stepOf worldOf
+  ticks-receiver e size h forward buffer =
+      lent-one (length bytes) (worldOf ends forward bytes buffer) receiverTick size (h receiverTick nobody forward buffer ∙ rw e refl)
+
+  pub holds-receiver : t ≡ holdOf (ends .receiver) → Calls hold
+  unfolding answerOf cappedStep stepOf worldOf
+  holds-receiver e size h forward buffer =
+      lent-one (length bytes) (worldOf ends forward bytes buffer) hold size (h hold nobody forward buffer ∙ rw e refl)
+
+  pub resumes-receiver : t ≡ resumeOf (ends .receiver) → Calls resume
+  unfolding answerOf cappedStep stepOf worldOf
+  resumes-receiver e size h forward buffer =
+      lent-one (length bytes) (worldOf ends forward bytes buffer) resume size (h resume nobody forward buffer ∙ rw e refl)
+
+pub ruleset begins-and-ticks =
+    (no-forward, no-back, begins, ticks-sender, ticks-receiver, holds-receiver, resumes-receiver)
 
 -- ---- a frame given to an end
 

@@ -31,7 +31,7 @@ use Rattle.transport.specs.Demand1.{isRefusal, leftBy, lentBy, refusedSt
 use Rattle.transport.specs.Make.{joined, makeOf}
 use Rattle.transport.specs.Step.{Stepped, senderRefused, bySender, byReceiver, wasRefused, withLines}
 use Rattle.transport.specs.Step.{Rest, gone, still, leaving, givenForward, givenBack, stepOf}
-use Rattle.transport.specs.World.{World, Call, begin, senderTick, receiverTick, Given, nobody, toSender, toReceiver}
+use Rattle.transport.specs.World.{World, Call, begin, senderTick, receiverTick, hold, resume, Given, nobody, toSender, toReceiver}
 use Rattle.transport.specs.World.{hearForward, repeatForward, loseForward, hearBack, repeatBack, loseBack}
 
 -- ---- what an end tells
@@ -81,7 +81,16 @@ tick-unrefused : {rs : Settings} {p : receiver-phase.Phase} {t : receiver.Told} 
 tick-unrefused (view.rests _) = refl
 tick-unrefused (view.waits _) = refl
 tick-unrefused (view.retries _ _) = refl
+tick-unrefused (view.repeats _ _ _) = refl
 tick-unrefused view.expires = refl
+
+pause-honest : {rs : Settings} {k : view.Pause} {p : receiver-phase.Phase} {t : receiver.Told} (lent : List ℕ)
+    → view.Pauses rs k p t
+    → wasRefused (t .outcome) ≡ true
+    → RefusedHearing (view.receiverIn rs p) lent (receiver.heard t lent)
+pause-honest lent view.denied e = refusal 13
+pause-honest lent (view.holds _ _) e = absurd (false≢true e)
+pause-honest lent (view.resumes _) e = absurd (false≢true e)
 
 -- ---- the calls, at lines of at most 64
 
@@ -102,7 +111,7 @@ sender-told : (c : Call) (w : World) (given : Given) (left : List Frame) {a : se
     → length (w .forward) ≤ 64
     → length left ≤ 64
     → leftBy c w ≡ withLines w (w .forward) left
-    → lentBy c ≡ []
+    → lentBy c w ≡ []
     → Only w c (bySender c w given left a)
 unfolding capped
 sender-told c w given left {a} honest f b l n e = go (honest (or-false _ e))
@@ -113,7 +122,7 @@ sender-told c w given left {a} honest f b l n e = go (honest (or-false _ e))
 
 -- the receiver has told h, and forward is left so
 receiver-told : (c : Call) (w : World) (given : Given) (left : List Frame) {h : receiver.Heard}
-    → (wasRefused (h .told .outcome) ≡ true → RefusedHearing (w .receiver) (lentBy c) h)
+    → (wasRefused (h .told .outcome) ≡ true → RefusedHearing (w .receiver) (lentBy c w) h)
     → length left ≤ 64
     → length (w .back) ≤ 64
     → leftBy c w ≡ withLines w left (w .back)
@@ -121,7 +130,7 @@ receiver-told : (c : Call) (w : World) (given : Given) (left : List Frame) {h : 
 unfolding capped
 receiver-told c w given left {h} honest f b l e = go (honest e)
   where
-    go : {h : receiver.Heard} → RefusedHearing (w .receiver) (lentBy c) h
+    go : {h : receiver.Heard} → RefusedHearing (w .receiver) (lentBy c w) h
         → atLine (byReceiver c w given left h) ≡ refusedStep w c (byReceiver c w given left h .event)
     go (refusal number) = rw (append-nil, take-all 64 left f, take-all 64 (w .back) b, l) refl
 
@@ -131,7 +140,7 @@ left-short gone f rest e = omega arith
 left-short still f rest e = e
 
 -- the first frame of forward is given to the receiver; the call's own rule says what is left
-given-forward : (k : Rest) (c : Call) (lent : List ℕ) (w : World) (fs : List Frame) → w .forward ≡ fs → lentBy c ≡ lent
+given-forward : (k : Rest) (c : Call) (lent : List ℕ) (w : World) (fs : List Frame) → w .forward ≡ fs → lentBy c w ≡ lent
     → ((f : Frame) (rest : List Frame) → w .forward ≡ f ∷ rest → leftBy c w ≡ withLines w (leaving k f rest) (w .back))
     → Fits w
     → Only w c (givenForward k c w lent fs)
@@ -143,7 +152,7 @@ given-forward k c lent w (f ∷ rest) e n l fits r =
     (left-short k f rest (rw e at (fits .forward)))
     (fits .back) (l f rest e) r
 
-given-back : (k : Rest) (c : Call) (w : World) (fs : List Frame) → w .back ≡ fs → lentBy c ≡ []
+given-back : (k : Rest) (c : Call) (w : World) (fs : List Frame) → w .back ≡ fs → lentBy c w ≡ []
     → ((f : Frame) (rest : List Frame) → w .back ≡ f ∷ rest → leftBy c w ≡ withLines w (w .forward) (leaving k f rest))
     → Fits w
     → Only w c (givenBack k c w fs)
@@ -166,6 +175,12 @@ call-only w (senderTick m) fits =
     (fits .forward) (fits .back) refl refl
 call-only w receiverTick fits =
     λ e. absurd (false≢true (sym (tick-unrefused (view.tick-does (w .receiver))) ∙ e))
+call-only w hold fits =
+    receiver-told hold w nobody (w .forward) (pause-honest (w .buffer) (view.pause-does view.hold (w .receiver)))
+    (fits .forward) (fits .back) refl
+call-only w resume fits =
+    receiver-told resume w nobody (w .forward) (pause-honest (w .buffer) (view.pause-does view.resume (w .receiver)))
+    (fits .forward) (fits .back) refl
 call-only w (hearForward b) fits = given-forward gone (hearForward b) b w (w .forward) refl refl (λ f rest e. rw e refl) fits
 call-only w (repeatForward b) fits =
     given-forward still (repeatForward b) b w (w .forward) refl refl (λ f rest e. rw (sym e) refl) fits

@@ -7,7 +7,7 @@ use mathlib.Core.Path.{_≡_, refl}
 use lib.ListN.{length}
 use Rattle.frame.specs.Frames.{blankOf, lmAckOf, lmNackOf, endOfAckOf, smAckOf}
 use Rattle.frame.specs.declared.Frame.{Frame}
-use Rattle.receiver.proofs.View.{Ticks, rests, waits, retries, expires, tick-does, nacks, opens, again, ended, above, delivers, asks, goes-on, Hears, refuses, ignores, announced, informed, closes, short, short-only, hear-does}
+use Rattle.receiver.proofs.View.{Ticks, rests, waits, retries, repeats, expires, tick-does, Pause, pauseOf, Pauses, denied, holds, resumes, pause-does, nacks, opens, again, ended, above, delivers, asks, goes-on, Hears, refuses, ignores, announced, informed, closes, short, short-only, hear-does}
 use Rattle.receiver.specs.Hear as hearing
 use Rattle.receiver.specs.Tick as ticking
 use Rattle.receiver.specs.Told as receiver
@@ -61,7 +61,17 @@ unfolding lmNackOf lmAckOf blankOf
 tick-told (rests _) = blank refl refl
 tick-told (waits _) = blank refl refl
 tick-told (retries _ _) = blank refl refl
+tick-told (repeats _ _ _) = blank refl refl
 tick-told expires = blank refl refl
+
+pause-told : {s : Settings} {k : Pause} {p : receiver-phase.Phase} {t : receiver.Told} → Pauses s k p t → Eights t
+unfolding lmAckOf blankOf
+pause-told denied = blank refl refl
+pause-told (holds _ _) = blank refl refl
+pause-told (resumes _) = blank refl refl
+
+pub receiver-pause-eight : (k : Pause) (r : Receiver) → Eights (pauseOf k r)
+receiver-pause-eight k r = pause-told (pause-does k r)
 
 pub receiver-tick-eight : (r : Receiver) → Eights (ticking.tickOf r)
 receiver-tick-eight r = tick-told (tick-does r)

@@ -10,6 +10,8 @@ use Rattle.frame.specs.Choice.{pick}
 use Rattle.frame.specs.declared.Frame.{Frame}
 use Rattle.line.specs.Ring.{frameAt, framesFrom, framesIn}
 use Rattle.receiver.specs.Hear as hearing
+use Rattle.receiver.proofs.View as view
+use Rattle.receiver.specs.Hold.{holdOf, resumeOf}
 use Rattle.receiver.specs.Tick as ticking
 use Rattle.receiver.specs.Told as receiver
 use Rattle.sender.specs.Begin.{beginOf}
@@ -17,11 +19,11 @@ use Rattle.sender.specs.Hear.{hearOf}
 use Rattle.sender.specs.Tick.{tickOf}
 use Rattle.sender.specs.Told as sender
 use Rattle.sender.specs.declared.Sender.{Sender}
-use Rattle.transport.proofs.Eight.{Eight, begin-eight, tick-eight, hear-eight, Eights, receiver-tick-eight, receiver-hear-eight}
+use Rattle.transport.proofs.Eight.{Eight, begin-eight, tick-eight, hear-eight, Eights, receiver-tick-eight, receiver-pause-eight, receiver-hear-eight}
 use Rattle.transport.specs.Answer.{worldOf, Told, answerOf, lentOf}
 use Rattle.transport.specs.Capped.{capped, cappedStep}
 use Rattle.transport.specs.Step.{emission, Stepped, unheard, bySender, byReceiver, Rest, gone, still, leaving, dropped, givenForward, givenBack, stepOf}
-use Rattle.transport.specs.World.{World, Call, begin, senderTick, receiverTick, hearForward, repeatForward, loseForward, hearBack, repeatBack, loseBack, Given, nobody, toSender, toReceiver}
+use Rattle.transport.specs.World.{World, Call, begin, senderTick, receiverTick, hold, resume, hearForward, repeatForward, loseForward, hearBack, repeatBack, loseBack, Given, nobody, toSender, toReceiver}
 use Rattle.transport.specs.declared.Ends.{Ends}
 
 -- ---- lines of frames of eight bytes
@@ -136,6 +138,10 @@ of-call w (begin m) a = of-sender (begin m) w nobody (w .back) (beginOf (w .send
 of-call w (senderTick m) a = of-sender (senderTick m) w nobody (w .back) (tickOf (w .sender) m) a (a .back) (tick-eight (w .sender) m)
 of-call w receiverTick a =
     of-receiver receiverTick w nobody (w .forward) (receiver.heard (ticking.tickOf (w .receiver)) (w .buffer)) a (a .forward) (receiver-tick-eight (w .receiver))
+of-call w hold a =
+    of-receiver hold w nobody (w .forward) (receiver.heard (holdOf (w .receiver)) (w .buffer)) a (a .forward) (receiver-pause-eight view.hold (w .receiver))
+of-call w resume a =
+    of-receiver resume w nobody (w .forward) (receiver.heard (resumeOf (w .receiver)) (w .buffer)) a (a .forward) (receiver-pause-eight view.resume (w .receiver))
 of-call w (hearForward b) a = of-forward gone (hearForward b) w b (w .forward) a (a .forward)
 of-call w (repeatForward b) a = of-forward still (repeatForward b) w b (w .forward) a (a .forward)
 of-call w loseForward a = of-nobody loseForward _ (record { forward = dropped-eight (w .forward) (a .forward); back = a .back })
@@ -181,6 +187,8 @@ unfolding stepOf
 call-of w (begin m) = refl
 call-of w (senderTick m) = refl
 call-of w receiverTick = refl
+call-of w hold = refl
+call-of w resume = refl
 call-of w (hearForward b) = forward-call gone (hearForward b) w b (w .forward)
 call-of w (repeatForward b) = forward-call still (repeatForward b) w b (w .forward)
 call-of w loseForward = refl

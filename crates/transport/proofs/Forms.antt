@@ -11,7 +11,7 @@ use Rattle.frame.specs.Frames.{announcementOf, informationOf, smRmOf}
 use Rattle.frame.specs.declared.Frame.{Frame}
 use Rattle.sender.proofs.Choices.{limit-elim, begin-elim, tick-elim, over-elim, timeout-elim, bad-elim, hear-elim}
 use Rattle.sender.specs.Begin.{beginLong, beginShort, beginOf}
-use Rattle.sender.specs.Hear.{taking, ackOpening, ackWindow, hearAck, hearNack, ifWhole, hearEnd, ifFirst, hearShortAck, hearOf}
+use Rattle.sender.specs.Hear.{takingHold, ackBelow, taking, ackOpening, ackWindow, hearAck, hearNack, ifWhole, hearEnd, ifFirst, hearShortAck, hearOf}
 use Rattle.sender.specs.State.{aged}
 use Rattle.sender.specs.Tick.{tickOpening, tickSending, tickWaiting, tickShort, tickPhase, tickOf}
 use Rattle.sender.specs.Told.{Told, refusing, silently, emitting, failingWith, failing, finishing}
@@ -54,10 +54,12 @@ module _ (P : Told → Type 0) (s : Sender) (k : Forms P s) where
   tick-tells m = tick-elim P s m (k .refuses 4) (phase-tells (s .phase) m)
 
   window-tells : (t : Transfer) (taken misses start count : ℕ) → P (ackWindow s t taken misses start count)
-  unfolding ackWindow taking
+  unfolding ackWindow ackBelow takingHold taking
   window-tells t taken misses start count =
       bad-elim P s t start count (k .rests _) (k .fails t 4)
-      (λ _. λ _. λ _. pick-elim P _ (λ _. k .rests _) (λ _. k .rests _))
+      (λ _. λ _. λ _. pick-elim P _
+      (λ _. pick-elim P _ (λ _. k .rests _) (λ _. k .rests _))
+      (λ _. k .rests _))
 
   ack-tells : (q : Phase) (start count : ℕ) → P (hearAck s q start count)
   unfolding hearAck ackOpening taking

@@ -38,19 +38,20 @@ leftBy hearBack w = withLines w (w .forward) (dropped (w .back))
 leftBy repeatBack w = w
 leftBy loseBack w = withLines w (w .forward) (dropped (w .back))
 
--- the buffer that a hearing of the receiver is lent
-abbrev pub lentBy : Call → List ℕ
-lentBy (begin message) = []
-lentBy (senderTick message) = []
-lentBy receiverTick = []
-lentBy hold = []
-lentBy resume = []
-lentBy (hearForward buffer) = buffer
-lentBy (repeatForward buffer) = buffer
-lentBy loseForward = []
-lentBy hearBack = []
-lentBy repeatBack = []
-lentBy loseBack = []
+-- the buffer that is seen at a call of the receiver: the one that a hearing is lent; a tick, a hold and a resume are lent
+-- none, and the receiving buffer stands there
+abbrev pub lentBy : Call → World → List ℕ
+lentBy (begin message) w = []
+lentBy (senderTick message) w = []
+lentBy receiverTick w = w .buffer
+lentBy hold w = w .buffer
+lentBy resume w = w .buffer
+lentBy (hearForward buffer) w = buffer
+lentBy (repeatForward buffer) w = buffer
+lentBy loseForward w = []
+lentBy hearBack w = []
+lentBy repeatBack w = []
+lentBy loseBack w = []
 
 -- all that a refused call does: no frame, no bytes, the lent buffer as it was; the number stands in the outcome
 abbrev pub refusedStep : World → Call → Event → Stepped
@@ -66,7 +67,7 @@ refusedStep w c e =
             sender = e .sender;
             receiver = e .receiver;
             bytes = receiver.noBytes;
-            lent = lentBy c;
+            lent = lentBy c w;
           };
     }
 

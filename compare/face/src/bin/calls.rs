@@ -8,6 +8,7 @@ use face::broken::{mistakes, Broken, Mistake};
 use face::call::{Tally, NAMES};
 use face::differences::first_difference;
 use face::ffi::Proved;
+use face::holding::Met;
 use face::Reference;
 
 const USAGE: &str = "usage: calls [--count N] [--seed S] [--mistake NAME]
@@ -43,7 +44,7 @@ fn options(mut words: impl Iterator<Item = String>) -> Option<Options> {
     Some(options)
 }
 
-/// A line for each function: calls, and answers by outcome.
+/// A line for each function: calls, and answers by outcome. Then one for each thing met of a hold.
 fn print(tally: &Tally) {
     for (place, name) in NAMES.iter().enumerate() {
         let outcomes: Vec<String> = tally.outcomes[place]
@@ -57,6 +58,9 @@ fn print(tally: &Tally) {
             tally.calls[place],
             outcomes.join(", ")
         );
+    }
+    for met in Met::ALL {
+        println!("calls: of a hold: {met:24?} {:9}", tally.met[met as usize]);
     }
 }
 

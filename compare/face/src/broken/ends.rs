@@ -4,12 +4,12 @@ use super::Mistake;
 use crate::values::*;
 
 const OPENING: u8 = 1;
-const SENDING: u8 = 2;
-const WAITING: u8 = 3;
+pub(super) const SENDING: u8 = 2;
+pub(super) const WAITING: u8 = 3;
 const SHORT: u8 = 4;
 /// The receiver's phases.
 const DONE: u8 = 1;
-const OPEN: u8 = 2;
+pub(super) const OPEN: u8 = 2;
 
 pub const MISTAKES: &[(&str, Mistake)] = &[
     (
@@ -149,7 +149,7 @@ fn silence(emits: &mut bool, frame: &mut FlatFrame) {
     *frame = FlatFrame::default();
 }
 
-fn filled(kind: u8, first: &[u8]) -> FlatFrame {
+pub(super) fn filled(kind: u8, first: &[u8]) -> FlatFrame {
     let mut bytes = [0xFF; 8];
     bytes[..first.len()].copy_from_slice(first);
     FlatFrame { kind, bytes }

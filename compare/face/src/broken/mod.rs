@@ -3,6 +3,7 @@
 pub mod around;
 pub mod clean;
 mod ends;
+mod hold;
 
 use crate::interface::{Around, Ends};
 use crate::values::*;
@@ -18,6 +19,8 @@ pub enum Mistake {
     SenderHear(fn(FlatSender, FlatFrame, &mut FlatSenderAnswer)),
     ReceiverMake(fn([u16; 3], &mut FlatReceiverMade)),
     ReceiverTick(fn(FlatReceiver, &mut FlatReceiverAnswer)),
+    ReceiverHold(fn(FlatReceiver, &mut FlatReceiverAnswer)),
+    ReceiverResume(fn(FlatReceiver, &mut FlatReceiverAnswer)),
     ReceiverHear(fn(FlatReceiver, FlatFrame, &mut [u8], &mut FlatReceiverAnswer)),
     /// With length and gap.
     Clean(fn([u32; 2], &mut FlatCleanFigures)),
@@ -45,7 +48,13 @@ pub struct Broken(pub Mistake);
 
 /// Every mistake, by its name.
 pub fn mistakes() -> Vec<(&'static str, Mistake)> {
-    [ends::MISTAKES, clean::MISTAKES, around::MISTAKES].concat()
+    [
+        ends::MISTAKES,
+        hold::MISTAKES,
+        clean::MISTAKES,
+        around::MISTAKES,
+    ]
+    .concat()
 }
 
 /// The right answer, changed by the mistake where it is one of this call.
@@ -97,6 +106,16 @@ impl Ends for Broken {
             ReceiverTick,
             receiver
         )
+    }
+
+    fn receiver_hold(&self, receiver: FlatReceiver) -> FlatReceiverAnswer {
+        let right = Reference.receiver_hold(receiver);
+        answered!(self, right, ReceiverHold, receiver)
+    }
+
+    fn receiver_resume(&self, receiver: FlatReceiver) -> FlatReceiverAnswer {
+        let right = Reference.receiver_resume(receiver);
+        answered!(self, right, ReceiverResume, receiver)
     }
 
     fn receiver_hear(

@@ -172,6 +172,11 @@ fn post() -> Row {
     )
 }
 
+/// What a held receiver asks for: the frame before the last start.
+fn before(sender: FlatSender) -> FlatFrame {
+    frame(2, &[sender.start - 1, 1])
+}
+
 pub fn sender_rows() -> Vec<Row> {
     vec![
         Row::new(
@@ -198,6 +203,7 @@ pub fn sender_rows() -> Vec<Row> {
         tick("tick, refused 4", sending(), 1784),
         hear("hear LM_ACK, taken", waiting(), frame(2, &[111, 10])),
         hear("hear LM_ACK, ignored", waiting(), frame(2, &[100, 10])),
+        hear("hear LM_ACK of a hold", waiting(), before(waiting())),
         hear("hear LM_NACK", waiting(), frame(3, &[2])),
         hear("hear EndofACK", waiting(), frame(4, &[255, 0xF9, 0x06])),
         hear("hear SM_ACK", short(), frame(6, &message(8)[..1])),
@@ -222,6 +228,13 @@ fn open() -> FlatReceiver {
     }
 }
 
+fn held() -> FlatReceiver {
+    FlatReceiver {
+        held: true,
+        ..open()
+    }
+}
+
 fn delivered() -> FlatReceiver {
     FlatReceiver {
         phase: 1,
@@ -239,6 +252,14 @@ fn makes_receiver(face: impl Ends) -> impl FnMut() -> FlatReceiverMade {
 
 fn receiver_ticks(face: impl Ends, receiver: FlatReceiver) -> impl FnMut() -> FlatReceiverAnswer {
     given(receiver, move |receiver| face.receiver_tick(*receiver))
+}
+
+fn holds(face: impl Ends, receiver: FlatReceiver) -> impl FnMut() -> FlatReceiverAnswer {
+    given(receiver, move |receiver| face.receiver_hold(*receiver))
+}
+
+fn resumes(face: impl Ends, receiver: FlatReceiver) -> impl FnMut() -> FlatReceiverAnswer {
+    given(receiver, move |receiver| face.receiver_resume(*receiver))
 }
 
 fn receiver_hears(
@@ -268,6 +289,32 @@ fn receiver_tick(name: &str, receiver: FlatReceiver) -> Row {
     )
 }
 
+fn hold(name: &str, receiver: FlatReceiver) -> Row {
+    Row::new(
+        name,
+        holds(Proved, receiver),
+        holds(Behind, receiver),
+        given(receiver_of(receiver), |receiver| {
+            let mut end = receiver.clone();
+            let answer = end.hold();
+            (end, answer)
+        }),
+    )
+}
+
+fn resume(name: &str, receiver: FlatReceiver) -> Row {
+    Row::new(
+        name,
+        resumes(Proved, receiver),
+        resumes(Behind, receiver),
+        given(receiver_of(receiver), |receiver| {
+            let mut end = receiver.clone();
+            let answer = end.resume();
+            (end, answer)
+        }),
+    )
+}
+
 fn receiver_hear(name: &str, receiver: FlatReceiver, frame: FlatFrame, lent: usize) -> Row {
     let native = (receiver_of(receiver), frame_of(frame));
     let mut buffer = vec![0; lent];
@@ -290,6 +337,7 @@ pub fn receiver_rows() -> Vec<Row> {
     let information = |number: u8| frame(1, &[number, 1, 2, 3, 4, 5, 6, 7]);
     let expecting = |expected: u8| FlatReceiver { expected, ..open() };
     let late = FlatReceiver { wait: 9, ..open() };
+    let late_held = FlatReceiver { wait: 9, ..held() };
     let hear = |name: &str, receiver, frame| receiver_hear(name, receiver, frame, 1785);
     vec![
         Row::new(
@@ -303,12 +351,18 @@ pub fn receiver_rows() -> Vec<Row> {
         receiver_tick("tick, Idle", idle_receiver()),
         receiver_tick("tick, Open", open()),
         receiver_tick("tick, Open: LM_ACK again", late),
+        receiver_tick("tick, held: LM_ACK again", late_held),
+        hold("hold", open()),
+        hold("hold, refused 13", held()),
+        resume("resume", held()),
+        resume("resume, refused 13", open()),
         hear("hear frame 0, opens", idle_receiver(), announcement),
         hear("hear frame 0 again", expecting(1), announcement),
         hear("hear frame i, stored", open(), information(101)),
         hear("hear frame w, LM_ACK", expecting(110), information(110)),
         hear("hear frame N, delivered", expecting(255), information(255)),
         hear("hear frame i, ignored", open(), information(100)),
+        hear("hear frame i, held", held(), information(101)),
         hear("hear frame N after delivery", delivered(), information(255)),
         hear("hear LM_NACK", open(), frame(3, &[2])),
         hear("hear SM_RM", open(), frame(5, &[1, 2, 3])),
