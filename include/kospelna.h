@@ -1,9 +1,10 @@
 /* Kospelna for programs in C: the two transport ends of GB/T 27930 category B, version talk, parameter groups.
- * Link target/staticlib/libkospelna.a, which `rt staticlib kospelna` makes for x86-64. examples/bench.c is a whole bench.
+ * Link target/staticlib/libkospelna.a, which `rt staticlib kospelna` makes for x86-64. examples/bench.c is a whole bench,
+ * examples/hold.c a transfer that is held.
  *
- * Every function takes every value of its parameters and is proved to answer by document 01's rules (the equations stand in
- * crates/kospelna/specs/; 001 is the source of version talk and groups). Nothing is kept between calls: states go in and
- * come back by value, and may be copied and kept.
+ * Every function takes every value of its parameters and is proved to answer by the rules of documents 01 and 02 (the
+ * equations stand in crates/kospelna/specs/; 001 is the source of version talk and groups). Nothing is kept between calls:
+ * states go in and come back by value, and may be copied and kept.
  *
  * The caller's part: a pointer is not null and has as many bytes behind it as the length beside it says, also where that
  * is 0; nobody else writes these bytes during the call. A function writes its answer and the bytes that it is lent to write
@@ -39,7 +40,7 @@ enum {
     KOSPELNA_REFUSAL_VALUE = 10,        /* group: a value outside its range; version message: CAN type or result */
     KOSPELNA_REFUSAL_VERSIONS = 11,     /* version list, making a talker: not 1 to 8 strictly rising versions */
     KOSPELNA_REFUSAL_PACK = 12,         /* the player's run pack: no function here answers it */
-    KOSPELNA_REFUSAL_HOLD = 13          /* hold: none open, frame 1 is expected, or held; resume: not held */
+    KOSPELNA_REFUSAL_HOLD = 13          /* hold: no connection, frame 1 expected, or held already; resume: not held */
 };
 
 /* Outcomes: what a call of an end or of a talker came to. */
@@ -87,7 +88,7 @@ typedef struct kospelna_frame {
 /* The cause in an LM_NACK, its d0. */
 enum {
     KOSPELNA_NACK_NO_SPACE = 1,     /* the receiver: L is above its capacity */
-    KOSPELNA_NACK_TIMEOUTS = 2,     /* either: three timeouts */
+    KOSPELNA_NACK_TIMEOUTS = 2,     /* either: three timeouts; the receiver: one too many while held */
     KOSPELNA_NACK_SENDING_TIME = 3, /* the sender: the sending time is over */
     KOSPELNA_NACK_FRAME_NUMBER = 4, /* either: a number above N */
     KOSPELNA_NACK_ANNOUNCEMENT = 5  /* the receiver: an announcement whose N and L do not fit */
@@ -112,7 +113,7 @@ enum {
     KOSPELNA_SHORT_MAX = 8,      /* messages of 1 to 8 bytes go short */
     KOSPELNA_MESSAGE_MAX = 1785, /* of 9 to 1785 long: 255 frames of 7 bytes */
     KOSPELNA_BUFFER_LENGTH = 1785,
-    KOSPELNA_HELD_TIMEOUTS_MAX = 20 /* of one connection */
+    KOSPELNA_HELD_TIMEOUTS_MAX = 20 /* timeouts of one connection while it is held */
 };
 
 /* ---- The sender ----
@@ -212,7 +213,7 @@ typedef struct kospelna_receiver {
     uint16_t wait;     /* ticks waited: Open */
     uint16_t misses;   /* timeouts in a row: Open */
     bool held;         /* the transfer is held: Open */
-    uint16_t holds;    /* timeouts of this connection while it was held: Open */
+    uint16_t holds;    /* timeouts that this connection has had while held: Open */
 } kospelna_receiver;
 
 typedef struct kospelna_receiver_made {
@@ -237,15 +238,16 @@ kospelna_receiver_made kospelna_receiver_make(uint16_t timeout, uint16_t window,
 /* A tick; never refused. */
 kospelna_receiver_answer kospelna_receiver_tick(kospelna_receiver receiver);
 
-/* Holds the transfer: a receiver that is busy. Emits LM_ACK e - 1, 1, and so does every timeout from then on; the sender
- * answers with the frame that the receiver has already, so that neither end gives up. Every information frame is ignored.
- * Of its timeouts while held a connection has KOSPELNA_HELD_TIMEOUTS_MAX in all, however often it is resumed; where one
- * more would fall due it fails, KOSPELNA_CAUSE_TIMEOUTS. Refused 13 where no connection is open, where frame 1 is still
- * expected, and where the transfer is held. */
+/* Holds the transfer, where the receiver is busy. Emits LM_ACK e - 1, 1, and every timeout while held emits it again. The
+ * sender answers with that one frame, which the receiver has already; its sending time runs on, and so do its own timeouts
+ * from one LM_ACK to the next. Every information frame is ignored while held; other kinds are heard as ever, and an LM_NACK
+ * ends the hold with the connection. A connection has KOSPELNA_HELD_TIMEOUTS_MAX of these timeouts in all, however often it
+ * is resumed: where one more falls due it fails, KOSPELNA_CAUSE_TIMEOUTS. Refused 13 where no connection is open, where
+ * frame 1 is expected, and where the transfer is held already. */
 kospelna_receiver_answer kospelna_receiver_hold(kospelna_receiver receiver);
 
-/* Ends the hold: asks for the window from the expected frame on. Refused 13 where the transfer is not held. Neither call
- * alters wait or misses. */
+/* Ends the hold: asks for a window from the frame expected on. Refused 13 where the transfer is not held. Neither hold nor
+ * resume alters wait or misses. */
 kospelna_receiver_answer kospelna_receiver_resume(kospelna_receiver receiver);
 
 /* A frame is heard: kind 1, 3, 5 or 7. Message bytes go to their place in the buffer, the rest of it stays: lend the same
@@ -260,7 +262,7 @@ kospelna_receiver_answer kospelna_receiver_hear(kospelna_receiver receiver, kosp
  * What a long transfer takes where nothing goes wrong: a session in which frames were lost or repeated is rated by how its
  * report stands against the clean figures of its length and gap. A session is clean if, with what `sent` asks above,
  *   - both ends were just made when the transfer began, and nothing was on the line;
- *   - no frame is on the line at a tick of either end, and none was lost or repeated;
+ *   - no frame is on the line at a tick of either end, none was lost or repeated, and the transfer is not held;
  *   - the two ends tick by turns, either of them first;
  *   - both timeouts are above the gap, the sending time is above N times the gap, and the capacity is at least L.
  * Then the sender's one report is `sent`, with exactly these figures, and the receiver has delivered the message once.

@@ -1,21 +1,9 @@
 /* Plays document 01's example over the C face: both ends, and the line as two lists of its own. Prints its seven lines,
  * which .ci/face compares with the sample's. Exits 1 where a state, a frame, the buffer, a limit, a failure, a refusal or
  * a clean figure is another than it should be. */
-#include "kospelna.h"
-
-#include <stdio.h>
-#include <stdlib.h>
-#include <string.h>
+#include "ends.h"
 
 enum { PLACES = 16 };
-
-static void must(bool held, const char *what)
-{
-    if (!held) {
-        fprintf(stderr, "face: %s\n", what);
-        exit(1);
-    }
-}
 
 static void print_frame(int event, char end, kospelna_frame f)
 {
@@ -46,7 +34,6 @@ static kospelna_frame take(struct queue *q)
 static kospelna_sender sender;
 static kospelna_receiver receiver;
 static const uint8_t message[9] = {1, 2, 3, 4, 5, 6, 7, 8, 9};
-static uint8_t buffer[KOSPELNA_BUFFER_LENGTH];
 
 static void sender_did(int event, kospelna_sender_answer a)
 {
@@ -91,25 +78,6 @@ static void play(int event, int what)
     }
 }
 
-static bool goes_out(bool emits, kospelna_frame frame, kospelna_frame due)
-{
-    return emits && memcmp(&frame, &due, sizeof due) == 0;
-}
-
-static bool same_sender(kospelna_sender a, kospelna_sender b)
-{
-    return a.gap == b.gap && a.timeout == b.timeout && a.limit == b.limit && a.phase == b.phase && a.length == b.length
-        && a.frames == b.frames && a.first == b.first && a.age == b.age && a.emitted == b.emitted && a.wait == b.wait
-        && a.misses == b.misses && a.start == b.start && a.due == b.due && a.last == b.last && a.count == b.count;
-}
-
-static bool same_receiver(kospelna_receiver a, kospelna_receiver b)
-{
-    return a.timeout == b.timeout && a.window == b.window && a.capacity == b.capacity && a.phase == b.phase
-        && a.frames == b.frames && a.length == b.length && a.expected == b.expected && a.last == b.last
-        && a.wait == b.wait && a.misses == b.misses;
-}
-
 /* Both ends after the begin and the announcement's hearing, by the names of their fields. */
 static void opened(void)
 {
@@ -119,7 +87,8 @@ static void opened(void)
          "the sender after begin");
     const kospelna_receiver r = kospelna_receiver_tick(receiver).next;
     must(r.timeout == 10 && r.window == 2 && r.capacity == KOSPELNA_CAPACITY_MAX && r.phase == KOSPELNA_RECEIVER_OPEN
-             && r.frames == 2 && r.length == 9 && r.expected == 1 && r.last == 2 && r.wait == 1 && r.misses == 0,
+             && r.frames == 2 && r.length == 9 && r.expected == 1 && r.last == 2 && r.wait == 1 && r.misses == 0 && !r.held
+             && r.holds == 0,
          "the receiver after the announcement and a tick");
 }
 
@@ -148,25 +117,6 @@ static void example(void)
         must(buffer[i] == 0xAA, "the rest of the buffer has changed");
 }
 
-/* Frames that go out or are heard below: of the message of nine bytes, so N 2, and of its first three. */
-static const kospelna_frame announcement = {KOSPELNA_KIND_INFORMATION, {0, 2, 9, 0, 255, 255, 255, 255}};
-static const kospelna_frame first_part = {KOSPELNA_KIND_INFORMATION, {1, 1, 2, 3, 4, 5, 6, 7}};
-static const kospelna_frame last_part = {KOSPELNA_KIND_INFORMATION, {2, 8, 9, 255, 255, 255, 255, 255}};
-static const kospelna_frame lm_ack = {KOSPELNA_KIND_LM_ACK, {1, 2, 255, 255, 255, 255, 255, 255}};
-static const kospelna_frame endofack = {KOSPELNA_KIND_LM_ENDOFACK, {2, 9, 0, 255, 255, 255, 255, 255}};
-static const kospelna_frame sm_rm = {KOSPELNA_KIND_SM_RM, {1, 2, 3, 255, 255, 255, 255, 255}};
-static const kospelna_frame sm_ack = {KOSPELNA_KIND_SM_ACK, {1, 255, 255, 255, 255, 255, 255, 255}};
-
-static kospelna_frame nack(uint8_t cause)
-{
-    return (kospelna_frame){KOSPELNA_KIND_LM_NACK, {cause, 255, 255, 255, 255, 255, 255, 255}};
-}
-
-static kospelna_receiver_answer hears(kospelna_receiver end, kospelna_frame frame)
-{
-    return kospelna_receiver_hear(end, frame, buffer, sizeof buffer);
-}
-
 /* An ignored frame leaves every field that the phase has, and 0 in every other, each in its place. */
 static void places(void)
 {
@@ -188,7 +138,7 @@ static void places(void)
 
     kospelna_receiver r = {
         .timeout = 257, .window = 258, .capacity = 259, .phase = KOSPELNA_RECEIVER_OPEN, .frames = 201, .length = 260,
-        .expected = 2, .last = 3, .wait = 261, .misses = 262};
+        .expected = 2, .last = 3, .wait = 261, .misses = 262, .held = true, .holds = 263};
     kospelna_receiver_answer a = kospelna_receiver_hear(r, old, buffer, sizeof buffer);
     must(!a.emits && a.outcome == KOSPELNA_QUIET && same_receiver(a.next, r), "a field of Open");
     r.phase = 3;
@@ -252,11 +202,6 @@ static bool sender_failed(kospelna_sender_answer a, int cause, int ticks, int fr
 {
     return a.outcome == KOSPELNA_FAILED && a.refusal == 0 && a.cause == cause && a.ticks == ticks && a.frames == frames
         && a.next.phase == KOSPELNA_SENDER_IDLE;
-}
-
-static bool receiver_failed(kospelna_receiver_answer b, int cause)
-{
-    return b.outcome == KOSPELNA_FAILED && b.refusal == 0 && b.cause == cause && b.next.phase == KOSPELNA_RECEIVER_IDLE;
 }
 
 /* The sender's failures: the sending time of one tick, a NACK that is heard, and by document 01's edge cases an LM_ACK that

@@ -15,6 +15,7 @@ use Rattle.kospelna.specs.declared.receive.FlatReceiverAnswer.{FlatRecei
 use Rattle.kospelna.specs.declared.receive.FlatReceiverMade.{FlatReceiverMade}
 use Rattle.kospelna.specs.declared.receive.Report.{Report}
 use Rattle.receiver.specs.Hear.{hearOf}
+use Rattle.receiver.specs.Hold.{holdOf, resumeOf}
 use Rattle.receiver.specs.Make.{makeOf}
 use Rattle.receiver.specs.Tick.{tickOf}
 use Rattle.receiver.specs.Told.{toldMade, toldOutcome, Told, told, heard}
@@ -150,10 +151,16 @@ module _ (a : FlatReceiverAnswer) (t : Told) (r : FlatReceiver) (q : Receiver) (
   pub ticked : t ≡ tickOf q → a ≡ flatAnswer (tickOf (receiverFrom r))
   ticked e = cc
 
+  pub held-so : t ≡ holdOf q → a ≡ flatAnswer (holdOf (receiverFrom r))
+  held-so e = cc
+
+  pub resumed : t ≡ resumeOf q → a ≡ flatAnswer (resumeOf (receiverFrom r))
+  resumed e = cc
+
   pub heard-so : (f : FlatFrame) (g : Frame) (before after : List ℕ) → g ≡ frameFrom f
       → heard t after ≡ hearOf q g before
       → hearing a after ≡ flatHeard (hearOf (receiverFrom r) (frameFrom f) before)
   unfolding flatHeard
   heard-so f g before after frame e = cc
 
-pub ruleset calls = (made-so, ticked, heard-so)
+pub ruleset calls = (made-so, ticked, held-so, resumed, heard-so)

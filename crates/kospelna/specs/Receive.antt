@@ -1,6 +1,7 @@
 -- The receiver in C's layouts: what a flat receiver is read as, and how the receiver and its answers are written. Document
 -- 01, The receiver, has its states and reports; the phases' and the outcomes' numbers are the face's own.
 use Prim.Native.Nat.{ℕ}
+use mathlib.Core.Bool.{false}
 use mathlib.Core.Path.{_≡_}
 use mathlib.Core.List.{List}
 use lib.Dec.{eqb}
@@ -31,6 +32,8 @@ connectionFrom r =
       last = r .last;
       wait = r .wait;
       misses = r .misses;
+      held = r .held;
+      holds = r .holds;
     }
 
 -- 1 Idle with the N and L last delivered, 2 Open; every other number is read as Idle
@@ -61,12 +64,23 @@ flatOf settings phase x =
       last = x .last;
       wait = x .wait;
       misses = x .misses;
+      held = x .held;
+      holds = x .holds;
     }
 
--- N and L, and 0 for what a delivery has not
+-- N and L, and 0 and false for what a delivery has not
 abbrev pub remembering : ℕ → ℕ → Connection
 remembering frames length =
-    record { frames = frames; length = length; expected = 0; last = 0; wait = 0; misses = 0 }
+    record {
+      frames = frames;
+      length = length;
+      expected = 0;
+      last = 0;
+      wait = 0;
+      misses = 0;
+      held = false;
+      holds = 0;
+    }
 
 -- 0 Idle, 1 Idle with a delivery remembered, 2 Open
 unfoldable pub flatPhase : Settings → Phase → FlatReceiver
@@ -77,7 +91,7 @@ flatPhase settings (Open x) = flatOf settings 2 x
 abbrev pub flatReceiver : Receiver → FlatReceiver
 flatReceiver r = flatPhase (r .settings) (r .phase)
 
--- The flat receivers that writing makes: a known phase number, and 0 in what the phase has not.
+-- The flat receivers that writing makes: a known phase number, and 0 or false in what the phase has not.
 pub data Written (r : FlatReceiver) : Type 0 where
   idle : r .phase ≡ 0 → connectionFrom r ≡ remembering 0 0 → Written r
   done : r .phase ≡ 1 → connectionFrom r ≡ remembering (r .frames) (r .length) → Written r

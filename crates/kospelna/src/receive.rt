@@ -18,6 +18,7 @@ ghost use Rattle.kospelna.specs.Receive.{
   flatHeard,
 };
 ghost use Rattle.receiver.specs.Hear.{hearOf};
+ghost use Rattle.receiver.specs.Hold.{holdOf, resumeOf};
 ghost use Rattle.receiver.specs.Make.{makeOf};
 ghost use Rattle.receiver.specs.Tick.{tickOf};
 ghost use Rattle.receiver.specs.Told.{toldMade, toldOutcome, told};
@@ -35,7 +36,8 @@ use receiver::Settings;
 
 // A receiver: timeout T, window C and capacity K; the phase's number (0 Idle, 1 Idle with a
 // delivery remembered, 2 Open; any other is read as Idle); N and L; the frame expected, the
-// window's last, wait and misses. What a phase has not is written as 0 and not read.
+// window's last, wait and misses; whether the transfer is held, and the timeouts while it was. What
+// a phase has not is written as 0, the mark as false, and not read.
 #[repr(C)]
 pub struct FlatReceiver {
     pub timeout: u16,
@@ -48,6 +50,8 @@ pub struct FlatReceiver {
     pub last: u8,
     pub wait: u16,
     pub misses: u16,
+    pub held: bool,
+    pub holds: u16,
 }
 
 // What making answers: the refusal's number, 0 where there is none, and the receiver, zeros where
@@ -92,6 +96,8 @@ fn read_connection(r: FlatReceiver) -> Connection
         last: r.last,
         wait: r.wait,
         misses: r.misses,
+        held: r.held,
+        holds: r.holds,
     }
 }
 
@@ -138,6 +144,8 @@ fn flat(settings: Settings, phase: u8, x: Connection) -> FlatReceiver
         last: x.last,
         wait: x.wait,
         misses: x.misses,
+        held: x.held,
+        holds: x.holds,
     }
 }
 
@@ -152,6 +160,8 @@ fn remembering(frames: u8, length: u16) -> Connection
         last: 0,
         wait: 0,
         misses: 0,
+        held: false,
+        holds: 0,
     }
 }
 
@@ -255,6 +265,22 @@ pub extern "C" fn kospelna_receiver_tick(receiver: FlatReceiver) -> FlatReceiver
     ensures { λ a. ⌜ a ≡ flatAnswer (tickOf (receiverFrom receiver)) ⌝ }
 {
     write_answer(read_receiver(receiver).tick())
+}
+
+// The transfer is held.
+#[no_mangle]
+pub extern "C" fn kospelna_receiver_hold(receiver: FlatReceiver) -> FlatReceiverAnswer
+    ensures { λ a. ⌜ a ≡ flatAnswer (holdOf (receiverFrom receiver)) ⌝ }
+{
+    write_answer(read_receiver(receiver).hold())
+}
+
+// The hold ends.
+#[no_mangle]
+pub extern "C" fn kospelna_receiver_resume(receiver: FlatReceiver) -> FlatReceiverAnswer
+    ensures { λ a. ⌜ a ≡ flatAnswer (resumeOf (receiverFrom receiver)) ⌝ }
+{
+    write_answer(read_receiver(receiver).resume())
 }
 
 // A frame is heard, with the buffer lent.
