@@ -9,6 +9,8 @@ pub mod Lives
 pub mod Theorem
 pub mod Example
 pub mod HeldExample
+pub mod Climbs
+pub mod Unmet
 pub mod CleanExample
 pub mod Runs
 pub mod CleanSends

@@ -162,7 +162,7 @@ pub left-line : {P : Frame → Type 0} {f : Frame} {fs : List Frame} (k : Rest) 
 left-line gone l = behind l
 left-line still l = l
 
-left-ordered : {P Q : Frame → Type 0} {f : Frame} {fs : List Frame} (k : Rest) → Ordered P Q (f ∷ fs)
+pub left-ordered : {P Q : Frame → Type 0} {f : Frame} {fs : List Frame} (k : Rest) → Ordered P Q (f ∷ fs)
     → Ordered P Q (leaving k f fs)
 left-ordered gone o = behind-ordered o
 left-ordered still o = o

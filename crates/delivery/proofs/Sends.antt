@@ -331,4 +331,4 @@ idle-tick st l = tick-elim (Rests st) (senderIn st Idle) l refuses ignores
 
 pub idle-hear : (st : Settings) (f : Frame) → Rests st (hearOf (senderIn st Idle) f)
 unfolding hearAck hearNack hearEnd hearShortAck
-idle-hear st f = hear-elim (Rests st) (senderIn st Idle) f (λ _. refuses) ignores ignores ignores ignores
+idle-hear st f = hear-elim (Rests st) (senderIn st Idle) f (λ _. refuses) (λ _. ignores) ignores ignores ignores

@@ -169,13 +169,13 @@ AllAsked Lax p [] = Unit
 AllAsked Lax p (c ∷ calls) = Asked Lax p c (stepOf (p .world) c .event) × AllAsked Lax (next stepOf p c) calls
 
 -- the settings that making allows, as far as they are needed
-record Limits (st : Settings) (rs : receiver-settings.Settings) : Type 0 where
-  some : 1 ≤ st .limit
-  few : st .limit ≤ 60000
-  pos : 1 ≤ rs .timeout
-  small : rs .timeout ≤ 10000
+pub record Limits (st : Settings) (rs : receiver-settings.Settings) : Type 0 where
+  pub some : 1 ≤ st .limit
+  pub few : st .limit ≤ 60000
+  pub pos : 1 ≤ rs .timeout
+  pub small : rs .timeout ≤ 10000
 
-resume-no-hold : view.resume ≡ view.hold → ⊥
+pub resume-no-hold : view.resume ≡ view.hold → ⊥
 resume-no-hold e = subst IsResume e tt
   where
     IsResume : view.Pause → Type 0
@@ -311,7 +311,7 @@ receiver-made timeout window capacity r = go (receiver-making.settingsFit timeou
     go true e q = let z : fresh-receiver ≡ r = cc in subst (ReceiverMade timeout window capacity) z (fits e)
     go false e q = let z : _≡_ {A = ℕ} 0 1 = cc in absurd (omega arith)
 
-limits-of : (gap timeout limit timeout′ window capacity : ℕ)
+pub limits-of : (gap timeout limit timeout′ window capacity : ℕ)
     → sender-making.settingsFit gap timeout limit ≡ true
     → receiver-making.settingsFit timeout′ window capacity ≡ true
     → Limits (record { gap = gap; timeout = timeout; limit = limit }) (record { timeout = timeout′; window = window; capacity = capacity })

@@ -7,4 +7,5 @@ pub mod Clean
 pub mod Lenient
 pub mod Example
 pub mod HeldExample
+pub mod Unmet
 pub mod CleanExample

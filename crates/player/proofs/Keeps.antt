@@ -8,11 +8,15 @@ use mathlib.Core.Path.{_≡_, refl, subst}
 use lib.ListN.{replicate}
 use Rattle.delivery.proofs.Runs.{capped-demand-3}
 use Rattle.delivery.specs.Demand3.{LentMessage, Condition, Conditions, Promise}
+use Rattle.delivery.proofs.Unmet.{never-met}
+use Rattle.delivery.specs.Clean.{CallsMeet}
+use Rattle.delivery.specs.Unmet.{NoHoldBy, NoHold}
+use Rattle.receiver.specs.Told as receiver
 use Rattle.delivery.specs.Run.{Past, fresh, next, runOf}
 use Rattle.delivery.specs.Seen.{Sort, begins, ticksSender, ticksReceiver, holdsReceiver, other, sortOf, taken, Begun, further, begunBy, begunIn, begunAfter, openedIn}
 use Rattle.frame.proofs.Choice.{pick-elim}
 use Rattle.player.proofs.Opened.{opened}
-use Rattle.player.specs.Claim.{PlayerMeets, newestFirst, PlayerKeeps, PackKeeps}
+use Rattle.player.specs.Claim.{PlayerMeets, newestFirst, PlayerKeeps, PlayerUnmet, PackKeeps}
 use Rattle.player.specs.Events.{callFor, turnFor, eventsFrom, worldAfter, runFrom, callsFor, callsFrom}
 use Rattle.player.specs.Played as played
 use Rattle.transport.proofs.Events.{call-of}
@@ -32,19 +36,19 @@ about-further : (m : List ℕ) (b : Begun) (ticks reports : ℕ) (ds : List (Lis
 about-further m Begun.never ticks reports ds a = tt
 about-further m (Begun.since message t r d) ticks reports ds a = a
 
--- no other begin comes
+-- no other begin comes, and no hold
 abbrev Goes : Sort → Type 0
 Goes (begins message) = ⊥
 Goes ticksSender = Unit
 Goes ticksReceiver = Unit
-Goes holdsReceiver = Unit
+Goes holdsReceiver = ⊥
 Goes other = Unit
 
 about-by : (m : List ℕ) (s : Sort) (accepted : Bool) (b : Begun) → Goes s → About m b → About m (begunBy s accepted b)
 about-by m (begins message) accepted b g a = absurd g
 about-by m ticksSender accepted b g a = a
 about-by m ticksReceiver accepted b g a = a
-about-by m holdsReceiver accepted b g a = a
+about-by m holdsReceiver accepted b g a = absurd g
 about-by m other accepted b g a = a
 
 about-step : (m : List ℕ) (w : World) (c : Call) (events : List Event) → Goes (sortOf c) → About m (begunIn events)
@@ -57,7 +61,7 @@ lent-message : (m : List ℕ) (b : Begun) → About m b → LentMessage b m
 lent-message m Begun.never a = tt
 lent-message m (Begun.since message ticks reports ds) a = λ _. a
 
--- an event's call: no begin, and it meets its condition
+-- an event's call: no begin and no hold, and it meets its condition
 goes-event : (m : List ℕ) (w : World) (event : ℕ) → Goes (sortOf (callFor w m event))
 unfolding callFor
 goes-event m w event =
@@ -123,3 +127,32 @@ unfolding played.runOf
 pack-keeps bytes q e =
     let k = q .bodies .settings in
     player-keeps (k .gap) (k .timeout) (k .limit) (k .patience) (k .window) (k .capacity) (q .ends) (opened bytes q e .made) (replicate 1785 0) _ _ refl
+
+-- ---- no hold
+
+goes-unheld : (s : Sort) (o : receiver.Outcome) → Goes s → NoHoldBy s o
+goes-unheld (begins message) o g = tt
+goes-unheld ticksSender o g = tt
+goes-unheld ticksReceiver o g = tt
+goes-unheld holdsReceiver o g = absurd g
+goes-unheld other o g = tt
+
+unheld-events : (m events : List ℕ) (p : Past) → Conditions cappedStep p (callsFor (p .world) m events)
+    → CallsMeet NoHold cappedStep p (callsFor (p .world) m events)
+unfolding callsFor turnFor
+unheld-events m [] p d = tt
+unheld-events m (event ∷ events) p d =
+    let c = callFor (p .world) m event in (
+      d .0,
+      goes-unheld (sortOf c) (cappedStep (p .world) c .event .receiver) (goes-event m (p .world) event),
+      unheld-events m events (next cappedStep p c) (d .1),
+    )
+
+pub player-unmet : PlayerUnmet
+unfolding callsFrom
+player-unmet gap timeout limit patience window capacity ends e buffer m events =
+    let made = make-answers gap timeout limit patience window capacity ends e in
+    let p = fresh (ends .sender) (ends .receiver) buffer in
+    let meets = player-meets ends buffer m events in
+    never-met .capped gap timeout limit (ends .sender) (made .sender) patience window capacity (ends .receiver) (made .receiver) buffer
+    (callsFrom (p .world) m events) (meets .0, tt, unheld-events m events (next cappedStep p (begin m)) (meets .1))

@@ -1,11 +1,12 @@
 -- Demand 3 of what the player prints: its events are calls at a line of 64 that meet the conditions, so the promise holds of
--- the events that it prints.
+-- the events that it prints. And none of them is a hold, so that document 02's E2 changes nothing of what it prints.
 use Prim.Native.Nat.{ℕ}
 use mathlib.Core.List.{List, [], _∷_}
 use mathlib.Core.Path.{_≡_}
 use lib.ListN.{length}
 use Rattle.delivery.specs.Demand3.{Conditions, Promise}
 use Rattle.delivery.specs.Run.{fresh}
+use Rattle.delivery.specs.Unmet.{AllUnmet}
 use Rattle.frame.specs.Result.{accepted}
 use Rattle.player.specs.Events.{runFrom, callsFrom}
 use Rattle.player.specs.Played.{openOf, runOf}
@@ -44,3 +45,13 @@ PackKeeps =
     (bytes : List ℕ) (q : Player)
     → openOf bytes ≡ accepted q
     → Promise (q .bodies .settings .limit) (q .bodies .settings .patience) (newestFirst [] (runOf bytes q))
+
+-- Document 02, E2: whatever the message and the events, the sender hears no LM_ACK that the rule for holds takes
+abbrev pub PlayerUnmet : Type 0
+PlayerUnmet =
+    (gap timeout limit patience window capacity : ℕ) (ends : Ends)
+    → makeOf gap timeout limit patience window capacity ≡ accepted ends
+    → (buffer message events : List ℕ)
+    → (let s = ends .sender in
+    let r = ends .receiver in
+    AllUnmet cappedStep (fresh s r buffer) (callsFrom (startOf s r buffer) message events))

@@ -5,7 +5,7 @@ use Prim.Native.Nat.{ℕ, _≤_, _<_}
 use mathlib.Core.Path.{_≡_}
 use mathlib.Core.List.{List}
 use native.Mathlib.Omega.{arith}
-use borrow.Author.Tests.{leb-true, leb-false, ltb-false, eqb-false}
+use borrow.Author.Tests.{leb-true, leb-false, ltb-false, eqb-true, eqb-false}
 use lib.Dec.{eqb, leb}
 use lib.ListN.{length}
 use Rattle.frame.proofs.Choice.{pick-elim, read-elim, both-left, both-right, neither-left, neither-right}
@@ -91,9 +91,9 @@ module _ (P : Told → Type 0) where
           pick-elim P _ (λ _. above)
           (λ within. sound (omega arith) (omega arith) (ltb-false _ _ within)))
 
-    -- a hearing: refused, or by the kind
+    -- a hearing: refused, or by the kind (named where a proof needs it)
     pub hear-elim : (f : Frame) → ((number : ℕ) → P (refusing s number))
-        → P (hearAck s (s .phase) (byteOf f 0) (byteOf f 1))
+        → (f .kind ≡ 2 → P (hearAck s (s .phase) (byteOf f 0) (byteOf f 1)))
         → P (hearNack s (s .phase))
         → P (hearEnd s (s .phase) (byteOf f 0) (wordAt f 1 2))
         → P (hearShortAck s (s .phase) (byteOf f 0))
@@ -101,7 +101,7 @@ module _ (P : Told → Type 0) where
     unfolding hearOf hearRead hearKind
     hear-elim f refuses ack nack end short =
         read-elim (λ (j : Result Parsed). P (hearRead s f j)) f
-        (pick-elim P _ (λ _. ack)
+        (pick-elim P _ (λ two. ack (eqb-true _ _ two))
         (λ _. pick-elim P _ (λ _. nack)
         (λ _. pick-elim P _ (λ _. end) (λ _. pick-elim P _ (λ _. short) (λ _. refuses 7)))))
         (refuses 6)

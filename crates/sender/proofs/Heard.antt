@@ -79,4 +79,4 @@ module _ (s : Sender) where
 pub hearing-restarts-no-wait : HearingRestartsNoWait
 hearing-restarts-no-wait s f =
     let p = s .phase in
-    hear-elim (Heard s) s f (λ number. ignored refl refl refl) (acks s p _ _) (nacks s p) (ends s p _ _) (short-acks s p _)
+    hear-elim (Heard s) s f (λ number. ignored refl refl refl) (λ _. acks s p _ _) (nacks s p) (ends s p _ _) (short-acks s p _)

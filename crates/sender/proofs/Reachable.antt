@@ -253,7 +253,7 @@ module _ (s : Sender) (h : Within s) where
   hears : (f : Frame) → Keeps (hearOf s f)
   hears f =
       let p = s .phase in
-      hear-elim Keeps s f (λ _. h) (acks p _ _ (h .phase)) (nacks p) (ends p _ _) (short-acks p _)
+      hear-elim Keeps s f (λ _. h) (λ _. acks p _ _ (h .phase)) (nacks p) (ends p _ _) (short-acks p _)
 
   keeps : (call : Call) → Keeps (answerOf s call)
   keeps (begin m) = begins m

@@ -98,4 +98,4 @@ module _ (P : Told → Type 0) (s : Sender) (k : Forms P s) where
   pub hear-tells : (f : Frame) → P (hearOf s f)
   hear-tells f =
       let q = s .phase in
-      hear-elim P s f (k .refuses) (ack-tells q _ _) (nack-tells q) (end-tells q _ _) (short-tells q _)
+      hear-elim P s f (k .refuses) (λ _. ack-tells q _ _) (nack-tells q) (end-tells q _ _) (short-tells q _)
