@@ -3,8 +3,8 @@
  * examples/hold.c a transfer that is held.
  *
  * Every function takes every value of its parameters and is proved to answer by the rules of document 01, and of document
- * 02 as far as docs/landings/ has it (the equations stand in crates/kospelna/specs/; 001 is the source of version talk and groups). Nothing is kept between calls:
- * states go in and come back by value, and may be copied and kept.
+ * 02 as far as docs/landings/ has it (the equations stand in crates/kospelna/specs/; 001 is the source of version talk and
+ * groups). Nothing is kept between calls: states go in and come back by value, and may be copied and kept.
  *
  * The caller's part: a pointer is not null and has as many bytes behind it as the length beside it says, also where that
  * is 0; nobody else writes these bytes during the call. A function writes its answer and the bytes that it is lent to write
