@@ -153,7 +153,7 @@ typedef struct kospelna_sender {
     uint16_t emitted; /* frames emitted since begin: all but Idle */
     uint16_t wait;    /* ticks waited: Opening, Waiting, Short */
     uint16_t misses;  /* timeouts in a row: Opening, Sending, Waiting */
-    uint8_t start;    /* the last start taken from an LM_ACK: Sending, Waiting */
+    uint8_t start;    /* the last start taken from an LM_ACK, a hold's one below it apart: Sending, Waiting */
     uint8_t due;      /* the number of the frame that goes out next: Sending */
     uint8_t last;     /* the number of the window's last frame: Sending, Waiting */
     uint16_t count;   /* the gap count: Sending */

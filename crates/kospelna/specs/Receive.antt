@@ -1,5 +1,6 @@
 -- The receiver in C's layouts: what a flat receiver is read as, and how the receiver and its answers are written. Document
--- 01, The receiver, has its states and reports; the phases' and the outcomes' numbers are the face's own.
+-- 01, The receiver, has its states and reports, document 02, E2, the held mark and the count; the phases' and the outcomes'
+-- numbers are the face's own.
 use Prim.Native.Nat.{ℕ}
 use mathlib.Core.Bool.{false}
 use mathlib.Core.Path.{_≡_}
@@ -165,7 +166,7 @@ answerFrom a =
 abbrev pub madeFrom : FlatReceiverMade → Result Receiver
 madeFrom m = resultFrom receiverFrom (m .refusal) (m .receiver)
 
--- Theorem: nothing is lost. A caller reads off every state, every answer and every making what document 01 has there.
+-- Theorem: nothing is lost. A caller reads off every state, every answer and every making what the documents have there.
 abbrev pub ReceiverWhole : Type 0
 ReceiverWhole =
     ((r : Receiver) → receiverFrom (flatReceiver r) ≡ r)

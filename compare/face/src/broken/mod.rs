@@ -3,7 +3,7 @@
 pub mod around;
 pub mod clean;
 mod ends;
-mod hold;
+pub mod hold;
 
 use crate::interface::{Around, Ends};
 use crate::values::*;

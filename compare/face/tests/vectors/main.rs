@@ -3,10 +3,11 @@
 
 mod single;
 mod talk;
+mod transfer;
 mod words;
 
-use face::broken::{around, clean, Broken};
-use face::interface::Around;
+use face::broken::{around, clean, hold, Broken};
+use face::interface::Face;
 use face::Reference;
 
 use talk::Talk;
@@ -14,7 +15,7 @@ use talk::Talk;
 const TABLE: &str = include_str!("../../../../tests/vectors.txt");
 
 /// The first line at which a face answers otherwise than the table, by its number.
-fn difference(face: &impl Around, table: &str) -> Option<String> {
+fn difference(face: &impl Face, table: &str) -> Option<String> {
     let mut talk = Talk::new(face);
     let answered: String = table.lines().map(|line| talk.line(line)).collect();
     let end = ["(the end)"];
@@ -24,7 +25,7 @@ fn difference(face: &impl Around, table: &str) -> Option<String> {
     Some(format!("{}: {line}\nanswered: {answer}", place + 1))
 }
 
-fn check(face: &impl Around) {
+fn check(face: &impl Face) {
     if let Some(difference) = difference(face, TABLE) {
         panic!("tests/vectors.txt:{difference}");
     }
@@ -41,20 +42,23 @@ fn the_proved_code_answers_as_the_table_says() {
     check(&face::ffi::Proved);
 }
 
-/// All but the two in lists and places above 255, which no line has.
+/// All but three that show in states alone which no calls make, and two in lists and places above 255, which no line has.
 #[test]
 fn the_table_catches_every_mistake() {
-    let missed: Vec<&str> = [clean::MISTAKES, around::MISTAKES]
+    let missed: Vec<&str> = [clean::MISTAKES, hold::MISTAKES, around::MISTAKES]
         .concat()
         .into_iter()
         .filter(|(_, mistake)| difference(&Broken(*mistake), TABLE).is_none())
         .map(|(name, _)| name)
         .collect();
-    let wide = [
+    let beyond = [
+        "an opening takes up an old mark",
+        "an opening takes up an old count",
+        "the rule goes before NACK 4",
         "a list is counted modulo 256",
         "a place is taken modulo 256",
     ];
-    assert_eq!(missed, wide);
+    assert_eq!(missed, beyond);
 }
 
 /// In a call's answer, a message's time and a line left out or added.
@@ -62,6 +66,9 @@ fn the_table_catches_every_mistake() {
 fn an_altered_table_is_found() {
     for (line, altered) in [
         ("clean 9 1: 2 3", "clean 9 1: 2 2"),
+        ("R hold: Idle refused 13", "R hold: Idle"),
+        ("misses 2 holds 19", "misses 2 holds 18"),
+        ("S wait 5: Waiting", "S wait 4: Waiting"),
         ("find 71: 71 2 charger", "find 71: 71 3 charger"),
         ("list 01 01: refused 11", "list 01 01: refused 10"),
         ("310 said: 3 5", "310 said: 3 6"),

@@ -1,9 +1,10 @@
 //! A talk between a charger and a vehicle, and the table's lines.
 
-use face::interface::Around;
+use face::interface::Face;
 use face::values::*;
 
 use crate::single;
+use crate::transfer::Transfer;
 use crate::words::{byte, bytes, eight, hex, hexadecimal, told, version, RESULTS};
 
 /// A side, what it said last, and how many messages it sent.
@@ -29,6 +30,7 @@ pub struct Talk<'a, F> {
     face: &'a F,
     sides: [Speaker; 2],
     clock: u32,
+    transfer: Transfer<'a, F>,
 }
 
 fn place(side: &str) -> usize {
@@ -64,13 +66,14 @@ fn told_answer(answer: FlatTalkerAnswer) -> String {
     told_talker(answer.next) + &message + &report
 }
 
-impl<'a, F: Around> Talk<'a, F> {
+impl<'a, F: Face> Talk<'a, F> {
     pub fn new(face: &'a F) -> Talk<'a, F> {
         let sides = [Speaker::new(FlatTalker::default()); 2];
         Talk {
             face,
             sides,
             clock: 0,
+            transfer: Transfer::new(face),
         }
     }
 
@@ -92,6 +95,9 @@ impl<'a, F: Around> Talk<'a, F> {
             }
             ["talker", count, "of", ref numbers @ ..] => {
                 format!("{call}:{}\n", self.made_of(count, numbers))
+            }
+            ["sender" | "receiver" | "S" | "R", ..] => {
+                format!("{call}:{}\n", self.transfer.answer(&words))
             }
             [_, "C" | "V"] => String::new(),
             [_, "said"] => {
