@@ -2,9 +2,9 @@
  * Link target/staticlib/libkospelna.a, which `rt staticlib kospelna` makes for x86-64. examples/bench.c is a whole bench,
  * examples/hold.c a transfer that is held.
  *
- * Every function takes every value of its parameters and is proved to answer by the rules of documents 01 and 02 (the
- * equations stand in crates/kospelna/specs/; 001 is the source of version talk and groups). Nothing is kept between calls:
- * states go in and come back by value, and may be copied and kept.
+ * Every function takes every value of its parameters and is proved to answer by the rules of document 01, and of document
+ * 02 as far as docs/landings/ has it (the equations stand in crates/kospelna/specs/; 001 is the source of version talk and
+ * groups). Nothing is kept between calls: states go in and come back by value, and may be copied and kept.
  *
  * The caller's part: a pointer is not null and has as many bytes behind it as the length beside it says, also where that
  * is 0; nobody else writes these bytes during the call. A function writes its answer and the bytes that it is lent to write
@@ -103,7 +103,7 @@ enum {
     KOSPELNA_CAUSE_FRAME_NUMBER = 4
 };
 
-/* Limits of settings and lengths. */
+/* Limits of settings, lengths and held timeouts. */
 enum {
     KOSPELNA_GAP_MIN = 1,          KOSPELNA_GAP_MAX = 10,
     KOSPELNA_TIMEOUT_MIN = 1,      KOSPELNA_TIMEOUT_MAX = 10000,
@@ -153,7 +153,7 @@ typedef struct kospelna_sender {
     uint16_t emitted; /* frames emitted since begin: all but Idle */
     uint16_t wait;    /* ticks waited: Opening, Waiting, Short */
     uint16_t misses;  /* timeouts in a row: Opening, Sending, Waiting */
-    uint8_t start;    /* the last start taken from an LM_ACK, a hold's one below it apart: Sending, Waiting */
+    uint8_t start;    /* the last start taken from an LM_ACK; a hold's, one below it, leaves it: Sending, Waiting */
     uint8_t due;      /* the number of the frame that goes out next: Sending */
     uint8_t last;     /* the number of the window's last frame: Sending, Waiting */
     uint16_t count;   /* the gap count: Sending */
@@ -239,9 +239,10 @@ kospelna_receiver_made kospelna_receiver_make(uint16_t timeout, uint16_t window,
 kospelna_receiver_answer kospelna_receiver_tick(kospelna_receiver receiver);
 
 /* Holds the transfer, where the receiver is busy. Emits LM_ACK e - 1, 1, and every timeout while held emits it again. The
- * sender answers with that one frame, which the receiver has already; its sending time runs on, and so do its own timeouts
- * from one LM_ACK to the next. Every information frame is ignored while held; other kinds are heard as ever, and an LM_NACK
- * ends the hold with the connection. A connection has KOSPELNA_HELD_TIMEOUTS_MAX of these timeouts in all, however often it
+ * sender answers with that one frame, which the receiver has already; its sending time runs on, and so do its own timeouts.
+ * Where the hold came at a window's end, each LM_ACK that it hears of the hold sets its misses back to 0; inside a window
+ * they stay, and a sender whose timeout is the shorter fails in a long hold. Every information frame is ignored while held;
+ * other kinds are heard as ever, and an LM_NACK ends the hold with the connection. A connection has KOSPELNA_HELD_TIMEOUTS_MAX of these timeouts in all, however often it
  * is resumed: where one more falls due it fails, KOSPELNA_CAUSE_TIMEOUTS. Refused 13 where no connection is open, where
  * frame 1 is expected, and where the transfer is held already. */
 kospelna_receiver_answer kospelna_receiver_hold(kospelna_receiver receiver);

@@ -33,7 +33,7 @@ by-tests s t taken ignored false true which ht hi = refl
 by-tests s t taken ignored false false true ht hi = ht
 by-tests s t taken ignored false false false ht hi = hi
 
--- nor where a hold asks for a frame
+-- an LM_ACK below the last start shows nothing, a hold's or not
 below : (s : Sender) (t : Transfer) (last start count : ℕ) → shownHearing (ackBelow s t last start count) ≡ []
 unfolding ackBelow takingHold unlessRefused pick
 below s t last start count = go (asksToHold last start count)

@@ -14,6 +14,7 @@ use Rattle.frame.specs.Count.{frameCountOf, incrementOf}
 use Rattle.frame.specs.Frames.{fillTo, blankOf, announcementOf, informationOf, lmAckOf, endOfAckOf}
 use Rattle.frame.specs.Reading.{namedOf, allFiller, readOf}
 use Rattle.receiver.specs.Hear as receiver-hear
+use Rattle.receiver.specs.Hold as receiver-hold
 use Rattle.receiver.specs.Make as receiver-make
 use Rattle.receiver.specs.Tick as receiver-tick
 use Rattle.receiver.specs.Window as receiver-window
@@ -45,6 +46,8 @@ unfolding
     receiver-hear.hearOf receiver-hear.hearRead receiver-hear.hearKind receiver-hear.hearUnlessHeld receiver-hear.hearNumbered
     receiver-hear.hearAnnouncement receiver-hear.announceIdle receiver-hear.hearInformation
     receiver-hear.informationOpen receiver-hear.stored receiver-hear.storing receiver-window.windowOf
+    receiver-hold.holdOf receiver-hold.holdPhase receiver-hold.holdOpen
+    receiver-hold.resumeOf receiver-hold.resumePhase receiver-hold.resumeOpen
     receiver-tick.tickOf receiver-tick.tickPhase receiver-tick.tickOpen
 clean-examples =
     record {
@@ -84,6 +87,8 @@ clean-examples =
                 (tt, refl)
                 then (λ _. refl, refl)
                 then (λ t. absurd (false≢true t), refl)
+                then (tt, refl)
+                then (tt, tt)
                 then (tt, tt)
                 then (tt, ((refl, refl), tt))
                 then (λ _. λ _. refl, λ _. ((refl, refl), tt))

@@ -61,7 +61,7 @@ abbrev callOf : view.Pause → Call
 callOf view.hold = hold
 callOf view.resume = resume
 
--- a hearing that the receiver hears is not
+-- a frame that the receiver listened to was not refused
 heard-listens : (g : Given) (o : receiver.Outcome) → listened g o ≡ true → wasRefused o ≡ false
 heard-listens nobody o e = absurd (false≢true e)
 heard-listens (toSender f) o e = absurd (false≢true e)

@@ -2,8 +2,8 @@
 -- receiver asks from the frame that it expects, which only grows; it starts again at 1 only with another announcement, and
 -- none follows an information frame.
 -- Assumes nothing.
-use Prim.Native.Nat.{ℕ, zero, suc, _+_, _≤_, _<_}
-use mathlib.Core.Bool.{true, false, false≢true, and-false}
+use Prim.Native.Nat.{ℕ, zero, suc, _+_, _≤_}
+use mathlib.Core.Bool.{true, false, false≢true, _&&_, and-false}
 use mathlib.Core.List.{List, [], _∷_, _++_, append-nil}
 use mathlib.Core.Path.{_≡_, refl, sym, _∙_, subst}
 use native.Mathlib.Nat.{le-refl}
@@ -16,14 +16,14 @@ use Rattle.frame.specs.Count.{frameCountOf}
 use Rattle.frame.specs.Frames.{byteOf, announcementOf, informationOf, lmAckOf, lmNackOf, endOfAckOf, smAckOf}
 use Rattle.frame.specs.declared.Frame.{Frame}
 use Rattle.receiver.proofs.View as view
-use Rattle.receiver.proofs.View.{receiverIn, Shut, Ticks, Pauses, Hears}
+use Rattle.receiver.proofs.View.{Shut, Ticks, Pauses, Hears}
 use Rattle.receiver.specs.Told as receiver
 use Rattle.receiver.specs.declared.Phase as receiver-phase
 use Rattle.receiver.specs.declared.Phase.the-variants as at
 use Rattle.receiver.specs.declared.Settings as receiver-settings
 use Rattle.sender.proofs.Choices.{limit-elim, begin-elim, tick-elim, over-elim, timeout-elim, bad-elim, hear-elim}
 use Rattle.sender.specs.Begin.{beginOf, beginShort, beginLong}
-use Rattle.sender.specs.Hear.{hearOf, hearAck, hearNack, hearEnd, hearShortAck, ackOpening, ackWindow, taking, ifWhole, ifFirst}
+use Rattle.sender.specs.Hear.{asksToHold, hearOf, hearAck, hearNack, hearEnd, hearShortAck, ackOpening, ackWindow, taking, ifWhole, ifFirst}
 use Rattle.sender.specs.Tick.{informationAt, tickOf, tickPhase, tickOpening, tickSending, tickWaiting, tickShort, afterFrame}
 use Rattle.sender.specs.Told.{Told, silently}
 use Rattle.sender.specs.declared.Announced.{Announced}
@@ -86,7 +86,7 @@ left-rising still r = r
 
 -- ---- the receiver
 
--- no frame of the message has been accepted, or no starts above hi have been asked for; no hold stands
+-- Low: no frame of the message has been accepted. High: the frame expected is at least hi. In both no hold stands.
 abbrev pub Low : receiver-phase.Phase → Type 0
 Low at.Idle = Unit
 Low (at.Done y) = Unit
@@ -203,10 +203,10 @@ unfolding informationOf
 carries number m low a = let zero = a .1 in omega arith
 
 -- what a call of the sender tells: the transfer is over, or goes on, with a frame or without
-data Does (st : Settings) (lo : ℕ) : Told → Type 0 where
-  over : {a : Told} → a .next .phase ≡ Idle → Does st lo a
-  goes : {a : Told} → Climbing (a .next .phase) lo → a .emits ≡ false → Does st lo a
-  adds : {a : Told} → Climbing (a .next .phase) lo → a .emits ≡ true → Carrying (a .frame) → Does st lo a
+data Does (lo : ℕ) : Told → Type 0 where
+  over : {a : Told} → a .next .phase ≡ Idle → Does lo a
+  goes : {a : Told} → Climbing (a .next .phase) lo → a .emits ≡ false → Does lo a
+  adds : {a : Told} → Climbing (a .next .phase) lo → a .emits ≡ true → Carrying (a .frame) → Does lo a
 
 module _ (st : Settings) where
   after-climbs : (x : Streamed) → 1 ≤ x .next → x .next ≤ x .last → Climbing (afterFrame x) (x .start)
@@ -215,17 +215,17 @@ module _ (st : Settings) where
       pick-elim (λ (p : Phase). Climbing p (x .start)) _ (λ _. waiting (omega arith))
       (λ on. let more = leb-false (x .last) (x .next) on in sending (omega arith) (omega arith))
 
-  window-tick : {p : Phase} {lo : ℕ} → Climbing p lo → (m : List ℕ) → Does st lo (tickOf (senderIn st p) m)
+  window-tick : {p : Phase} {lo : ℕ} → Climbing p lo → (m : List ℕ) → Does lo (tickOf (senderIn st p) m)
   unfolding tickPhase tickSending tickWaiting
   window-tick {p} {lo} (sending {x} low high) m =
-      let P : Told → Type 0 = Does st lo in
+      let P : Told → Type 0 = Does lo in
       let s = senderIn st p in
       tick-elim P s m (goes (sending low high) refl)
       (over-elim P s (x .transfer) _ (over refl)
       (λ _. limit-elim P (st .gap) (x .gap) (adds (after-climbs x low high) refl (carries (x .next) m low))
       (λ _. goes (sending low high) refl)))
   window-tick {p} {lo} (waiting {x} low) m =
-      let P : Told → Type 0 = Does st lo in
+      let P : Told → Type 0 = Does lo in
       let s = senderIn st p in
       tick-elim P s m (goes (waiting low) refl)
       (over-elim P s (x .transfer) _ (over refl)
@@ -260,35 +260,31 @@ module _ (st : Settings) (hi : ℕ) (f : Frame) (rest : List Frame) (k : Rest) w
       (λ below. let under = ltb-true (byteOf f 0) taken below in absurd (omega arith))
       (λ _. goes (sending low (omega arith)) (takes-rising f rest k r) refl))
 
+  heeds-ack : {p : Phase} {lo : ℕ} (t : Transfer) (misses : ℕ) → Leaves (silently (senderIn st p)) → f .kind ≡ 2
+      → Rising lo (f ∷ rest) hi
+      → Leaves (ackWindow (senderIn st p) t lo misses (byteOf f 0) (byteOf f 1))
+  heeds-ack t misses same two (ack a r) = window-ack t _ misses same a r
+  heeds-ack t misses same two (other differs r) = absurd (differs two)
+
   window-hear : {p : Phase} {lo : ℕ} → Climbing p lo → Rising lo (f ∷ rest) hi → Leaves (hearOf (senderIn st p) f)
   unfolding hearAck hearNack hearEnd hearShortAck ifWhole
   window-hear {p} (sending {x} low high) r =
       let s = senderIn st p in
       let same : Leaves (silently s) = goes (sending low high) (left-rising k r) refl in
       hear-elim Leaves s f (λ _. goes (sending low high) (left-rising k r) refl)
-      (λ two. go two same r)
+      (λ two. heeds-ack (x .transfer) (x .misses) same two r)
       (over refl) (pick-elim Leaves _ (λ _. over refl) (λ _. same)) same
-    where
-      go : f .kind ≡ 2 → Leaves (silently (senderIn st (Sending x))) → Rising (x .start) (f ∷ rest) hi
-          → Leaves (ackWindow (senderIn st (Sending x)) (x .transfer) (x .start) (x .misses) (byteOf f 0) (byteOf f 1))
-      go two same (ack a r) = window-ack (x .transfer) (x .start) (x .misses) same a r
-      go two same (other differs r) = absurd (differs two)
   window-hear {p} (waiting {x} low) r =
       let s = senderIn st p in
       let same : Leaves (silently s) = goes (waiting low) (left-rising k r) refl in
       hear-elim Leaves s f (λ _. goes (waiting low) (left-rising k r) refl)
-      (λ two. go two same r)
+      (λ two. heeds-ack (x .transfer) (x .misses) same two r)
       (over refl) (pick-elim Leaves _ (λ _. over refl) (λ _. same)) same
-    where
-      go : f .kind ≡ 2 → Leaves (silently (senderIn st (Waiting x))) → Rising (x .start) (f ∷ rest) hi
-          → Leaves (ackWindow (senderIn st (Waiting x)) (x .transfer) (x .start) (x .misses) (byteOf f 0) (byteOf f 1))
-      go two same (ack a r) = window-ack (x .transfer) (x .start) (x .misses) same a r
-      go two same (other differs r) = absurd (differs two)
 
 -- ---- both ends and both lists
 
--- off: no long transfer is going on. opening: nothing but announcements is on forward, nothing but LM_ACK 1 on back. low: no
--- information frame has been heard. high: no announcement is left on forward.
+-- off: no long transfer is going on. opening: nothing but announcements is on forward, of LM_ACKs only those with start 1 on
+-- back. low: no information frame has been heard. high: no announcement is left on forward.
 pub data Climb : Phase → receiver-phase.Phase → (forward back : List Frame) → Type 0 where
   off : {p : Phase} {q : receiver-phase.Phase} {forward back : List Frame} → Off p → Climb p q forward back
   opening : {x : Announced} {q : receiver-phase.Phase} {forward back : List Frame}
@@ -339,14 +335,14 @@ module _ (st : Settings) where
     abbrev pub Sent : List Frame → Told → Type 0
     Sent back a = Climb (a .next .phase) q (forward ++ emission (a .emits) (a .frame)) back
 
-    does-low : {back : List Frame} {lo : ℕ} {a : Told} → Does st lo a → Low q → Ordered Announcing Carrying forward
+    does-low : {back : List Frame} {lo : ℕ} {a : Told} → Does lo a → Low q → Ordered Announcing Carrying forward
         → Rising lo back 1
         → Sent back a
     does-low (over e) l o r = idles e
     does-low (goes {a} c e) l o r = low {forward = forward ++ emission (a .emits) (a .frame)} c l (rw (e, append-nil) o) r
     does-low (adds {a} c e n) l o r = low {forward = forward ++ emission (a .emits) (a .frame)} c l (rw e (joins-late o n)) r
 
-    does-high : {back : List Frame} {lo hi : ℕ} {a : Told} → Does st lo a → High hi q → Line Carrying forward
+    does-high : {back : List Frame} {lo hi : ℕ} {a : Told} → Does lo a → High hi q → Line Carrying forward
         → Rising lo back hi
         → Sent back a
     does-high (over e) l o r = idles e
@@ -535,14 +531,15 @@ loses-back {back = back} (high c l o r) = high c l o (drop-rising back r)
 
 -- ---- no LM_ACK is below the last start taken
 
+not-asked : {lo hi : ℕ} {f : Frame} {rest : List Frame} → Rising lo (f ∷ rest) hi
+    → (eqb (f .kind) 2 && asksToHold lo (byteOf f 0) (byteOf f 1)) ≡ false
+not-asked {lo} {f = f} (ack a r) = rw (ne-eqb (byteOf f 0 + 1) lo (omega arith)) (and-false (eqb (f .kind) 2))
+not-asked {f = f} (other differs r) = rw (ne-eqb (f .kind) 2 differs) refl
+
 window-unmet : {p : Phase} {lo hi : ℕ} {f : Frame} {rest : List Frame} → Climbing p lo → Rising lo (f ∷ rest) hi
     → takenAsHold p f ≡ false
-window-unmet {f = f} (sending {x} _ _) (ack a r) =
-    rw (ne-eqb (byteOf f 0 + 1) (x .start) (omega arith)) (and-false (eqb (f .kind) 2))
-window-unmet {f = f} (sending _ _) (other differs r) = rw (ne-eqb (f .kind) 2 differs) refl
-window-unmet {f = f} (waiting {x} _) (ack a r) =
-    rw (ne-eqb (byteOf f 0 + 1) (x .start) (omega arith)) (and-false (eqb (f .kind) 2))
-window-unmet {f = f} (waiting _) (other differs r) = rw (ne-eqb (f .kind) 2 differs) refl
+window-unmet (sending _ _) r = not-asked r
+window-unmet (waiting _) r = not-asked r
 
 off-unmet : (p : Phase) (f : Frame) → Off p → takenAsHold p f ≡ false
 off-unmet Idle f o = refl

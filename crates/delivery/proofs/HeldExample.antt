@@ -1,12 +1,12 @@
 -- The lists of calls with holds, computed: the conditions of demand 3 can be met by a transfer that is held and delivered, by
 -- one whose 21st held timeout falls due, and by the longest connection of two frames.
 -- Assumes nothing.
-use mathlib.Core.Bool.{Bool, true, false, _&&_, false≢true}
+use mathlib.Core.Bool.{Bool, true, false, false≢true}
 use mathlib.Core.List.{List, [], _∷_}
 use mathlib.Core.Path.{_≡_, refl}
 use Rattle.delivery.specs.Demand3.{Conditions}
 use Rattle.delivery.specs.Example.{shownBefore, exampleBuffer}
-use Rattle.delivery.specs.HeldExample.{startAt, heldCalls, openCalls, heldTicks, lateCalls, longestTicks, HeldExamples}
+use Rattle.delivery.specs.HeldExample.{startAt, heldCalls, begunCalls, heldTicks, lateCalls, longestTicks, HeldExamples}
 use Rattle.delivery.specs.Run.{Past, next, runOf}
 use Rattle.delivery.specs.Seen.{begunIn, begunAfter, openedIn, openedAfter}
 use Rattle.frame.specs.Choice.{pick}
@@ -23,6 +23,11 @@ use Rattle.sender.specs.Tick as sender-tick
 use Rattle.transport.specs.Step.{givenForward, givenBack, stepOf}
 use Rattle.transport.specs.World.{Call, begin, senderTick, receiverTick, hold, resume}
 use Rattle.transport.specs.World.{hearForward, repeatForward, loseForward, hearBack, repeatBack, loseBack}
+
+-- what is asked of a call, before what is asked of the calls after it
+infixr 5 _then_
+_then_ : {A B : Type 0} → A → B → A × B
+here then after = (here, after)
 
 -- of these calls demand 3 asks nothing
 allReceivers : List Call → Bool
@@ -56,7 +61,7 @@ free (loseBack ∷ calls) e p = absurd (false≢true e)
 
 pub held-examples : HeldExamples
 unfolding
-    shownBefore exampleBuffer heldCalls openCalls heldTicks lateCalls longestTicks allReceivers
+    shownBefore exampleBuffer heldCalls begunCalls heldTicks lateCalls longestTicks allReceivers
     runOf stepOf givenForward givenBack begunIn begunAfter openedIn openedAfter
     pick frameCountOf incrementOf
     fillTo blankOf announcementOf informationOf lmAckOf lmNackOf endOfAckOf
@@ -78,75 +83,38 @@ held-examples =
       held =
           record {
             shows = refl;
-            meets = (
-              λ _. (refl, refl, refl),
-              (
-                tt,
-                (
-                  λ _. refl,
-                  (
-                    tt,
-                    (
-                      tt,
-                      (
-                        tt,
-                        (
-                          λ _. λ _. refl,
-                          (
-                            λ _. refl,
-                            (
-                              tt,
-                              (
-                                tt,
-                                (
-                                  tt,
-                                  (
-                                    tt,
-                                    (
-                                      λ _. λ _. refl,
-                                      (
-                                        λ _. refl,
-                                        (
-                                          tt,
-                                          (
-                                            tt,
-                                            (
-                                              tt,
-                                              (
-                                                λ _. λ _. refl,
-                                                (
-                                                  tt,
-                                                  (
-                                                    tt,
-                                                    (
-                                                      tt,
-                                                      (λ _. λ _. refl, (λ _. refl, (tt, (tt, tt)))),
-                                                    ),
-                                                  ),
-                                                ),
-                                              ),
-                                            ),
-                                          ),
-                                        ),
-                                      ),
-                                    ),
-                                  ),
-                                ),
-                              ),
-                            ),
-                          ),
-                        ),
-                      ),
-                    ),
-                  ),
-                ),
-              ),
-            );
+            meets =
+                (λ _. (refl, refl, refl))
+                then tt
+                then (λ _. refl)
+                then tt
+                then tt
+                then tt
+                then (λ _. λ _. refl)
+                then (λ _. refl)
+                then tt
+                then tt
+                then tt
+                then tt
+                then (λ _. λ _. refl)
+                then (λ _. refl)
+                then tt
+                then tt
+                then tt
+                then (λ _. λ _. refl)
+                then tt
+                then tt
+                then tt
+                then (λ _. λ _. refl)
+                then (λ _. refl)
+                then tt
+                then tt
+                then tt;
           };
       expired =
           record {
             shows = refl;
-            meets = (λ _. (refl, refl, refl), (λ _. refl, (tt, (λ _. λ _. refl, (λ _. refl, free heldTicks refl (runOf stepOf (startAt 1) openCalls))))));
+            meets = (λ _. (refl, refl, refl), (λ _. refl, (tt, (λ _. λ _. refl, (λ _. refl, free heldTicks refl (runOf stepOf (startAt 1) begunCalls))))));
           };
       longest =
           record {

@@ -1,4 +1,4 @@
--- What the receiver does in a long transfer, at a tick and at each frame that the sender of that transfer emits.
+-- What the receiver does in a long transfer, at a tick, a hold, a resume and each frame that the sender of that transfer emits.
 use Prim.Native.Nat.{ℕ, _+_, _-_, _≤_, _<_}
 use mathlib.Core.Bool.{false, false≢true, _&&_}
 use mathlib.Core.List.{List}

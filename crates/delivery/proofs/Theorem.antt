@@ -31,16 +31,11 @@ use Rattle.receiver.proofs.View.{receiverIn, Shut}
 use Rattle.delivery.proofs.Stages.{senderIn, Live, resting, long, short}
 use Rattle.delivery.proofs.Timing.{Timed, before, between, during, Listened, timed-later, tick-timed, pause-timed, hear-timed, in-time, in-time-unheld}
 use Rattle.delivery.specs.WhileOpen.{LineCondition, LineConditions, Demand3WhileOpen}
-use Rattle.delivery.specs.Demand3.{Condition, Conditions, Reported, Finished, Unheld, Sent, Again, Promise, Demand3}
+use Rattle.delivery.specs.Demand3.{Condition, Conditions, Reported, Finished, NeverHeld, Unheld, Sent, Again, Promise, Demand3}
 use Rattle.delivery.specs.Run.{Past, fresh, next, runOf}
 use Rattle.delivery.specs.Seen.{taken, Begun, Opened, further, begunAfter, begunIn, later, idle, openedAfter, openedIn, receiverTicksBy, receiverReports, pausesBy, listened, holdsReceiver, other, sortOf}
 use Rattle.transport.specs.Step.{Stepped, unheard, bySender, byReceiver, wasRefused, Rest, gone, still, leaving, givenForward, givenBack, stepOf}
 use Rattle.transport.specs.World.{World, Call, begin, senderTick, receiverTick, hold, resume, hearForward, repeatForward, loseForward, hearBack, repeatBack, loseBack, Event, toSender, toReceiver}
-
--- no hold was accepted since the last opening
-abbrev NeverHeld : Opened → Type 0
-NeverHeld Opened.never = Unit
-NeverHeld (Opened.since frames ticks reports pauses) = pauses ≡ 0
 
 -- what holds of the world and the events after every call
 record Holds (Lax : Type 0) (st : Settings) (rs : receiver-settings.Settings) (w : World) (events : List Event) : Type 0 where
@@ -51,7 +46,7 @@ record Holds (Lax : Type 0) (st : Settings) (rs : receiver-settings.Settings) (w
   unheld : Lax → NeverHeld (openedIn events)
 
 -- an event without an accepted hold
-unheld-after : (e : Event) (o : Opened) → pausesBy (sortOf (e .call)) (e .receiver) ≡ 0 → NeverHeld o
+pub unheld-after : (e : Event) (o : Opened) → pausesBy (sortOf (e .call)) (e .receiver) ≡ 0 → NeverHeld o
     → NeverHeld (openedAfter e o)
 unfolding openedAfter
 unheld-after e o none h = pick-elim NeverHeld _ (λ _. refl) (λ _. go o h)
@@ -65,11 +60,12 @@ module _ (Lax : Type 0) (st : Settings) (rs : receiver-settings.Settings) (event
   abbrev After : Stepped → Type 0
   After x = Holds Lax st rs (x .world) (x .event ∷ events)
 
-  -- what is known of the holds, after a call that is none
-  on : (x : Stepped) → sortOf (x .event .call) ≡ other → (Lax → NeverHeld (openedIn events))
+  -- what is known of the holds, after a call that is none or was refused
+  on : (x : Stepped) → (Lax → pausesBy (sortOf (x .event .call)) (x .event .receiver) ≡ 0)
+      → (Lax → NeverHeld (openedIn events))
       → Lax → NeverHeld (openedIn (x .event ∷ events))
   unfolding openedIn
-  on x o u lax = unheld-after (x .event) (openedIn events) (rw o refl) (u lax)
+  on x none u lax = unheld-after (x .event) (openedIn events) (none lax) (u lax)
 
   -- a call that is no call of an end
   none-called : (c : Call) (w : World) → sortOf c ≡ other
@@ -79,7 +75,7 @@ module _ (Lax : Type 0) (st : Settings) (rs : receiver-settings.Settings) (event
       → After (unheard c w)
   unfolding begunIn begunAfter openedIn openedAfter pick
   none-called c w o l t u =
-      record { live = rw o l; timed = rw o (timed-later t); sent = tt; again = rw o tt; unheld = on (unheard c w) o u }
+      record { live = rw o l; timed = rw o (timed-later t); sent = tt; again = rw o tt; unheld = on (unheard c w) (λ _. rw o refl) u }
 
   -- a hearing of the sender
   sender-heard : (c : Call) (w : World) (left : List Frame) (f : Frame) {a : sender.Told} → sortOf c ≡ other
@@ -94,7 +90,7 @@ module _ (Lax : Type 0) (st : Settings) (rs : receiver-settings.Settings) (event
         timed = rw o (timed-later t);
         sent = rw o (k .sent);
         again = rw o tt;
-        unheld = on (bySender c w (toSender f) left a) o u;
+        unheld = on (bySender c w (toSender f) left a) (λ _. rw o refl) u;
       }
 
   -- a hearing of the receiver
@@ -105,7 +101,7 @@ module _ (Lax : Type 0) (st : Settings) (rs : receiver-settings.Settings) (event
       → After (byReceiver c w (toReceiver f) left h)
   unfolding begunIn begunAfter openedIn openedAfter
   receiver-heard c w left f {h} o k t u =
-      record { live = rw o (k .live); timed = rw o (t .timed); sent = tt; again = rw o tt; unheld = on (byReceiver c w (toReceiver f) left h) o u }
+      record { live = rw o (k .live); timed = rw o (t .timed); sent = tt; again = rw o tt; unheld = on (byReceiver c w (toReceiver f) left h) (λ _. rw o refl) u }
 
   -- the first frame of forward is given to the receiver
   step-forward : (k : Rest) (c : Call) (lent : List ℕ) (w : World) → sortOf c ≡ other
@@ -187,13 +183,6 @@ refused-is-none : (o : receiver.Outcome) → wasRefused o ≡ true → pausesBy 
 refused-is-none o e = rw e refl
 
 module _ (Lax : Type 0) (st : Settings) (rs : receiver-settings.Settings) (limits : Limits st rs) where
-  -- a call that is no hold
-  still-unheld : (w : World) (events : List Event) (c : Call) → pausesBy (sortOf (stepOf w c .event .call)) (stepOf w c .event .receiver) ≡ 0
-      → (Lax → NeverHeld (openedIn events))
-      → Lax → NeverHeld (openedIn (stepOf w c .event ∷ events))
-  unfolding openedIn
-  still-unheld w events c none u lax = unheld-after (stepOf w c .event) (openedIn events) none (u lax)
-
   -- every call keeps what holds
   step : (w : World) (events : List Event) → Holds Lax st rs w events → (c : Call)
       → Asked Lax (record { world = w; events = events }) c (stepOf w c .event)
@@ -205,13 +194,13 @@ module _ (Lax : Type 0) (st : Settings) (rs : receiver-settings.Settings) (limit
       (λ t.
       let found = d t in
       record { stands = stands Lax (h .timed) (found .0) (h .unheld); clear = found .1; clear-back = found .2 }) in
-      record { live = k .live; timed = timed-later (h .timed); sent = k .sent _; again = k .again; unheld = still-unheld w events (begin m) refl (h .unheld) }
+      record { live = k .live; timed = timed-later (h .timed); sent = k .sent _; again = k .again; unheld = on Lax st rs events (stepOf w (begin m)) (λ _. refl) (h .unheld) }
   step w events h (senderTick m) d =
       let k = tick-live (limits .few) (h .live) m d in
-      record { live = k .live; timed = timed-later (h .timed); sent = k .sent; again = tt; unheld = still-unheld w events (senderTick m) refl (h .unheld) }
+      record { live = k .live; timed = timed-later (h .timed); sent = k .sent; again = tt; unheld = on Lax st rs events (stepOf w (senderTick m)) (λ _. refl) (h .unheld) }
   step w events h receiverTick d =
       let k = receiver-tick-live (h .live) in
-      record { live = k .live; timed = tick-timed rs (limits .pos) (limits .small) (h .timed); sent = tt; again = tt; unheld = still-unheld w events receiverTick refl (h .unheld) }
+      record { live = k .live; timed = tick-timed rs (limits .pos) (limits .small) (h .timed); sent = tt; again = tt; unheld = on Lax st rs events (stepOf w receiverTick) (λ _. refl) (h .unheld) }
   step w events h hold d =
       let k = receiver-pause-live view.hold (λ lax _. d lax) (h .live) in
       record {
@@ -219,7 +208,7 @@ module _ (Lax : Type 0) (st : Settings) (rs : receiver-settings.Settings) (limit
         timed = pause-timed rs (limits .pos) (limits .small) view.hold (h .timed);
         sent = tt;
         again = tt;
-        unheld = λ lax. unheld-after (stepOf w hold .event) (openedIn events) (refused-is-none (stepOf w hold .event .receiver) (d lax)) (h .unheld lax);
+        unheld = on Lax st rs events (stepOf w hold) (λ lax. refused-is-none (stepOf w hold .event .receiver) (d lax)) (h .unheld);
       }
   step w events h resume d =
       let k = receiver-pause-live view.resume (λ lax no. absurd (resume-no-hold no)) (h .live) in
@@ -228,7 +217,7 @@ module _ (Lax : Type 0) (st : Settings) (rs : receiver-settings.Settings) (limit
         timed = pause-timed rs (limits .pos) (limits .small) view.resume (h .timed);
         sent = tt;
         again = tt;
-        unheld = still-unheld w events resume refl (h .unheld);
+        unheld = on Lax st rs events (stepOf w resume) (λ _. refl) (h .unheld);
       }
   step w events h (hearForward b) d = step-forward Lax st rs events gone (hearForward b) b w refl (limits .pos) (limits .small) h (w .forward) refl d
   step w events h (repeatForward b) d = step-forward Lax st rs events still (repeatForward b) b w refl (limits .pos) (limits .small) h (w .forward) refl d

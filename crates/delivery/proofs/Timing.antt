@@ -1,6 +1,6 @@
 -- The receiver's time. While a connection is open, its ticks are at most T for each timeout that its state can still tell
--- of, three for each frame before the one expected and at most twenty while held, and the wait; so a connection is over by
--- 3 × T × N + 21 × T, and by 3 × T × N where no hold was accepted.
+-- of, three for each frame before the one expected and at most twenty while held, and the wait; so that it is reported by tick
+-- 3 × T × N + 21 × T at the latest, and where no hold was accepted by tick 3 × T × N.
 use Prim.Native.Nat.{ℕ, _+_, _-_, _*_, _≤_, _<_}
 use mathlib.Core.Bool.{Bool, true, false, false≢true, _&&_, and-false}
 use mathlib.Core.List.{List}

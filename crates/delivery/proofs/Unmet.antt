@@ -5,30 +5,30 @@ use Prim.Native.Nat.{ℕ, _≤_}
 use mathlib.Core.Bool.{true, false, false≢true}
 use mathlib.Core.List.{List, [], _∷_}
 use mathlib.Core.Path.{_≡_, refl}
-use native.Mathlib.Nat.{le-refl}
-use Rattle.frame.proofs.Choice.{pick-false}
 use Rattle.frame.specs.Choice.{pick}
 use Rattle.frame.specs.declared.Frame.{Frame}
 use Rattle.receiver.proofs.View as view
 use Rattle.receiver.proofs.View.{Shut, tick-does, pause-does, hear-does}
+use Rattle.receiver.specs.Hear.{isHeld}
 use Rattle.receiver.specs.Told as receiver
+use Rattle.receiver.specs.declared.Phase as receiver-phase
+use Rattle.receiver.specs.declared.Phase.the-variants as at
 use Rattle.receiver.specs.declared.Receiver.{Receiver}
 use Rattle.receiver.specs.declared.Settings as receiver-settings
-use Rattle.sender.specs.Hear.{asksToHold, ackBelow}
-use Rattle.sender.specs.Told.{silently}
+use Rattle.sender.specs.Hear.{ackBelow}
 use Rattle.sender.specs.declared.Sender.{Sender}
-use Rattle.sender.specs.declared.Transfer.{Transfer}
 use Rattle.delivery.proofs.Climbs.{Climb, off, sender-ticks, sender-hears, sender-begins, receiver-ticks, receiver-pauses, receiver-hears, cut, loses-forward, loses-back, unmet}
-use Rattle.delivery.proofs.Theorem.{limits-of, SenderMade, ReceiverMade, fits, sender-made, receiver-made, resume-no-hold}
+use Rattle.delivery.proofs.Theorem.{unheld-after, limits-of, SenderMade, ReceiverMade, fits, sender-made, receiver-made, resume-no-hold}
 use Rattle.delivery.proofs.Timing.{Timed, before, between, during, timed-later, tick-timed, pause-timed, hear-timed}
 use Rattle.delivery.specs.Clean.{CallsMeet}
-use Rattle.delivery.specs.Demand3.{Condition}
-use Rattle.delivery.specs.Run.{Line, Past, fresh, next}
-use Rattle.delivery.specs.Seen.{taken, Opened, openedIn, openedAfter, idle, sortOf, other}
-use Rattle.delivery.specs.Unmet.{NoHold, Unmet, AllUnmet, NeverMetOn, NeverMet}
+use Rattle.delivery.specs.Demand3.{Condition, NeverHeld}
+use Rattle.delivery.specs.Run.{Line, Past, fresh, next, runOf}
+use Rattle.delivery.specs.Seen.{Sort, begins, ticksSender, ticksReceiver, holdsReceiver, other, sortOf, Opened, openedIn, openedAfter, idle, pausesBy}
+use Rattle.delivery.specs.Unmet.{NoHoldBy, NoHold, Unmet, AllUnmet, NeverMetOn, NeverMet}
+use Rattle.transport.proofs.Events.{call-of}
 use Rattle.transport.specs.Capped.{capped, cappedStep}
-use Rattle.transport.specs.Step.{Stepped, unheard, bySender, byReceiver, Rest, gone, still, leaving, givenForward, givenBack, stepOf}
-use Rattle.transport.specs.World.{World, Call, Event, toSender, toReceiver, begin, senderTick, receiverTick, hold, resume}
+use Rattle.transport.specs.Step.{Stepped, unheard, Rest, gone, still, givenForward, givenBack, stepOf}
+use Rattle.transport.specs.World.{World, Call, Event, begin, senderTick, receiverTick, hold, resume}
 use Rattle.transport.specs.World.{hearForward, repeatForward, loseForward, hearBack, repeatBack, loseBack}
 
 -- no connection is open in the events: none is at the receiver
@@ -36,6 +36,24 @@ shut : {rs : receiver-settings.Settings} {r : Receiver} {o : Opened} → Timed r
 shut (before s) e = s
 shut (between s) e = s
 shut (during w) e = absurd (false≢true e)
+
+-- no hold was accepted: none stands
+shut-unheld : (p : receiver-phase.Phase) → Shut p → isHeld p ≡ false
+shut-unheld at.Idle s = refl
+shut-unheld (at.Done y) s = refl
+shut-unheld (at.Open x) s = absurd s
+
+unheld : {rs : receiver-settings.Settings} {r : Receiver} {o : Opened} → Timed rs r o → NeverHeld o → isHeld (r .phase) ≡ false
+unheld (before {p} s) u = shut-unheld p s
+unheld (between {p} s) u = shut-unheld p s
+unheld (during w) u = w .free u .0
+
+no-pause : (s : Sort) (o : receiver.Outcome) → NoHoldBy s o → pausesBy s o ≡ 0
+no-pause (begins message) o n = refl
+no-pause ticksSender o n = refl
+no-pause ticksReceiver o n = refl
+no-pause holdsReceiver o n = rw n refl
+no-pause other o n = refl
 
 module _ (rs : receiver-settings.Settings) (pos : 1 ≤ rs .timeout) (small : rs .timeout ≤ 10000) where
   -- what holds of the world and the events after every call
@@ -138,31 +156,41 @@ module _ (rs : receiver-settings.Settings) (pos : 1 ≤ rs .timeout) (small : rs
   step w events h loseBack d n =
       nobody-called events loseBack w _ refl (record { climbs = loses-back (h .climbs); timed = h .timed })
 
-  -- a list of calls on a line, each of whose steps keeps what holds
+  -- a line, each of whose steps keeps what holds, and whose events are of the calls
   Steps : Line → Type 0
   Steps line =
       (w : World) (events : List Event) → Holds w events → (c : Call)
       → Condition (record { world = w; events = events }) c (line w c .event)
       → NoHold (record { world = w; events = events }) c (line w c .event)
-      → After events w (line w c)
+      → After events w (line w c) × (line w c .event .call ≡ c)
 
   run : (line : Line) → Steps line → (calls : List Call) (p : Past) → Holds (p .world) (p .events)
+      → NeverHeld (openedIn (p .events))
       → CallsMeet NoHold line p calls
-      → AllUnmet line p calls
-  unfolding Steps
-  run line k [] p h d = tt
-  run line k (c ∷ calls) p h d =
+      → AllUnmet line p calls × NeverHeld (openedIn (runOf line p calls .events))
+  unfolding Steps runOf openedIn
+  run line k [] p h u d = (tt, u)
+  run line k (c ∷ calls) p h u d =
       let a = k (p .world) (p .events) h c (d .0) (d .1) in
-      (a .unmet, run line k calls (next line p c) (a .holds) (d .2))
+      let e = line (p .world) c .event in
+      let none : pausesBy (sortOf (e .call)) (e .receiver) ≡ 0 = rw (a .1) (no-pause (sortOf c) (e .receiver) (d .1)) in
+      let rest = run line k calls (next line p c) (a .0 .holds) (unheld-after e (openedIn (p .events)) none u) (d .2) in
+      ((a .0 .unmet, unheld (h .timed) u, rest .0), rest .1)
+
+  kept-step : Steps stepOf
+  unfolding Steps
+  kept-step w events h c d n = (step w events h c d n, call-of w c)
 
   capped-step : Steps cappedStep
   unfolding Steps cappedStep capped
   capped-step w events h c d n =
-      let a = step w events h c d n in
-      record {
-        holds = record { climbs = cut 64 (a .holds .climbs); timed = a .holds .timed };
-        unmet = a .unmet;
-      }
+      let a = step w events h c d n in (
+        record {
+          holds = record { climbs = cut 64 (a .holds .climbs); timed = a .holds .timed };
+          unmet = a .unmet;
+        },
+        call-of w c,
+      )
 
 -- ---- from the ends that making answers
 
@@ -172,12 +200,12 @@ made : (line : Line) → ((rs : receiver-settings.Settings) (pos : 1 ≤ rs .tim
     → ReceiverMade patience window capacity r
     → (buffer : List ℕ) (calls : List Call)
     → CallsMeet NoHold line (fresh s r buffer) calls
-    → AllUnmet line (fresh s r buffer) calls
+    → AllUnmet line (fresh s r buffer) calls × NeverHeld (openedIn (runOf line (fresh s r buffer) calls .events))
 unfolding openedIn
 made line k gap timeout limit patience window capacity {s} {r} (fits e) (fits d) buffer calls c =
     let l = limits-of gap timeout limit patience window capacity e d in
     run _ (l .pos) (l .small) line (k _ (l .pos) (l .small)) calls (fresh s r buffer)
-    (record { climbs = off tt; timed = before tt }) c
+    (record { climbs = off tt; timed = before tt }) tt c
 
 never-met-on : (line : Line) → ((rs : receiver-settings.Settings) (pos : 1 ≤ rs .timeout) (small : rs .timeout ≤ 10000) → Steps rs pos small line)
     → NeverMetOn line
@@ -185,10 +213,10 @@ never-met-on line k gap timeout limit s e patience window capacity r d buffer ca
     made line k gap timeout limit patience window capacity (sender-made gap timeout limit s e) (receiver-made patience window capacity r d) buffer calls c
 
 pub never-met : NeverMet
-unfolding Steps ackBelow pick
+unfolding ackBelow pick
 never-met =
     record {
-      line = never-met-on stepOf (λ rs pos small. step rs pos small);
-      capped = never-met-on cappedStep (λ rs pos small. capped-step rs pos small);
+      line = never-met-on stepOf kept-step;
+      capped = never-met-on cappedStep capped-step;
       ignored = λ s t taken start count e. rw e;
     }

@@ -68,7 +68,8 @@ Empty w = (w .forward ≡ []) × (w .back ≡ [])
 -- What is asked of a call after the begin, besides what demand 3 asks of it. A tick finds the line empty and its end's turn
 -- come. No frame is lost: not by lose, and not to a hearing that is refused. None is repeated to an end that hears it. On an
 -- empty list all of these do nothing and may be called. Calls that are refused may be among them; a begin must be, so
--- that the transfer is the only one, and a hold (document 02, E2: E1 speaks of transfers without one).
+-- that the transfer is the only one, and a hold (document 02, E2: E1 speaks of transfers without one); then every resume
+-- is refused.
 abbrev pub CleanCall : Past → Call → Event → Type 0
 CleanCall p (begin m) e = taken (e .sender) ≡ false
 CleanCall p (senderTick m) e = taken (e .sender) ≡ true → Empty (p .world) × SenderMayTick (turnIn (p .events))

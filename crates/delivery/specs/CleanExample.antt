@@ -10,10 +10,10 @@ use Rattle.receiver.specs.Told as receiver
 use Rattle.sender.specs.Make as sender-making
 use Rattle.sender.specs.Told as sender
 use Rattle.delivery.specs.Clean.{Fits, CleanCalls}
-use Rattle.delivery.specs.Example.{Shown, frameOf, emits, nothing, senderSays, receiverSays, Witness, exampleMessage, exampleBuffer}
+use Rattle.delivery.specs.Example.{Shown, nothing, senderSays, receiverSays, Witness, exampleMessage, exampleBuffer, showsAnnouncement, showsAck, showsFirst, showsSecond, showsDelivery, showsRefused13}
 use Rattle.delivery.specs.Run.{Past, fresh, next}
 use Rattle.transport.specs.Step.{stepOf}
-use Rattle.transport.specs.World.{Call, begin, senderTick, receiverTick}
+use Rattle.transport.specs.World.{Call, begin, senderTick, receiverTick, hold, resume}
 use Rattle.transport.specs.World.{hearForward, repeatForward, loseForward, hearBack, repeatBack, loseBack}
 
 -- the example's message, begun by ends that were just made: G 2, M 5, both T 3, a window of one frame, K 9
@@ -21,30 +21,6 @@ abbrev pub cleanStart : Past
 cleanStart =
     next stepOf (fresh (sender-making.idleWith 2 3 5) (receiver-making.idleWith 3 1 9) (replicate 1785 0))
     (begin exampleMessage)
-
--- ---- the frames
-
-abbrev pub showsAnnouncement : Shown
-showsAnnouncement = emits 1 (0x00 ∷ 0x02 ∷ 0x09 ∷ 0x00 ∷ 0xFF ∷ 0xFF ∷ 0xFF ∷ 0xFF ∷ [])
-
--- LM_ACK of one frame from this number on
-abbrev pub showsAck : ℕ → Shown
-showsAck start = emits 2 (start ∷ 0x01 ∷ 0xFF ∷ 0xFF ∷ 0xFF ∷ 0xFF ∷ 0xFF ∷ 0xFF ∷ [])
-
-abbrev pub showsFirst : Shown
-showsFirst = emits 1 (0x01 ∷ 0x01 ∷ 0x02 ∷ 0x03 ∷ 0x04 ∷ 0x05 ∷ 0x06 ∷ 0x07 ∷ [])
-
-abbrev pub showsSecond : Shown
-showsSecond = emits 1 (0x02 ∷ 0x08 ∷ 0x09 ∷ 0xFF ∷ 0xFF ∷ 0xFF ∷ 0xFF ∷ 0xFF ∷ [])
-
--- EndofACK, with the delivery
-abbrev pub showsDelivery : Shown
-showsDelivery =
-    record {
-      emitted = frameOf 4 (0x02 ∷ 0x09 ∷ 0x00 ∷ 0xFF ∷ 0xFF ∷ 0xFF ∷ 0xFF ∷ 0xFF ∷ []) ∷ [];
-      sender = sender.quiet;
-      receiver = receiver.delivered 9;
-    }
 
 -- the report: N × G ticks and N + 1 frames
 abbrev pub showsSent : Shown
@@ -89,13 +65,15 @@ senderFirstShown =
 
 -- ---- the receiver ticks first
 
--- Among them stand begins, a repeat and a tick that are refused, the tick while a frame is on the line, and calls on an empty
--- list. They go on after the report.
+-- Among them stand begins, a hold, a resume, a repeat and a tick that are refused, the tick while a frame is on the line, and
+-- calls on an empty list. They go on after the report.
 unfoldable pub receiverFirstCalls : List Call
 receiverFirstCalls =
     loseBack
     ∷ hearForward (replicate 1785 0)
     ∷ begin exampleMessage
+    ∷ hold
+    ∷ resume
     ∷ hearBack
     ∷ receiverTick
     ∷ senderTick exampleMessage
@@ -127,6 +105,8 @@ receiverFirstShown =
     ∷ nothing
     ∷ showsAck 1
     ∷ senderSays (sender.refused 3)
+    ∷ showsRefused13
+    ∷ showsRefused13
     ∷ nothing
     ∷ nothing
     ∷ nothing

@@ -5,7 +5,7 @@
 --   again      so before the next accepted begin
 --   finished   a connection of N frames is reported once, at the receiver's tick 3 × T × N + 21 × T after its opening at the
 --              latest (document 02, E2)
---   unheld     one that was never held already at its tick 3 × T × N, as document 01 has it
+--   unheld     a connection in which no hold was accepted is reported by its tick 3 × T × N, as before E2
 --   Demand3    this after any calls whatever, refused ones among them, by ends just made and over a line that starts empty
 --   stepOf     the line gives frames in the order and shape in which they were emitted, and no others
 --   Conditions what is asked of whoever makes the calls: to begin only where nothing of an earlier transfer is under way,
@@ -102,6 +102,11 @@ abbrev pub Finished : ℕ → Opened → Type 0
 Finished timeout Opened.never = Unit
 Finished timeout (Opened.since frames ticks reports pauses) =
     (reports ≤ 1) × (3 * timeout * frames + 21 * timeout ≤ ticks → reports ≡ 1)
+
+-- no hold was accepted since the last opening
+abbrev pub NeverHeld : Opened → Type 0
+NeverHeld Opened.never = Unit
+NeverHeld (Opened.since frames ticks reports pauses) = pauses ≡ 0
 
 -- where no hold was accepted, it has its report once 3 × T × N ticks have passed
 abbrev pub Unheld : ℕ → Opened → Type 0

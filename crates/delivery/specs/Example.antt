@@ -48,6 +48,35 @@ senderSays outcome = record { emitted = []; sender = outcome; receiver = receive
 abbrev pub receiverSays : receiver.Outcome → Shown
 receiverSays outcome = record { emitted = []; sender = sender.quiet; receiver = outcome }
 
+-- ---- the frames of a message of nine bytes
+
+abbrev pub showsAnnouncement : Shown
+showsAnnouncement = emits 1 (0x00 ∷ 0x02 ∷ 0x09 ∷ 0x00 ∷ 0xFF ∷ 0xFF ∷ 0xFF ∷ 0xFF ∷ [])
+
+-- LM_ACK of one frame from this number on
+abbrev pub showsAck : ℕ → Shown
+showsAck start = emits 2 (start ∷ 0x01 ∷ 0xFF ∷ 0xFF ∷ 0xFF ∷ 0xFF ∷ 0xFF ∷ 0xFF ∷ [])
+
+abbrev pub showsFirst : Shown
+showsFirst = emits 1 (0x01 ∷ 0x01 ∷ 0x02 ∷ 0x03 ∷ 0x04 ∷ 0x05 ∷ 0x06 ∷ 0x07 ∷ [])
+
+abbrev pub showsSecond : Shown
+showsSecond = emits 1 (0x02 ∷ 0x08 ∷ 0x09 ∷ 0xFF ∷ 0xFF ∷ 0xFF ∷ 0xFF ∷ 0xFF ∷ [])
+
+-- EndofACK, with the delivery
+abbrev pub showsDelivery : Shown
+showsDelivery =
+    record {
+      emitted = frameOf 4 (0x02 ∷ 0x09 ∷ 0x00 ∷ 0xFF ∷ 0xFF ∷ 0xFF ∷ 0xFF ∷ 0xFF ∷ []) ∷ [];
+      sender = sender.quiet;
+      receiver = receiver.delivered 9;
+    }
+
+abbrev pub showsRefused13 : Shown
+showsRefused13 = receiverSays (receiver.refused 13)
+
+-- ---- lists of calls
+
 -- a list of calls meets some conditions, and this is seen of it
 pub record Witness
     (conditions : Past → List Call → Type 0) (start : Past) (calls : List Call) (shown : List Shown) : Type 0 where
@@ -91,21 +120,17 @@ exampleCalls =
 abbrev pub exampleShown : List Shown
 exampleShown =
     -- 0 S 1 00 02 09 00 ..
-    emits 1 (0x00 ∷ 0x02 ∷ 0x09 ∷ 0x00 ∷ 0xFF ∷ 0xFF ∷ 0xFF ∷ 0xFF ∷ [])
+    showsAnnouncement
     -- 1 R 2 01 02 ..
     ∷ emits 2 (0x01 ∷ 0x02 ∷ 0xFF ∷ 0xFF ∷ 0xFF ∷ 0xFF ∷ 0xFF ∷ 0xFF ∷ [])
     ∷ nothing
     -- 3 S 1 01 ..
-    ∷ emits 1 (0x01 ∷ 0x01 ∷ 0x02 ∷ 0x03 ∷ 0x04 ∷ 0x05 ∷ 0x06 ∷ 0x07 ∷ [])
+    ∷ showsFirst
     ∷ nothing
     -- 5 S 1 02 ..
-    ∷ emits 1 (0x02 ∷ 0x08 ∷ 0x09 ∷ 0xFF ∷ 0xFF ∷ 0xFF ∷ 0xFF ∷ 0xFF ∷ [])
+    ∷ showsSecond
     -- 6 R 4 02 09 00 .., 6 R delivered 9
-    ∷ record {
-      emitted = frameOf 4 (0x02 ∷ 0x09 ∷ 0x00 ∷ 0xFF ∷ 0xFF ∷ 0xFF ∷ 0xFF ∷ 0xFF ∷ []) ∷ [];
-      sender = sender.quiet;
-      receiver = receiver.delivered 9;
-    }
+    ∷ showsDelivery
     -- 7 S sent 2 3
     ∷ senderSays (sender.sent 2 3)
     ∷ []

@@ -9,7 +9,7 @@ use Rattle.receiver.specs.declared.Phase.the-variants as receiver-at
 use Rattle.receiver.specs.declared.Receiver.{Receiver}
 use Rattle.sender.specs.Told as sender
 use Rattle.delivery.specs.Demand3.{Conditions}
-use Rattle.delivery.specs.Example.{Shown, frameOf, emits, nothing, senderSays, receiverSays, Witness, exampleSender, exampleMessage, exampleBuffer}
+use Rattle.delivery.specs.Example.{Shown, frameOf, nothing, senderSays, Witness, exampleSender, exampleMessage, exampleBuffer, showsAnnouncement, showsAck, showsFirst, showsSecond, showsDelivery, showsRefused13}
 use Rattle.delivery.specs.Run.{Past, fresh}
 use Rattle.transport.specs.Step.{stepOf}
 use Rattle.transport.specs.World.{Call, begin, senderTick, receiverTick, hold, resume}
@@ -22,22 +22,6 @@ receiverOf timeout =
 
 abbrev pub startAt : ℕ → Past
 startAt timeout = fresh exampleSender (receiverOf timeout) (replicate 1785 0)
-
--- the frames of these runs
-abbrev pub announcement : Shown
-announcement = emits 1 (0x00 ∷ 0x02 ∷ 0x09 ∷ 0x00 ∷ 0xFF ∷ 0xFF ∷ 0xFF ∷ 0xFF ∷ [])
-
-abbrev pub ackShown : ℕ → Shown
-ackShown start = emits 2 (start ∷ 0x01 ∷ 0xFF ∷ 0xFF ∷ 0xFF ∷ 0xFF ∷ 0xFF ∷ 0xFF ∷ [])
-
-abbrev pub frame1 : Shown
-frame1 = emits 1 (0x01 ∷ 0x01 ∷ 0x02 ∷ 0x03 ∷ 0x04 ∷ 0x05 ∷ 0x06 ∷ 0x07 ∷ [])
-
-abbrev pub frame2 : Shown
-frame2 = emits 1 (0x02 ∷ 0x08 ∷ 0x09 ∷ 0xFF ∷ 0xFF ∷ 0xFF ∷ 0xFF ∷ 0xFF ∷ [])
-
-abbrev pub refused13 : Shown
-refused13 = receiverSays (receiver.refused 13)
 
 -- NACK 2, and failed by it
 abbrev pub failed2 : Shown
@@ -85,42 +69,38 @@ heldCalls =
 -- four ticks of the sender and five frames, three of them frame 1
 abbrev pub heldShown : List Shown
 heldShown =
-    announcement
-    ∷ refused13
-    ∷ ackShown 1
-    ∷ refused13
-    ∷ refused13
+    showsAnnouncement
+    ∷ showsRefused13
+    ∷ showsAck 1
+    ∷ showsRefused13
+    ∷ showsRefused13
     ∷ nothing
-    ∷ frame1
-    ∷ ackShown 2
-    ∷ ackShown 1
-    ∷ refused13
-    ∷ nothing
-    ∷ nothing
-    ∷ frame1
+    ∷ showsFirst
+    ∷ showsAck 2
+    ∷ showsAck 1
+    ∷ showsRefused13
     ∷ nothing
     ∷ nothing
-    ∷ ackShown 1
+    ∷ showsFirst
     ∷ nothing
-    ∷ frame1
     ∷ nothing
-    ∷ ackShown 2
+    ∷ showsAck 1
     ∷ nothing
-    ∷ frame2
-    ∷ record {
-      emitted = frameOf 4 (0x02 ∷ 0x09 ∷ 0x00 ∷ 0xFF ∷ 0xFF ∷ 0xFF ∷ 0xFF ∷ 0xFF ∷ []) ∷ [];
-      sender = sender.quiet;
-      receiver = receiver.delivered 9;
-    }
+    ∷ showsFirst
+    ∷ nothing
+    ∷ showsAck 2
+    ∷ nothing
+    ∷ showsSecond
+    ∷ showsDelivery
     ∷ senderSays (sender.sent 4 5)
-    ∷ refused13
+    ∷ showsRefused13
     ∷ []
 
 -- ---- the 21st held timeout, at T 1
 
 -- the connection is open and has frame 1
-unfoldable pub openCalls : List Call
-openCalls =
+unfoldable pub begunCalls : List Call
+begunCalls =
     begin exampleMessage
     ∷ hearForward (replicate 1785 0)
     ∷ hearBack
@@ -128,15 +108,15 @@ openCalls =
     ∷ hearForward (replicate 1785 0)
     ∷ []
 
-abbrev pub openShown : List Shown
-openShown = announcement ∷ ackShown 1 ∷ nothing ∷ frame1 ∷ ackShown 2 ∷ []
+abbrev pub begunShown : List Shown
+begunShown = showsAnnouncement ∷ showsAck 1 ∷ nothing ∷ showsFirst ∷ showsAck 2 ∷ []
 
 -- twelve held timeouts, a resume and another hold, and eight more; then the connection fails
 unfoldable pub heldTicks : List Call
 heldTicks = hold ∷ replicate 12 receiverTick ++ resume ∷ hold ∷ replicate 9 receiverTick
 
 abbrev pub heldTicksShown : List Shown
-heldTicksShown = ackShown 1 ∷ replicate 12 (ackShown 1) ++ ackShown 2 ∷ ackShown 1 ∷ replicate 8 (ackShown 1) ++ failed2 ∷ []
+heldTicksShown = showsAck 1 ∷ replicate 12 (showsAck 1) ++ showsAck 2 ∷ showsAck 1 ∷ replicate 8 (showsAck 1) ++ failed2 ∷ []
 
 -- ---- the longest connection of two frames, at T 1
 
@@ -154,17 +134,17 @@ lateCalls =
     ∷ []
 
 abbrev pub lateShown : List Shown
-lateShown = announcement ∷ ackShown 1 ∷ ackShown 1 ∷ ackShown 1 ∷ nothing ∷ frame1 ∷ ackShown 2 ∷ []
+lateShown = showsAnnouncement ∷ showsAck 1 ∷ showsAck 1 ∷ showsAck 1 ∷ nothing ∷ showsFirst ∷ showsAck 2 ∷ []
 
 unfoldable pub longestTicks : List Call
 longestTicks = hold ∷ replicate 20 receiverTick ++ resume ∷ replicate 3 receiverTick
 
 abbrev pub longestTicksShown : List Shown
-longestTicksShown = ackShown 1 ∷ replicate 20 (ackShown 1) ++ ackShown 2 ∷ ackShown 2 ∷ ackShown 2 ∷ failed2 ∷ []
+longestTicksShown = showsAck 1 ∷ replicate 20 (showsAck 1) ++ showsAck 2 ∷ showsAck 2 ∷ showsAck 2 ∷ failed2 ∷ []
 
 -- ---- what is claimed of them
 
 pub record HeldExamples : Type 0 where
   pub held : Witness (Conditions stepOf) (startAt 2) heldCalls heldShown
-  pub expired : Witness (Conditions stepOf) (startAt 1) (openCalls ++ heldTicks) (openShown ++ heldTicksShown)
+  pub expired : Witness (Conditions stepOf) (startAt 1) (begunCalls ++ heldTicks) (begunShown ++ heldTicksShown)
   pub longest : Witness (Conditions stepOf) (startAt 1) (lateCalls ++ longestTicks) (lateShown ++ longestTicksShown)

@@ -1,6 +1,7 @@
 -- Document 02, E2: the rule that the sender gained is for holds alone. In a list of calls that meets the conditions of demand
 -- 3, and in which no hold is accepted, no LM_ACK that the sender hears is taken by it: the starts on their way back never
--- fall. So both ends do there what document 01 has them do.
+-- fall. Nor is the receiver ever held, and no connection has had a hold. So both ends do there what document 01 has them
+-- do, in its time.
 use Prim.Native.Nat.{ℕ}
 use mathlib.Core.Bool.{Bool, true, false, _&&_}
 use mathlib.Core.List.{List, [], _∷_}
@@ -9,6 +10,7 @@ use lib.Dec.{eqb}
 use Rattle.frame.specs.Frames.{byteOf}
 use Rattle.frame.specs.Result.{accepted}
 use Rattle.frame.specs.declared.Frame.{Frame}
+use Rattle.receiver.specs.Hear.{isHeld}
 use Rattle.receiver.specs.Make as receiver-making
 use Rattle.receiver.specs.Told as receiver
 use Rattle.receiver.specs.declared.Receiver.{Receiver}
@@ -20,8 +22,9 @@ use Rattle.sender.specs.declared.Phase.the-variants.{Idle, Opening, Sending, Wa
 use Rattle.sender.specs.declared.Sender.{Sender}
 use Rattle.sender.specs.declared.Transfer.{Transfer}
 use Rattle.delivery.specs.Clean.{CallsMeet}
-use Rattle.delivery.specs.Run.{Line, Past, fresh, next}
-use Rattle.delivery.specs.Seen.{Sort, begins, ticksSender, ticksReceiver, holdsReceiver, other, sortOf}
+use Rattle.delivery.specs.Demand3.{NeverHeld}
+use Rattle.delivery.specs.Run.{Line, Past, fresh, next, runOf}
+use Rattle.delivery.specs.Seen.{Sort, begins, ticksSender, ticksReceiver, holdsReceiver, other, sortOf, openedIn}
 use Rattle.transport.specs.Capped.{cappedStep}
 use Rattle.transport.specs.Step.{wasRefused, stepOf}
 use Rattle.transport.specs.World.{Call, Event, Given, nobody, toSender, toReceiver}
@@ -37,7 +40,8 @@ NoHoldBy other o = Unit
 abbrev pub NoHold : Past → Call → Event → Type 0
 NoHold p c e = NoHoldBy (sortOf c) (e .receiver)
 
--- a frame is an LM_ACK that the sender would take as a hold's
+-- a frame has the kind, the start and the count of an LM_ACK that the sender takes as a hold's (its filler is not looked at
+-- here, nor whether the start is 0: the sender would refuse or ignore such a frame)
 abbrev pub takenAsHold : Phase → Frame → Bool
 takenAsHold Idle f = false
 takenAsHold (Opening x) f = false
@@ -51,11 +55,13 @@ Unmet s nobody = Unit
 Unmet s (toSender f) = takenAsHold (s .phase) f ≡ false
 Unmet s (toReceiver f) = Unit
 
--- along the whole list, on a line
+-- along the whole list, on a line; and each call finds a receiver that is not held
 abbrev pub AllUnmet : Line → Past → List Call → Type 0
 AllUnmet line p [] = Unit
 AllUnmet line p (c ∷ calls) =
-    Unmet (p .world .sender) (line (p .world) c .event .given) × AllUnmet line (next line p c) calls
+    Unmet (p .world .sender) (line (p .world) c .event .given)
+    × (isHeld (p .world .receiver .phase) ≡ false)
+    × AllUnmet line (next line p c) calls
 
 -- for the ends that making answers, every buffer and every such list of calls
 abbrev pub NeverMetOn : Line → Type 0
@@ -66,7 +72,7 @@ NeverMetOn line =
     → receiver-making.makeOf patience window capacity ≡ accepted r
     → (buffer : List ℕ) (calls : List Call)
     → CallsMeet NoHold line (fresh s r buffer) calls
-    → AllUnmet line (fresh s r buffer) calls
+    → AllUnmet line (fresh s r buffer) calls × NeverHeld (openedIn (runOf line (fresh s r buffer) calls .events))
 
 -- on the line that keeps every frame and at a line of 64; and what is not taken by the new rule is ignored, as before it
 pub record NeverMet : Type 0 where

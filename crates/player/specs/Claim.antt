@@ -1,15 +1,17 @@
 -- Demand 3 of what the player prints: its events are calls at a line of 64 that meet the conditions, so the promise holds of
--- the events that it prints. And none of them is a hold, so that document 02's E2 changes nothing of what it prints.
+-- the events that it prints. And none of them is a hold: what document 02's E2 adds is never met, and each connection has its
+-- report within the bound of one that was never held.
 use Prim.Native.Nat.{ℕ}
 use mathlib.Core.List.{List, [], _∷_}
 use mathlib.Core.Path.{_≡_}
 use lib.ListN.{length}
-use Rattle.delivery.specs.Demand3.{Conditions, Promise}
-use Rattle.delivery.specs.Run.{fresh}
+use Rattle.delivery.specs.Demand3.{Conditions, Promise, NeverHeld}
+use Rattle.delivery.specs.Run.{fresh, runOf}
+use Rattle.delivery.specs.Seen.{openedIn}
 use Rattle.delivery.specs.Unmet.{AllUnmet}
 use Rattle.frame.specs.Result.{accepted}
 use Rattle.player.specs.Events.{runFrom, callsFrom}
-use Rattle.player.specs.Played.{openOf, runOf}
+use Rattle.player.specs.Played as played
 use Rattle.player.specs.declared.Player.{Player}
 use Rattle.transport.specs.Capped.{cappedStep}
 use Rattle.transport.specs.Make.{makeOf}
@@ -43,10 +45,11 @@ PlayerKeeps =
 abbrev pub PackKeeps : Type 0
 PackKeeps =
     (bytes : List ℕ) (q : Player)
-    → openOf bytes ≡ accepted q
-    → Promise (q .bodies .settings .limit) (q .bodies .settings .patience) (newestFirst [] (runOf bytes q))
+    → played.openOf bytes ≡ accepted q
+    → Promise (q .bodies .settings .limit) (q .bodies .settings .patience) (newestFirst [] (played.runOf bytes q))
 
--- Document 02, E2: whatever the message and the events, the sender hears no LM_ACK that the rule for holds takes
+-- Document 02, E2: whatever the message and the events, the sender hears no LM_ACK that the rule for holds takes, the
+-- receiver is never held, and no connection has had a hold
 abbrev pub PlayerUnmet : Type 0
 PlayerUnmet =
     (gap timeout limit patience window capacity : ℕ) (ends : Ends)
@@ -54,4 +57,6 @@ PlayerUnmet =
     → (buffer message events : List ℕ)
     → (let s = ends .sender in
     let r = ends .receiver in
-    AllUnmet cappedStep (fresh s r buffer) (callsFrom (startOf s r buffer) message events))
+    let calls = callsFrom (startOf s r buffer) message events in
+    AllUnmet cappedStep (fresh s r buffer) calls
+    × NeverHeld (openedIn (runOf cappedStep (fresh s r buffer) calls .events)))

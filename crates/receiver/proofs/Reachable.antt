@@ -4,7 +4,7 @@
 -- Assumes nothing.
 use Prim.Native.Nat.{ℕ, _+_, _-_, _≤_, _<_}
 use mathlib.Core.Path.{_≡_, refl, subst}
-use mathlib.Core.Bool.{Bool, true, false, _&&_}
+use mathlib.Core.Bool.{Bool, true, false, false≢true, _&&_}
 use mathlib.Core.List.{List}
 use native.Mathlib.Omega.{arith}
 use borrow.Author.Tests.{leb-true, eqb-true, eqb-false, le-leb, lt-leb}
@@ -35,9 +35,6 @@ at-bound bound count top h = go (eqb (count + 1) bound) refl
     go : (b : Bool) → eqb (count + 1) bound ≡ b → leb bound (incrementOf count) ≡ b
     go true e = le-leb bound (incrementOf count) (omega (arith, eqb-true (count + 1) bound e))
     go false e = lt-leb bound (incrementOf count) (omega (arith, eqb-false (count + 1) bound e))
-
-false-not-true : false ≡ true → ⊥
-false-not-true e = let z : _≡_ {A = ℕ} 0 1 = cc in omega arith
 
 -- the answer's next state is within
 abbrev Next : Told → Type 0
@@ -107,7 +104,7 @@ module _ (s : Settings) (w : SettingsWithin s) where
           window = omega arith;
           waits = w .timeoutLow;
           tries = more;
-          pauses = few;
+          heldTimeouts = few;
           begun = begun;
         };
       }
@@ -127,7 +124,7 @@ module _ (s : Settings) (w : SettingsWithin s) where
           window = size;
           waits = early;
           tries = o .tries;
-          pauses = few;
+          heldTimeouts = few;
           begun = begun;
         };
       }
@@ -147,12 +144,12 @@ module _ (s : Settings) (w : SettingsWithin s) where
           window = o .window;
           waits = early;
           tries = o .tries;
-          pauses = o .pauses;
+          heldTimeouts = o .heldTimeouts;
           begun = o .begun;
         };
       }
   ticks-within o (retries {x} _ more) =
-      asked x _ (incrementOf (x .misses)) (o .announced) (o .first) (omega arith) more (o .pauses) (o .begun)
+      asked x _ (incrementOf (x .misses)) (o .announced) (o .first) (omega arith) more (o .heldTimeouts) (o .begun)
   ticks-within o (repeats {x} _ _ more) =
       paused x (x .held) (x .last) 0 (incrementOf (x .holds)) o (o .inside) (o .final) (o .window) (w .timeoutLow) (omega arith) (o .begun)
   ticks-within o expires = record { settings = w; phase = tt }
@@ -163,10 +160,10 @@ module _ (s : Settings) (w : SettingsWithin s) where
   unfolding windowOf
   pauses-within o denied = record { settings = w; phase = o }
   pauses-within o (holds {x} begun _) =
-      paused x true (x .last) (x .wait) (x .holds) o (o .inside) (o .final) (o .window) (o .waits) (o .pauses) (λ _. begun)
+      paused x true (x .last) (x .wait) (x .holds) o (o .inside) (o .final) (o .window) (o .waits) (o .heldTimeouts) (λ _. begun)
   pauses-within o (resumes {x} _) =
       paused x false _ (x .wait) (x .holds) o (window-low s (w .windowLow) (x .expected) (x .frames) (omega arith)) (omega arith) (omega arith)
-      (o .waits) (o .pauses) (λ no. absurd (false-not-true no))
+      (o .waits) (o .heldTimeouts) (λ no. absurd (false≢true no))
 
   -- ---- a hearing
 
@@ -178,13 +175,13 @@ module _ (s : Settings) (w : SettingsWithin s) where
   hears-within {f} o (announced _ _ (opens _ low high fits room)) =
       let a : Announced s (byteOf f 1) (wordAt f 2 3) = record { long = low; space = room; fits = fits; byte = omega arith } in
       asked (opened (byteOf f 1) (wordAt f 2 3) 1) 1 0 a (omega arith) (omega arith) (omega arith) (omega arith)
-      (λ no. absurd (false-not-true no))
+      (λ no. absurd (false≢true no))
   hears-within o (announced _ _ again) = record { settings = w; phase = o }
   hears-within o (informed _ _ _ (ended _)) = record { settings = w; phase = o }
   hears-within o (informed _ _ _ (above _)) = record { settings = w; phase = tt }
   hears-within o (informed _ _ _ (delivers _ _)) = record { settings = w; phase = o .announced }
   hears-within o (informed _ _ _ (asks {x} _ more _)) =
-      asked x (x .expected + 1) 0 (o .announced) (omega arith) (omega arith) (omega arith) (o .pauses) (λ _. omega arith)
+      asked x (x .expected + 1) 0 (o .announced) (omega arith) (omega arith) (omega arith) (o .heldTimeouts) (λ _. omega arith)
   hears-within o (informed _ _ _ (goes-on _ more part)) =
       record {
         settings = w;
@@ -196,7 +193,7 @@ module _ (s : Settings) (w : SettingsWithin s) where
           window = omega arith;
           waits = w .timeoutLow;
           tries = omega arith;
-          pauses = o .pauses;
+          heldTimeouts = o .heldTimeouts;
           begun = λ _. omega arith;
         };
       }

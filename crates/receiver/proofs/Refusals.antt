@@ -1,4 +1,4 @@
--- A refused call of the receiver changes nothing. By the view of its calls: one case of a hearing is a refusal, and it
+-- A refused call of the receiver changes nothing. By the view of its calls: one case of a hearing, and one of a hold or a resume, is a refusal, and it
 -- answers the receiver and the buffer as they were; the outcome of every other case is none.
 -- Assumes nothing.
 use Prim.Native.Nat.{ℕ}

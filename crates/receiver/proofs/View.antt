@@ -2,11 +2,11 @@
 -- call matches on these and unfolds no definition.
 -- Assumes nothing.
 use Prim.Native.Nat.{ℕ, _≤_, _<_}
-use mathlib.Core.Path.{_≡_, refl, sym}
-use mathlib.Core.Bool.{Bool, true, false, not}
+use mathlib.Core.Path.{_≡_}
+use mathlib.Core.Bool.{true, false, not}
 use mathlib.Core.List.{List}
 use native.Mathlib.Omega.{arith}
-use borrow.Author.Tests.{leb-true, leb-false, eqb-true, eqb-false, ltb-true, ltb-false}
+use borrow.Author.Tests.{not-true, leb-true, leb-false, eqb-true, eqb-false, ltb-true, ltb-false}
 use lib.Dec.{eqb, leb}
 use lib.ListN.{length, drop}
 use Rattle.frame.proofs.Choice.{pick-elim, read-elim, both-left, both-right}
@@ -151,10 +151,6 @@ module _ (s : Settings) where
 
 -- ---- the calls do this
 
-was-false : (b : Bool) → not b ≡ true → b ≡ false
-was-false true e = sym e
-was-false false e = refl
-
 module _ (s : Settings) where
   tick-phase : (p : Phase) → Ticks s p (tickPhase (receiverIn s p) p)
   unfolding tickPhase tickOpen timeoutFree timeoutHeld
@@ -178,7 +174,7 @@ module _ (s : Settings) where
       pick-elim (Pauses s hold (Open x)) _
       (λ may.
       let begun = leb-true 2 (x .expected) (both-left (leb 2 (x .expected)) (not (x .held)) may) in
-      holds begun (was-false (x .held) (both-right (leb 2 (x .expected)) (not (x .held)) may)))
+      holds begun (not-true (x .held) (both-right (leb 2 (x .expected)) (not (x .held)) may)))
       (λ _. denied)
 
   resume-phase : (p : Phase) → Pauses s resume p (resumePhase (receiverIn s p) p)

@@ -20,7 +20,7 @@ holdAck x = lmAckOf (x .expected - 1) 1
 
 -- ---- hold
 
--- the number 13, hold, the other way round: a frame has been accepted, and no hold stands
+-- E2, 13, of a hold in an open connection, where it does not apply: a frame has been accepted, and no hold stands
 abbrev pub mayHold : Connection → Bool
 mayHold x = leb 2 (x .expected) && not (x .held)
 
@@ -33,7 +33,7 @@ holding r x =
 unfoldable pub holdOpen : Receiver → Connection → Told
 holdOpen r x = pick (mayHold x) (holding r x) (refusing r 13)
 
--- by the state: refused where none is open
+-- by the state: refused where no connection is open
 unfoldable pub holdPhase : Receiver → Phase → Told
 holdPhase r Idle = refusing r 13
 holdPhase r (Done x) = refusing r 13
@@ -52,7 +52,7 @@ resuming r x =
     let going = marked x false last (x .wait) (x .holds) in
     emitting (inPhase r (Open going)) (windowAck (x .expected) last)
 
--- the number 13, resume: no hold stands
+-- E2, 13, of a resume: no hold stands
 unfoldable pub resumeOpen : Receiver → Connection → Told
 resumeOpen r x = pick (x .held) (resuming r x) (refusing r 13)
 

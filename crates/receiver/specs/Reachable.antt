@@ -54,7 +54,7 @@ pub record OpenWithin (s : Settings) (x : Connection) : Type 0 where
   pub window : x .last ≤ x .expected + s .window - 1
   pub waits : x .wait < s .timeout
   pub tries : x .misses < 3
-  pub pauses : x .holds ≤ 20
+  pub heldTimeouts : x .holds ≤ 20
   pub begun : x .held ≡ true → 2 ≤ x .expected
 
 abbrev pub PhaseWithin : Settings → Phase → Type 0
@@ -78,7 +78,7 @@ pub record Exact (r : Receiver) (x : Connection) : Type 0 where
   -- document 02, E2: the count of held timeouts, and the 21st
   pub holds : incrementOf (x .holds) ≡ x .holds + 1
   pub twentyFirst : leb 21 (incrementOf (x .holds)) ≡ eqb (x .holds + 1) 21
-  -- E2, "LM_ACK e − 1, 1", where it goes out: the start is a frame's number, one below e
+  -- E2, "LM_ACK e − 1, 1", while held (a hold itself tests e): the start is a frame's number, one below e
   pub before : x .held ≡ true → (1 ≤ x .expected - 1) × (x .expected - 1 + 1 ≡ x .expected)
   -- "LM_ACK e, w − e + 1": of the window now, asked for again, and of the next
   pub count : x .last - (x .expected - 1) ≡ x .last + 1 - x .expected

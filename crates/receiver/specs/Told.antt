@@ -1,4 +1,4 @@
--- What the receiver's calls answer, with the numbers that document 01 gives to refusals and causes.
+-- What the receiver's calls answer, with the numbers that documents 01 and 02 give to refusals and causes.
 use Prim.Native.Nat.{ℕ}
 use mathlib.Core.Bool.{Bool, true, false}
 use mathlib.Core.List.{List, [], _∷_}
@@ -28,7 +28,7 @@ pub data Outcome : Type 0 where
   failed : (cause : ℕ) → Outcome
   short : Outcome
 
--- document 01's number and values for each case of the outcome
+-- the documents' number and values for each case of the outcome
 abbrev pub toldOutcome : outcome-enum.Outcome → Outcome
 toldOutcome outcome-variants.Quiet = quiet
 toldOutcome (outcome-variants.Refused number) = refused number

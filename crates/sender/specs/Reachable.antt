@@ -45,7 +45,7 @@ pub record ShortWithin (r : Settings) (t : Transfer) : Type 0 where
   pub frames : t .frames ≡ 1
 
 -- the counts of each phase are below their limits, the numbers of its frames within 1 to N; the last start taken is at most
--- one above the frame that is sent next or was sent last (document 02, E2: while the receiver holds)
+-- one above the frame that is sent next or was sent last (document 02, E2: after an LM_ACK of a hold)
 abbrev pub PhaseWithin : Settings → Phase → Type 0
 PhaseWithin r Idle = Unit
 PhaseWithin r (Opening x) = LongWithin r (x .transfer) × (x .wait < r .timeout) × (x .misses < 3)

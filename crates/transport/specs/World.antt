@@ -52,7 +52,8 @@ pub record Event : Type 0 where
   pub receiver : receiver.Outcome
   -- those of a short delivery, else eight zeros
   pub bytes : List ℕ
-  -- the lent buffer as the receiver's call leaves it; empty where the receiver was not called
+  -- the lent buffer as the receiver's hearing leaves it; at its other calls the receiving buffer; empty where the receiver was
+  -- not called
   pub lent : List ℕ
 
 -- where every list of calls starts
