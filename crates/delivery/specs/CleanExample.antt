@@ -1,6 +1,5 @@
 -- Document 02, E1: two clean transfers of nine bytes and what is seen of them, so that its conditions can be met, whichever
 -- end ticks first. They can be met by the last values that they leave: both T are G + 1, M is N × G + 1, and K is L.
-use Prim.Native.Nat.{ℕ}
 use mathlib.Core.List.{List, [], _∷_}
 use mathlib.Core.Path.{_≡_}
 use lib.ListN.{replicate}

@@ -1,6 +1,6 @@
 -- Document 02, E2: lists of calls with holds, which meet the conditions of demand 3, and what is seen of them. The first is a
--- transfer that is held and delivered; in the second the 21st held timeout falls due; the third is the longest that a
--- connection of two frames can last at T 1.
+-- transfer that is held and delivered; in the second the 21st held timeout falls due; in the third a connection of two frames
+-- lasts as long at T 1 as a search found that it can.
 use Prim.Native.Nat.{ℕ}
 use mathlib.Core.List.{List, [], _∷_, _++_}
 use lib.ListN.{replicate}
@@ -118,7 +118,7 @@ heldTicks = hold ∷ replicate 12 receiverTick ++ resume ∷ hold ∷ replicate 
 abbrev pub heldTicksShown : List Shown
 heldTicksShown = showsAck 1 ∷ replicate 12 (showsAck 1) ++ showsAck 2 ∷ showsAck 1 ∷ replicate 8 (showsAck 1) ++ failed2 ∷ []
 
--- ---- the longest connection of two frames, at T 1
+-- ---- the longest connection of two frames that a search found, at T 1
 
 -- Two misses before frame 1, twenty held timeouts after it, and three misses more: failed at the receiver's tick 25 after the
 -- opening. The bound is 27; a connection that is never held has its report by tick 6.
