@@ -119,9 +119,9 @@ fn emitted(frame: Option<Frame>) -> (bool, FlatFrame) {
     }
 }
 
-/// A setting that the reference holds as a byte.
-fn byte(setting: u16) -> u8 {
-    u8::try_from(setting).expect("gap and window of a state are at most 255")
+/// What one side holds as a byte and the other as two: the sender's gap, the receiver's counts.
+fn byte(number: u16) -> u8 {
+    u8::try_from(number).expect("a gap and the receiver's counts are at most 255")
 }
 
 pub fn sender_of(flat: FlatSender) -> Sender {
@@ -253,15 +253,15 @@ pub fn receiver_of(flat: FlatReceiver) -> Receiver {
             e: flat.expected,
             w: flat.last,
             wait: flat.wait,
-            misses: flat.misses,
+            misses: flat.misses.into(),
             held: flat.held,
-            holds: flat.holds,
+            holds: flat.holds.into(),
         }),
         _ => State::Idle { delivered: None },
     };
     Receiver {
         timeout: flat.timeout,
-        window: byte(flat.window),
+        window: flat.window,
         capacity: flat.capacity,
         state,
     }
@@ -270,7 +270,7 @@ pub fn receiver_of(flat: FlatReceiver) -> Receiver {
 pub fn flat_receiver(end: &Receiver) -> FlatReceiver {
     let settings = FlatReceiver {
         timeout: end.timeout,
-        window: end.window.into(),
+        window: end.window,
         capacity: end.capacity,
         ..FlatReceiver::default()
     };
@@ -291,9 +291,9 @@ pub fn flat_receiver(end: &Receiver) -> FlatReceiver {
             expected: open.e,
             last: open.w,
             wait: open.wait,
-            misses: open.misses,
+            misses: byte(open.misses),
             held: open.held,
-            holds: open.holds,
+            holds: byte(open.holds),
             ..settings
         },
     }

@@ -157,7 +157,7 @@ fn receiver(random: &mut Random) -> FlatReceiver {
     let held = random.percent(40);
     FlatReceiver {
         timeout,
-        window: random.between(1, 255) as u16,
+        window: random.between(1, 255) as u8,
         capacity: edge(random, &[0, 9, 1785, 65535, length]),
         phase,
         frames,
@@ -165,12 +165,12 @@ fn receiver(random: &mut Random) -> FlatReceiver {
         expected,
         last: random.pick(&[expected, frames, 0, 255]),
         wait: below(random, timeout),
-        misses: random.between(0, 2) as u16,
+        misses: random.between(0, 2) as u8,
         held,
         holds: match (random.percent(50), held) {
             (true, _) => random.pick(&[0, 19, 20]),
-            (false, true) => random.between(0, 20) as u16,
-            (false, false) => random.between(0, 65535) as u16,
+            (false, true) => random.between(0, 20) as u8,
+            (false, false) => random.byte(),
         },
     }
 }

@@ -58,17 +58,17 @@ pub struct FlatSenderAnswer {
 #[derive(Clone, Copy, Debug, Default, PartialEq, Eq)]
 pub struct FlatReceiver {
     pub timeout: u16,
-    pub window: u16,
     pub capacity: u16,
+    pub window: u8,
     pub phase: u8,
-    pub frames: u8,
     pub length: u16,
+    pub frames: u8,
     pub expected: u8,
     pub last: u8,
+    pub misses: u8,
     pub wait: u16,
-    pub misses: u16,
     pub held: bool,
-    pub holds: u16,
+    pub holds: u8,
 }
 
 #[repr(C)]

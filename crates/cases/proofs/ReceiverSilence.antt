@@ -3,7 +3,7 @@
 use mathlib.Core.Path.{_≡_, refl, ap, _∙_}
 use mathlib.Core.Bool.{Bool, true, false, _&&_}
 use mathlib.Core.List.{List, [], _∷_, _++_}
-use Prim.Native.Nat.{ℕ, zero, suc, _≤_}
+use Prim.Native.Nat.{ℕ, zero, suc, _+_, _≤_}
 use native.Mathlib.Omega.{arith}
 use borrow.Author.Tests.{le-leb, eq-eqb}
 use lib.Dec.{leb}
@@ -29,8 +29,8 @@ pub openNumbers : ℕ → ℕ → ℕ → ℕ → ℕ → ℕ → List ℕ
 openNumbers timeout expected wait misses tick zero = []
 openNumbers timeout expected wait misses tick (suc ticks) =
     pick (leb timeout (incrementOf wait))
-    (pick (leb 3 (incrementOf misses)) (at tick (nack 2))
-    (at tick (2 ∷ expected ∷ []) ++ openNumbers timeout expected 0 (incrementOf misses) (suc tick) ticks))
+    (pick (leb 3 (misses + 1)) (at tick (nack 2))
+    (at tick (2 ∷ expected ∷ []) ++ openNumbers timeout expected 0 (misses + 1) (suc tick) ticks))
     (openNumbers timeout expected (incrementOf wait) misses (suc tick) ticks)
 
 -- an Idle receiver shows nothing
@@ -69,7 +69,7 @@ open-shows r x tick (suc ticks) free =
     ap (λ (t : Told). after t tick ticks) (free-tick r x free)
     ∙ by-tests (inPhase r (Open x)) tick ticks _ _ _ _
     (leb (r .settings .timeout) (incrementOf (x .wait)))
-    (leb 3 (incrementOf (x .misses)))
+    (leb 3 (x .misses + 1))
     (ap {B = List ℕ} (λ rest. at tick (2 ∷ x .expected ∷ []) ++ rest) (open-shows r _ (suc tick) ticks free))
     (open-shows r _ (suc tick) ticks free)
 

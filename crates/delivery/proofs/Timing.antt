@@ -114,11 +114,10 @@ module _ (st : Settings) (pos : 1 ≤ st .timeout) (small : st .timeout ≤ 1000
       }
 
   timed-out : (x : Connection) (last : ℕ) {t k : ℕ} → Within st x t k → st .timeout ≤ incrementOf (x .wait)
-      → incrementOf (x .misses) < 3
-      → Within st (moved x (x .expected) last 0 (incrementOf (x .misses))) (t + 1) (k + 0)
+      → x .misses + 1 < 3
+      → Within st (moved x (x .expected) last 0 (x .misses + 1)) (t + 1) (k + 0)
   timed-out x last w due more =
       let i = increment-is (x .wait) (omega arith) in
-      let j = increment-is (x .misses) (omega arith) in
       record {
         low = w .low;
         high = w .high;
@@ -126,18 +125,17 @@ module _ (st : Settings) (pos : 1 ≤ st .timeout) (small : st .timeout ≤ 1000
         waits = pos;
         tries = more;
         few = w .few;
-        bound = rw j (omega arith);
+        bound = omega arith;
         free = λ none. w .free (omega arith);
       }
 
   -- a timeout while held: a hold was accepted
   held-on : (x : Connection) {t k : ℕ} → Within st x t k → st .timeout ≤ incrementOf (x .wait) → x .held ≡ true
-      → incrementOf (x .holds) < 21
-      → Within st (marked x (x .held) (x .last) 0 (incrementOf (x .holds))) (t + 1) (k + 0)
+      → x .holds + 1 < 21
+      → Within st (marked x (x .held) (x .last) 0 (x .holds + 1)) (t + 1) (k + 0)
   held-on x w due held more =
       let i = increment-is (x .wait) (omega arith) in
       let few = w .few in
-      let j = increment-is (x .holds) (omega arith) in
       record {
         low = w .low;
         high = w .high;
@@ -145,7 +143,7 @@ module _ (st : Settings) (pos : 1 ≤ st .timeout) (small : st .timeout ≤ 1000
         waits = pos;
         tries = w .tries;
         few = omega arith;
-        bound = rw j (omega arith);
+        bound = omega arith;
         free = λ none. absurd (false≢true (sym (w .free (omega arith) .0) ∙ held));
       }
 

@@ -34,24 +34,25 @@ use receiver::Phase;
 use receiver::Receiver;
 use receiver::Settings;
 
-// A receiver: timeout T, window C and capacity K; the phase's number (0 Idle, 1 Idle with a
-// delivery remembered, 2 Open; any other is read as Idle); N and L; the frame expected, the
-// window's last, wait and misses; whether the transfer is held, and the timeouts while it was. What
-// a phase has not is written as 0, the mark as false, and not read.
+// A receiver: timeout T, capacity K and window C; the phase's number (0 Idle, 1 Idle with a delivery
+// remembered, 2 Open; any other is read as Idle); L and N; the frame expected, the window's last,
+// misses and wait; whether the transfer is held, and the timeouts while it was. What a phase has not
+// is written as 0, the mark as false, and not read. In this order it has 16 bytes, so that C passes
+// it in registers.
 #[repr(C)]
 pub struct FlatReceiver {
     pub timeout: u16,
-    pub window: u16,
     pub capacity: u16,
+    pub window: u8,
     pub phase: u8,
-    pub frames: u8,
     pub length: u16,
+    pub frames: u8,
     pub expected: u8,
     pub last: u8,
+    pub misses: u8,
     pub wait: u16,
-    pub misses: u16,
     pub held: bool,
-    pub holds: u16,
+    pub holds: u8,
 }
 
 // What making answers: the refusal's number, 0 where there is none, and the receiver, zeros where
@@ -203,10 +204,10 @@ fn write_outcome(outcome: Outcome) -> Report
 fn write_answer(a: Answer) -> FlatReceiverAnswer
     ensures { λ r. ⌜ r ≡ flatAnswer (told a) ⌝ }
 {
-    let next = write_receiver(a.next);
-    let frame = write_frame(a.frame);
     let outcome = a.outcome;
     let report = write_outcome(outcome);
+    let next = write_receiver(a.next);
+    let frame = write_frame(a.frame);
     let bytes = a.bytes;
     FlatReceiverAnswer {
         next,

@@ -10,13 +10,13 @@ use native.Mathlib.Nat.{le-refl}
 use native.Mathlib.Omega.{arith}
 use native.Mathlib.Numerals.{add-one}
 use borrow.Author.Needs.{length-unmapped}
-use borrow.Author.Tests.{le-leb, lt-leb, lt-ltb, le-ltb, eq-eqb, ne-eqb}
+use borrow.Author.Tests.{leb-true, le-leb, lt-leb, lt-ltb, le-ltb, eq-eqb, ne-eqb}
 use borrow.Rule.Slice.PartMut.{putMid}
 use lib.Dec.{leb}
 use lib.ListN.{length, getD, take, drop, set, length-drop, drop-of-length-le}
 use lib.Seq.{drop-cons, drop-drop, take-suc, take-all, set-at, append-snoc, length-take-le, paste}
 use Rattle.frame.specs.Result.{accepted, refused, refusalOf}
-use Rattle.frame.proofs.Choice.{pick-true, pick-false}
+use Rattle.frame.proofs.Choice.{pick-true, pick-false, both-left, both-right}
 use Rattle.frame.specs.Choice.{pick}
 use Rattle.frame.specs.Count.{incrementOf, wordOf, within}
 use Rattle.frame.specs.Frames.{byteOf, lmNackOf, smAckOf}
@@ -28,6 +28,7 @@ use Rattle.frame.specs.declared.Reading.the-variants.{Read, Refused}
 use Rattle.receiver.specs.Hear.{announcesWell, opening, announceIdle, announcedAgain, openingAgain, announceOpen, hearAnnouncement, ending, askingNext, expectingNext, stored, carried, storing, informationOpen, endingAgain, informationDone, hearInformation, hearNack, hearNumbered, isHeld, hearUnlessHeld, hearKind, hearRead, hearOf}
 use Rattle.receiver.specs.Hold.{mayHold, holding, holdOpen, holdPhase, holdOf, resuming, resumeOpen, resumePhase, resumeOf}
 use Rattle.receiver.specs.Make.{settingsFit, idleWith, makeOf}
+use Rattle.receiver.specs.Reachable.{SettingsWithin}
 use Rattle.receiver.specs.State.{inPhase}
 use Rattle.receiver.specs.Tick.{waiting, askingAgain, timeoutFree, holdingOn, timeoutHeld, tickOpen, tickPhase, tickOf}
 use Rattle.receiver.specs.Told.{Told, Heard, heard, refusing, silently, emitting, failingWith, failing, shortWith, shortOnly}
@@ -56,28 +57,57 @@ pub make-refused : (timeout window capacity : ℕ) {fit : Bool} → fit ≡ sett
 unfolding makeOf
 make-refused timeout window capacity f t = pick-false _ (sym f ∙ t) refl
 
+-- a number within its limits
+low-of : (low x high : ℕ) → within low x high ≡ true → low ≤ x
+low-of low x high e = leb-true _ _ (both-left (leb low x) (leb x high) e)
+
+high-of : (low x high : ℕ) → within low x high ≡ true → x ≤ high
+high-of low x high e = leb-true _ _ (both-right (leb low x) (leb x high) e)
+
+-- settings that fit are within their limits
+pub settings-within : (timeout window capacity : ℕ) → settingsFit timeout window capacity ≡ true
+    → SettingsWithin (idleWith timeout window capacity .settings)
+settings-within timeout window capacity e =
+    let t = both-left (within 1 timeout 10000) (within 1 window 255 && within 9 capacity 1785) e in
+    let rest = both-right (within 1 timeout 10000) (within 1 window 255 && within 9 capacity 1785) e in
+    let w = both-left (within 1 window 255) (within 9 capacity 1785) rest in
+    let k = both-right (within 1 window 255) (within 9 capacity 1785) rest in
+    record {
+      timeoutLow = low-of 1 timeout 10000 t;
+      timeoutHigh = high-of 1 timeout 10000 t;
+      windowLow = low-of 1 window 255 w;
+      windowHigh = high-of 1 window 255 w;
+      capacityLow = low-of 9 capacity 1785 k;
+      capacityHigh = high-of 9 capacity 1785 k;
+    }
+
+-- so a window that fits is a byte
+pub window-byte : (timeout window capacity : ℕ) {fit : Bool} → fit ≡ settingsFit timeout window capacity → fit ≡ true
+    → window < 256
+window-byte timeout window capacity f t =
+    let s = settings-within timeout window capacity (sym f ∙ t) in
+    omega (arith, s .windowHigh)
+
 pub ruleset makes = (make-made, make-refused)
 
 -- ---- a tick
 
 module _ (r : Receiver) (x : Connection) {a : Told} where
-  module _ {misses : ℕ} (m : misses ≡ incrementOf (x .misses)) where
-    pub free-fails : a ≡ failingWith r 2 → 3 ≤ misses → a ≡ timeoutFree r x
-    unfolding timeoutFree
-    free-fails e third = pick-true _ (le-leb 3 (incrementOf (x .misses)) (omega arith)) e
+  pub free-fails : a ≡ failingWith r 2 → 2 ≤ x .misses → a ≡ timeoutFree r x
+  unfolding timeoutFree
+  free-fails e third = pick-true _ (le-leb 3 (x .misses + 1) (omega arith)) e
 
-    pub free-asks : a ≡ askingAgain r x → misses < 3 → a ≡ timeoutFree r x
-    unfolding timeoutFree
-    free-asks e more = pick-false _ (lt-leb 3 (incrementOf (x .misses)) (omega arith)) e
+  pub free-asks : a ≡ askingAgain r x → x .misses < 2 → a ≡ timeoutFree r x
+  unfolding timeoutFree
+  free-asks e more = pick-false _ (lt-leb 3 (x .misses + 1) (omega arith)) e
 
-  module _ {holds : ℕ} (m : holds ≡ incrementOf (x .holds)) where
-    pub held-fails : a ≡ failingWith r 2 → 21 ≤ holds → a ≡ timeoutHeld r x
-    unfolding timeoutHeld
-    held-fails e over = pick-true _ (le-leb 21 (incrementOf (x .holds)) (omega arith)) e
+  pub held-fails : a ≡ failingWith r 2 → 20 ≤ x .holds → a ≡ timeoutHeld r x
+  unfolding timeoutHeld
+  held-fails e over = pick-true _ (le-leb 21 (x .holds + 1) (omega arith)) e
 
-    pub held-goes-on : a ≡ holdingOn r x → holds < 21 → a ≡ timeoutHeld r x
-    unfolding timeoutHeld
-    held-goes-on e more = pick-false _ (lt-leb 21 (incrementOf (x .holds)) (omega arith)) e
+  pub held-goes-on : a ≡ holdingOn r x → x .holds < 20 → a ≡ timeoutHeld r x
+  unfolding timeoutHeld
+  held-goes-on e more = pick-false _ (lt-leb 21 (x .holds + 1) (omega arith)) e
 
 module _ (r : Receiver) (x : Connection) {wait : ℕ} (w : wait ≡ incrementOf (x .wait)) where
   pub tick-waits : {a : Told} → a ≡ waiting r x → wait < r .settings .timeout → a ≡ tickOpen r x

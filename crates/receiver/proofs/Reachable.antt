@@ -4,17 +4,18 @@
 -- Assumes nothing.
 use Prim.Native.Nat.{ℕ, _+_, _-_, _≤_, _<_}
 use mathlib.Core.Path.{_≡_, refl, subst}
-use mathlib.Core.Bool.{Bool, true, false, false≢true, _&&_}
+use mathlib.Core.Bool.{Bool, true, false, false≢true}
 use mathlib.Core.List.{List}
 use native.Mathlib.Omega.{arith}
-use borrow.Author.Tests.{leb-true, eqb-true, eqb-false, le-leb, lt-leb}
+use borrow.Author.Tests.{eqb-true, eqb-false, le-leb, lt-leb}
 use lib.Dec.{eqb, leb}
 use Rattle.frame.specs.Result.{Result, accepted}
-use Rattle.frame.specs.Count.{frameCountOf, incrementOf, within}
+use Rattle.frame.specs.Count.{frameCountOf, incrementOf}
 use Rattle.frame.specs.Frames.{byteOf, wordAt}
 use Rattle.frame.specs.declared.Frame.{Frame}
-use Rattle.frame.proofs.Choice.{pick-elim, both-left, both-right}
+use Rattle.frame.proofs.Choice.{pick-elim}
 use Rattle.frame.proofs.Laws.{frame-count-bounds}
+use Rattle.receiver.proofs.Laws.{settings-within}
 use Rattle.receiver.proofs.View.{receiverIn, Ticks, rests, waits, retries, repeats, expires, tick-does, Pause, hold, resume, Pauses, denied, holds, resumes, pause-does, nacks, opens, again, ended, above, delivers, asks, goes-on, Hears, refuses, ignores, announced, informed, closes, short, short-only, hear-does}
 use Rattle.receiver.specs.Make.{settingsFit, idleWith, makeOf}
 use Rattle.receiver.specs.Reachable.{Reachable, new, ticked, held, resumed, hearing, SettingsWithin, Announced, OpenWithin, PhaseWithin, Within, Exact, EveryReachable}
@@ -28,13 +29,19 @@ use Rattle.receiver.specs.declared.Receiver.{Receiver}
 use Rattle.receiver.specs.declared.Settings.{Settings}
 
 -- a count that is short of a bound reaches it at the bound
+at-exactly : (bound count : ℕ) → count < bound → leb bound (count + 1) ≡ eqb (count + 1) bound
+at-exactly bound count h = go (eqb (count + 1) bound) refl
+  where
+    go : (b : Bool) → eqb (count + 1) bound ≡ b → leb bound (count + 1) ≡ b
+    go true e = le-leb bound (count + 1) (omega (arith, eqb-true (count + 1) bound e))
+    go false e = lt-leb bound (count + 1) (omega (arith, eqb-false (count + 1) bound e))
+
+-- so does one that is cut, since the bound is below the cut
 at-bound : (bound count : ℕ) → bound ≤ 65535 → count < bound → leb bound (incrementOf count) ≡ eqb (count + 1) bound
 unfolding incrementOf
-at-bound bound count top h = go (eqb (count + 1) bound) refl
-  where
-    go : (b : Bool) → eqb (count + 1) bound ≡ b → leb bound (incrementOf count) ≡ b
-    go true e = le-leb bound (incrementOf count) (omega (arith, eqb-true (count + 1) bound e))
-    go false e = lt-leb bound (incrementOf count) (omega (arith, eqb-false (count + 1) bound e))
+at-bound bound count top h =
+    let whole : incrementOf count ≡ count + 1 = omega arith in
+    rw whole (at-exactly bound count h)
 
 -- the answer's next state is within
 abbrev Next : Told → Type 0
@@ -44,29 +51,6 @@ abbrev NextHeard : Heard → Type 0
 NextHeard h = Within (h .told .next)
 
 -- ---- making
-
--- a number within its limits
-low-of : (low x high : ℕ) → within low x high ≡ true → low ≤ x
-low-of low x high e = leb-true _ _ (both-left (leb low x) (leb x high) e)
-
-high-of : (low x high : ℕ) → within low x high ≡ true → x ≤ high
-high-of low x high e = leb-true _ _ (both-right (leb low x) (leb x high) e)
-
-settings-within : (timeout window capacity : ℕ) → settingsFit timeout window capacity ≡ true
-    → SettingsWithin (idleWith timeout window capacity .settings)
-settings-within timeout window capacity e =
-    let t = both-left (within 1 timeout 10000) (within 1 window 255 && within 9 capacity 1785) e in
-    let rest = both-right (within 1 timeout 10000) (within 1 window 255 && within 9 capacity 1785) e in
-    let w = both-left (within 1 window 255) (within 9 capacity 1785) rest in
-    let k = both-right (within 1 window 255) (within 9 capacity 1785) rest in
-    record {
-      timeoutLow = low-of 1 timeout 10000 t;
-      timeoutHigh = high-of 1 timeout 10000 t;
-      windowLow = low-of 1 window 255 w;
-      windowHigh = high-of 1 window 255 w;
-      capacityLow = low-of 9 capacity 1785 k;
-      capacityHigh = high-of 9 capacity 1785 k;
-    }
 
 -- what is made is within
 abbrev MadeWithin : Result Receiver → Type 0
@@ -149,9 +133,9 @@ module _ (s : Settings) (w : SettingsWithin s) where
         };
       }
   ticks-within o (retries {x} _ more) =
-      asked x _ (incrementOf (x .misses)) (o .announced) (o .first) (omega arith) more (o .heldTimeouts) (o .begun)
+      asked x _ (x .misses + 1) (o .announced) (o .first) (omega arith) more (o .heldTimeouts) (o .begun)
   ticks-within o (repeats {x} _ _ more) =
-      paused x (x .held) (x .last) 0 (incrementOf (x .holds)) o (o .inside) (o .final) (o .window) (w .timeoutLow) (omega arith) (o .begun)
+      paused x (x .held) (x .last) 0 (x .holds + 1) o (o .inside) (o .final) (o .window) (w .timeoutLow) (omega arith) (o .begun)
   ticks-within o expires = record { settings = w; phase = tt }
 
   -- ---- a hold or a resume
@@ -221,11 +205,9 @@ within-exact r x w p =
     let n = o .announced .fits in
     record {
       wait = omega arith;
-      misses = omega arith;
       due = at-bound (r .settings .timeout) (x .wait) (omega arith) (omega arith);
-      third = at-bound 3 (x .misses) (omega arith) (omega arith);
-      holds = omega arith;
-      twentyFirst = at-bound 21 (x .holds) (omega arith) (omega arith);
+      third = at-exactly 3 (x .misses) (omega arith);
+      twentyFirst = at-exactly 21 (x .holds) (omega arith);
       before = λ on. let begun = o .begun on in (omega arith, omega arith);
       count = omega arith;
       again = window-low (r .settings) (w .settings .windowLow) (x .expected) (x .frames) (omega arith);

@@ -1,7 +1,7 @@
 -- What each call of the receiver does, one constructor for each effect, with what its tests found. A proof about every
 -- call matches on these and unfolds no definition.
 -- Assumes nothing.
-use Prim.Native.Nat.{ℕ, _≤_, _<_}
+use Prim.Native.Nat.{ℕ, _+_, _≤_, _<_}
 use mathlib.Core.Path.{_≡_}
 use mathlib.Core.Bool.{true, false, not}
 use mathlib.Core.List.{List}
@@ -61,12 +61,12 @@ module _ (s : Settings) where
         → Ticks (Open x) (waiting (openWith x) x)
     retries : {x : Connection}
         → s .timeout ≤ incrementOf (x .wait)
-        → incrementOf (x .misses) < 3
+        → x .misses + 1 < 3
         → Ticks (Open x) (askingAgain (openWith x) x)
     repeats : {x : Connection}
         → s .timeout ≤ incrementOf (x .wait)
         → x .held ≡ true
-        → incrementOf (x .holds) < 21
+        → x .holds + 1 < 21
         → Ticks (Open x) (holdingOn (openWith x) x)
     expires : {x : Connection} → Ticks (Open x) (failingWith (openWith x) 2)
 

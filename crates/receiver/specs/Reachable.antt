@@ -69,15 +69,13 @@ pub record Within (r : Receiver) : Type 0 where
 -- What the definitions do in another way than the documents say, for the sake of states that no calls make, is the same
 -- in a state within: no count is cut, "at least" is "at", no difference is cut, and what is stored lies inside L.
 pub record Exact (r : Receiver) (x : Connection) : Type 0 where
-  -- "wait grows by 1", "misses grows by 1"
+  -- "wait grows by 1"
   pub wait : incrementOf (x .wait) ≡ x .wait + 1
-  pub misses : incrementOf (x .misses) ≡ x .misses + 1
   -- "At T", "the third"
   pub due : leb (r .settings .timeout) (incrementOf (x .wait)) ≡ eqb (x .wait + 1) (r .settings .timeout)
-  pub third : leb 3 (incrementOf (x .misses)) ≡ eqb (x .misses + 1) 3
-  -- document 02, E2: the count of held timeouts, and the 21st
-  pub holds : incrementOf (x .holds) ≡ x .holds + 1
-  pub twentyFirst : leb 21 (incrementOf (x .holds)) ≡ eqb (x .holds + 1) 21
+  pub third : leb 3 (x .misses + 1) ≡ eqb (x .misses + 1) 3
+  -- document 02, E2, "where a 21st would fall due"
+  pub twentyFirst : leb 21 (x .holds + 1) ≡ eqb (x .holds + 1) 21
   -- E2, "LM_ACK e − 1, 1", while held (a hold itself tests e): the start is a frame's number, one below e
   pub before : x .held ≡ true → (1 ≤ x .expected - 1) × (x .expected - 1 + 1 ≡ x .expected)
   -- "LM_ACK e, w − e + 1": of the window now, asked for again, and of the next

@@ -1,4 +1,5 @@
 -- Document 01, The receiver, "Tick, Open" and "Tick or LM_NACK, Idle"; document 02, E2, the timeouts while held.
+use Prim.Native.Nat.{_+_}
 use lib.Dec.{leb}
 use Rattle.frame.specs.Choice.{pick}
 use Rattle.frame.specs.Count.{incrementOf}
@@ -19,21 +20,21 @@ waiting r x =
 
 -- at T, before the third miss: a miss more, and the window from the expected frame on is asked for, which clears wait
 abbrev pub askingAgain : Receiver → Connection → Told
-askingAgain r x = asking r x (x .expected) (incrementOf (x .misses))
+askingAgain r x = asking r x (x .expected) (x .misses + 1)
 
 -- the third miss fails the connection with NACK 2
 unfoldable pub timeoutFree : Receiver → Connection → Told
-timeoutFree r x = pick (leb 3 (incrementOf (x .misses))) (failingWith r 2) (askingAgain r x)
+timeoutFree r x = pick (leb 3 (x .misses + 1)) (failingWith r 2) (askingAgain r x)
 
 -- E2, at T while held: the hold's LM_ACK goes out again and is counted, wait starts again; misses and w stay
 abbrev pub holdingOn : Receiver → Connection → Told
 holdingOn r x =
-    let kept = marked x (x .held) (x .last) 0 (incrementOf (x .holds)) in
+    let kept = marked x (x .held) (x .last) 0 (x .holds + 1) in
     emitting (inPhase r (Open kept)) (holdAck x)
 
 -- E2, "a connection has 20 of these": in place of the 21st it fails with NACK 2
 unfoldable pub timeoutHeld : Receiver → Connection → Told
-timeoutHeld r x = pick (leb 21 (incrementOf (x .holds))) (failingWith r 2) (holdingOn r x)
+timeoutHeld r x = pick (leb 21 (x .holds + 1)) (failingWith r 2) (holdingOn r x)
 
 -- at T by the held mark. A state that no calls make may be past T, the third miss or the 21st held timeout; it does as one
 -- that is at it.

@@ -14,7 +14,7 @@ use frame::Frame;
 // Timeout T in ticks, window C in frames, capacity K in bytes.
 pub struct Settings {
     pub timeout: u16,
-    pub window: u16,
+    pub window: u8,
     pub capacity: u16,
 }
 
@@ -24,17 +24,18 @@ pub struct Delivery {
     pub length: u16,
 }
 
-// An open connection: N and L as announced, the frame number expected (e) and the last of the window (w); whether it is
-// held, and how many timeouts it has had while held.
+// An open connection: N and L as announced, the frame number expected (e) and the last of the window (w), the ticks
+// waited and the timeouts in a row; whether it is held, and how many timeouts it has had while held. In this order it is
+// laid out without gaps.
 pub struct Connection {
     pub frames: u8,
-    pub length: u16,
     pub expected: u8,
+    pub length: u16,
     pub last: u8,
+    pub misses: u8,
     pub wait: u16,
-    pub misses: u16,
     pub held: bool,
-    pub holds: u16,
+    pub holds: u8,
 }
 
 // Idle with nothing delivered that is remembered, Idle with the last delivery (Done), or Open.

@@ -24,7 +24,7 @@ impl Receiver {
             Made::End(Receiver {
                 settings: Settings {
                     timeout,
-                    window,
+                    window: window as u8,
                     capacity,
                 },
                 phase: Phase::Idle,

@@ -41,7 +41,7 @@ impl Connection {
     }
 
     // With other numbers.
-    pub(crate) fn moved(self, expected: u8, last: u8, wait: u16, misses: u16) -> Connection
+    pub(crate) fn moved(self, expected: u8, last: u8, wait: u16, misses: u8) -> Connection
         ensures { λ r. ⌜ r ≡ moved self expected last wait misses ⌝ }
     {
         Connection {
@@ -57,7 +57,7 @@ impl Connection {
     }
 
     // With another held mark, window end, wait and count of held timeouts.
-    pub(crate) fn marked(self, held: bool, last: u8, wait: u16, holds: u16) -> Connection
+    pub(crate) fn marked(self, held: bool, last: u8, wait: u16, holds: u8) -> Connection
         ensures { λ r. ⌜ r ≡ marked self held last wait holds ⌝ }
     {
         Connection {

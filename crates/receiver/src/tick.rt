@@ -1,5 +1,6 @@
 // A tick: the wait of an open connection.
 ghost use mathlib.Core.Path.{_≡_};
+ghost use Prim.Native.Nat.{_<_};
 ghost use Rattle.receiver.specs.Tick.{waiting, askingAgain, timeoutFree, holdingOn, timeoutHeld, tickOpen, tickOf};
 ghost use Rattle.receiver.specs.Told.{told};
 use crate::Answer;
@@ -20,16 +21,17 @@ impl Receiver {
 
     // A miss more, and the window is asked for again.
     fn asking_again(self, x: Connection) -> Answer
+        requires { ⌜ x .misses < 2 ⌝ }
         ensures { λ r. ⌜ told r ≡ askingAgain self x ⌝ }
     {
-        self.asking(x, x.expected, increment(x.misses))
+        self.asking(x, x.expected, x.misses + 1)
     }
 
     // The window is asked for again; at the third miss the connection fails.
     fn timeout_free(self, x: Connection) -> Answer
         ensures { λ r. ⌜ told r ≡ timeoutFree self x ⌝ }
     {
-        if 3 <= increment(x.misses) {
+        if 2 <= x.misses {
             self.failing_with(2)
         } else {
             self.asking_again(x)
@@ -38,9 +40,10 @@ impl Receiver {
 
     // The hold's LM_ACK again, and counted.
     fn holding_on(self, x: Connection) -> Answer
+        requires { ⌜ x .holds < 20 ⌝ }
         ensures { λ r. ⌜ told r ≡ holdingOn self x ⌝ }
     {
-        let holds = increment(x.holds);
+        let holds = x.holds + 1;
         self.in_phase(Phase::Open(x.marked(x.held, x.last, 0, holds)))
             .emitting(x.hold_ack())
     }
@@ -49,7 +52,7 @@ impl Receiver {
     fn timeout_held(self, x: Connection) -> Answer
         ensures { λ r. ⌜ told r ≡ timeoutHeld self x ⌝ }
     {
-        if 21 <= increment(x.holds) {
+        if 20 <= x.holds {
             self.failing_with(2)
         } else {
             self.holding_on(x)

@@ -42,7 +42,7 @@ impl Settings {
 
 impl Receiver {
     // The window from `expected` on is asked for.
-    pub(crate) fn asking(self, x: Connection, expected: u8, misses: u16) -> Answer
+    pub(crate) fn asking(self, x: Connection, expected: u8, misses: u8) -> Answer
         ensures { λ r. ⌜ told r ≡ asking self x expected misses ⌝ }
     {
         let last = self.settings.window_of(expected, x.frames);

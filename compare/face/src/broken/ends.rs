@@ -265,7 +265,7 @@ fn capacity_8([timeout, window, capacity]: [u16; 3], made: &mut FlatReceiverMade
         made.refusal = 0;
         made.receiver = FlatReceiver {
             timeout,
-            window,
+            window: window as u8,
             capacity,
             ..made.receiver
         };

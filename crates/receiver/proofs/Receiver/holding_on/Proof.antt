@@ -4,8 +4,8 @@ use borrow.Author.Needs.{needs}
 use Rattle.receiver.proofs.Receiver.holding_on.Statement.{statement}
 use Rattle.receiver.proofs.Receiver.holding_on.Tie as tie
 
-increment-requires : tie.Need-increment-requires
-increment-requires c κs = search needs
+add-holds : tie.Need-add-holds
+add-holds c = search needs
 
 marked-requires : tie.Need-marked-requires
 marked-requires c κs = search needs
@@ -26,7 +26,7 @@ pub holding-on-spec : {M : Type 1} → statement M
 holding-on-spec =
     tie.close
     (tie.spec
-    increment-requires
+    add-holds
     marked-requires
     in-phase-requires
     hold-ack-requires

@@ -5,9 +5,6 @@ use Rattle.receiver.proofs.Laws.{ticks-open}
 use Rattle.receiver.proofs.Receiver.timeout_held.Statement.{statement}
 use Rattle.receiver.proofs.Receiver.timeout_held.Tie as tie
 
-increment-requires : tie.Need-increment-requires
-increment-requires c κs = search needs
-
 failing-with-requires : tie.Need-failing-with-requires
 failing-with-requires c κs = search needs
 
@@ -22,5 +19,4 @@ returns-2 c = search ticks-open
 
 pub timeout-held-spec : {M : Type 1} → statement M
 timeout-held-spec =
-    tie.close
-    (tie.spec increment-requires failing-with-requires holding-on-requires returns returns-2)
+    tie.close (tie.spec failing-with-requires holding-on-requires returns returns-2)
