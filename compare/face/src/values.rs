@@ -5,8 +5,8 @@
 #[repr(C)]
 #[derive(Clone, Copy, Debug, Default, PartialEq, Eq)]
 pub struct FlatFrame {
-    pub kind: u8,
     pub bytes: [u8; 8],
+    pub kind: u8,
 }
 
 /// A sender. Phase 0 is Idle, 1 Opening, 2 Sending, 3 Waiting, 4 Short, any other is read as Idle. What a phase has not is

@@ -6,8 +6,8 @@ use frame::Frame;
 // A kind and the bytes d0 to d7.
 #[repr(C)]
 pub struct FlatFrame {
-    pub kind: u8,
     pub bytes: [u8; 8],
+    pub kind: u8,
 }
 
 pub(crate) fn read_frame(f: FlatFrame) -> Frame
