@@ -80,9 +80,10 @@ enum {
     KOSPELNA_KIND_SM_URM = 7
 };
 
+/* The bytes stand first, so that they are passed in one register: name the fields where a frame is initialised. */
 typedef struct kospelna_frame {
-    uint8_t kind;     /* KOSPELNA_KIND_.. */
     uint8_t bytes[8]; /* d0 to d7 */
+    uint8_t kind;     /* KOSPELNA_KIND_.. */
 } kospelna_frame;
 
 /* The cause in an LM_NACK, its d0. */
@@ -203,17 +204,17 @@ enum {
 /* A receiver. Beside each field the phases that have it; in every other phase it is not read, and is written as 0. */
 typedef struct kospelna_receiver {
     uint16_t timeout;  /* timeout T in ticks, its own: every phase */
-    uint16_t window;   /* window C in frames: every phase */
     uint16_t capacity; /* capacity K in bytes: every phase */
+    uint8_t window;    /* window C in frames: every phase */
     uint8_t phase;     /* KOSPELNA_RECEIVER_.. */
-    uint8_t frames;    /* N: Done, Open */
     uint16_t length;   /* L: Done, Open */
+    uint8_t frames;    /* N: Done, Open */
     uint8_t expected;  /* e, the number of the frame expected: Open */
     uint8_t last;      /* w, the number of the window's last frame: Open */
+    uint8_t misses;    /* timeouts in a row: Open */
     uint16_t wait;     /* ticks waited: Open */
-    uint16_t misses;   /* timeouts in a row: Open */
     bool held;         /* the transfer is held: Open */
-    uint16_t holds;    /* timeouts that this connection has had while held: Open */
+    uint8_t holds;     /* timeouts that this connection has had while held: Open */
 } kospelna_receiver;
 
 typedef struct kospelna_receiver_made {

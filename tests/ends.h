@@ -36,17 +36,17 @@ static inline bool same_receiver(kospelna_receiver a, kospelna_receiver b)
 }
 
 /* Frames of the message of bytes 1 to 9, so N 2, and of its first three. */
-static const kospelna_frame announcement = {KOSPELNA_KIND_INFORMATION, {0, 2, 9, 0, 255, 255, 255, 255}};
-static const kospelna_frame first_part = {KOSPELNA_KIND_INFORMATION, {1, 1, 2, 3, 4, 5, 6, 7}};
-static const kospelna_frame last_part = {KOSPELNA_KIND_INFORMATION, {2, 8, 9, 255, 255, 255, 255, 255}};
-static const kospelna_frame lm_ack = {KOSPELNA_KIND_LM_ACK, {1, 2, 255, 255, 255, 255, 255, 255}};
-static const kospelna_frame endofack = {KOSPELNA_KIND_LM_ENDOFACK, {2, 9, 0, 255, 255, 255, 255, 255}};
-static const kospelna_frame sm_rm = {KOSPELNA_KIND_SM_RM, {1, 2, 3, 255, 255, 255, 255, 255}};
-static const kospelna_frame sm_ack = {KOSPELNA_KIND_SM_ACK, {1, 255, 255, 255, 255, 255, 255, 255}};
+static const kospelna_frame announcement = {.kind = KOSPELNA_KIND_INFORMATION, .bytes = {0, 2, 9, 0, 255, 255, 255, 255}};
+static const kospelna_frame first_part = {.kind = KOSPELNA_KIND_INFORMATION, .bytes = {1, 1, 2, 3, 4, 5, 6, 7}};
+static const kospelna_frame last_part = {.kind = KOSPELNA_KIND_INFORMATION, .bytes = {2, 8, 9, 255, 255, 255, 255, 255}};
+static const kospelna_frame lm_ack = {.kind = KOSPELNA_KIND_LM_ACK, .bytes = {1, 2, 255, 255, 255, 255, 255, 255}};
+static const kospelna_frame endofack = {.kind = KOSPELNA_KIND_LM_ENDOFACK, .bytes = {2, 9, 0, 255, 255, 255, 255, 255}};
+static const kospelna_frame sm_rm = {.kind = KOSPELNA_KIND_SM_RM, .bytes = {1, 2, 3, 255, 255, 255, 255, 255}};
+static const kospelna_frame sm_ack = {.kind = KOSPELNA_KIND_SM_ACK, .bytes = {1, 255, 255, 255, 255, 255, 255, 255}};
 
 static inline kospelna_frame nack(uint8_t cause)
 {
-    return (kospelna_frame){KOSPELNA_KIND_LM_NACK, {cause, 255, 255, 255, 255, 255, 255, 255}};
+    return (kospelna_frame){.kind = KOSPELNA_KIND_LM_NACK, .bytes = {cause, 255, 255, 255, 255, 255, 255, 255}};
 }
 
 static uint8_t buffer[KOSPELNA_BUFFER_LENGTH];

@@ -120,7 +120,7 @@ static void example(void)
 /* An ignored frame leaves every field that the phase has, and 0 in every other, each in its place. */
 static void places(void)
 {
-    const kospelna_frame old = {KOSPELNA_KIND_INFORMATION, {200, 0, 0, 0, 0, 0, 0, 0}};
+    const kospelna_frame old = {.kind = KOSPELNA_KIND_INFORMATION, .bytes = {200, 0, 0, 0, 0, 0, 0, 0}};
     kospelna_sender s = {
         .gap = 257, .timeout = 258, .limit = 259, .phase = KOSPELNA_SENDER_SENDING, .length = 260, .frames = 1, .first = 2,
         .age = 261, .emitted = 262, .wait = 263, .misses = 264, .start = 3, .due = 4, .last = 5, .count = 265};
@@ -137,19 +137,19 @@ static void places(void)
     must(same_sender(kospelna_sender_hear(s, sm_ack).next, left), "an unknown phase of a sender");
 
     kospelna_receiver r = {
-        .timeout = 257, .window = 258, .capacity = 259, .phase = KOSPELNA_RECEIVER_OPEN, .frames = 201, .length = 260,
-        .expected = 2, .last = 3, .wait = 261, .misses = 262, .held = true, .holds = 263};
+        .timeout = 257, .capacity = 258, .window = 4, .phase = KOSPELNA_RECEIVER_OPEN, .length = 259, .frames = 201,
+        .expected = 5, .last = 6, .misses = 7, .wait = 260, .held = true, .holds = 8};
     kospelna_receiver_answer a = kospelna_receiver_hear(r, old, buffer, sizeof buffer);
     must(!a.emits && a.outcome == KOSPELNA_QUIET && same_receiver(a.next, r), "a field of Open");
     r.phase = 3;
-    const kospelna_receiver idle = {.timeout = 257, .window = 258, .capacity = 259, .phase = KOSPELNA_RECEIVER_IDLE};
+    const kospelna_receiver idle = {.timeout = 257, .capacity = 258, .window = 4, .phase = KOSPELNA_RECEIVER_IDLE};
     must(same_receiver(kospelna_receiver_tick(r).next, idle), "an unknown phase of a receiver");
 }
 
 static void refusals(void)
 {
-    const kospelna_frame urm = {KOSPELNA_KIND_SM_URM, {1, 2, 3, 255, 255, 255, 255, 255}};
-    const kospelna_frame bad = {KOSPELNA_KIND_SM_ACK, {1, 2, 255, 255, 255, 255, 255, 255}};
+    const kospelna_frame urm = {.kind = KOSPELNA_KIND_SM_URM, .bytes = {1, 2, 3, 255, 255, 255, 255, 255}};
+    const kospelna_frame bad = {.kind = KOSPELNA_KIND_SM_ACK, .bytes = {1, 2, 255, 255, 255, 255, 255, 255}};
     kospelna_sender_answer a = kospelna_sender_begin(sender, message, 0);
     must(a.outcome == KOSPELNA_REFUSED && a.refusal == KOSPELNA_REFUSAL_LENGTH && a.cause == 0 && !a.emits,
          "length 0 is not refused 2");
@@ -208,7 +208,7 @@ static bool sender_failed(kospelna_sender_answer a, int cause, int ticks, int fr
  * starts at 3 with N 2, and silence with T 3 and M 10. */
 static void sender_failures(void)
 {
-    const kospelna_frame above = {KOSPELNA_KIND_LM_ACK, {3, 2, 255, 255, 255, 255, 255, 255}};
+    const kospelna_frame above = {.kind = KOSPELNA_KIND_LM_ACK, .bytes = {3, 2, 255, 255, 255, 255, 255, 255}};
     const kospelna_sender begun = kospelna_sender_begin(kospelna_sender_make(1, 10, 1).sender, message, 9).next;
     kospelna_sender_answer a = kospelna_sender_tick(begun, message, 9);
     must(sender_failed(a, KOSPELNA_CAUSE_SENDING_TIME, 1, 2) && goes_out(a.emits, a.frame, nack(KOSPELNA_NACK_SENDING_TIME)),
@@ -232,7 +232,7 @@ static void sender_failures(void)
 /* The receiver's failures: a NACK that is heard, frame 3 with N 2, and by document 01's edge case silence with T 3. */
 static void receiver_failures(void)
 {
-    const kospelna_frame above = {KOSPELNA_KIND_INFORMATION, {3, 0, 0, 0, 0, 0, 0, 0}};
+    const kospelna_frame above = {.kind = KOSPELNA_KIND_INFORMATION, .bytes = {3, 0, 0, 0, 0, 0, 0, 0}};
     const kospelna_receiver open = hears(kospelna_receiver_make(3, 2, 9).receiver, announcement).next;
     kospelna_receiver_answer b = hears(open, nack(KOSPELNA_NACK_SENDING_TIME));
     must(receiver_failed(b, KOSPELNA_CAUSE_NACK_HEARD) && !b.emits, "a NACK at the receiver");
@@ -254,8 +254,8 @@ static void receiver_failures(void)
  * above the capacity. */
 static void announcements(void)
 {
-    const kospelna_frame unfit = {KOSPELNA_KIND_INFORMATION, {0, 3, 9, 0, 255, 255, 255, 255}};
-    const kospelna_frame ten = {KOSPELNA_KIND_INFORMATION, {0, 2, 10, 0, 255, 255, 255, 255}};
+    const kospelna_frame unfit = {.kind = KOSPELNA_KIND_INFORMATION, .bytes = {0, 3, 9, 0, 255, 255, 255, 255}};
+    const kospelna_frame ten = {.kind = KOSPELNA_KIND_INFORMATION, .bytes = {0, 2, 10, 0, 255, 255, 255, 255}};
     const kospelna_receiver idle = kospelna_receiver_make(10, 2, 9).receiver;
     kospelna_receiver_answer b = hears(idle, unfit);
     must(b.outcome == KOSPELNA_QUIET && goes_out(b.emits, b.frame, nack(KOSPELNA_NACK_ANNOUNCEMENT))

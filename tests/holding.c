@@ -3,13 +3,13 @@
 #include "ends.h"
 
 /* The message of bytes 1 to 20, so N 3; its first information frame is that of ends.h. */
-static const kospelna_frame three = {KOSPELNA_KIND_INFORMATION, {0, 3, 20, 0, 255, 255, 255, 255}};
-static const kospelna_frame second_part = {KOSPELNA_KIND_INFORMATION, {2, 8, 9, 10, 11, 12, 13, 14}};
-static const kospelna_frame third_part = {KOSPELNA_KIND_INFORMATION, {3, 15, 16, 17, 18, 19, 20, 255}};
+static const kospelna_frame three = {.kind = KOSPELNA_KIND_INFORMATION, .bytes = {0, 3, 20, 0, 255, 255, 255, 255}};
+static const kospelna_frame second_part = {.kind = KOSPELNA_KIND_INFORMATION, .bytes = {2, 8, 9, 10, 11, 12, 13, 14}};
+static const kospelna_frame third_part = {.kind = KOSPELNA_KIND_INFORMATION, .bytes = {3, 15, 16, 17, 18, 19, 20, 255}};
 
 static kospelna_frame ack(uint8_t start, uint8_t count)
 {
-    return (kospelna_frame){KOSPELNA_KIND_LM_ACK, {start, count, 255, 255, 255, 255, 255, 255}};
+    return (kospelna_frame){.kind = KOSPELNA_KIND_LM_ACK, .bytes = {start, count, 255, 255, 255, 255, 255, 255}};
 }
 
 /* A receiver of T 3 and C 2 that has accepted frame 1, so e 2 and w 2, and then waited a tick. */
@@ -86,8 +86,8 @@ static void untouched(void)
  * frames and an LM_NACK do as ever. */
 static void heard_while_held(void)
 {
-    const kospelna_frame above = {KOSPELNA_KIND_INFORMATION, {4, 1, 1, 1, 1, 1, 1, 1}};
-    const kospelna_frame dirty = {KOSPELNA_KIND_INFORMATION, {0, 3, 20, 0, 255, 255, 255, 0}};
+    const kospelna_frame above = {.kind = KOSPELNA_KIND_INFORMATION, .bytes = {4, 1, 1, 1, 1, 1, 1, 1}};
+    const kospelna_frame dirty = {.kind = KOSPELNA_KIND_INFORMATION, .bytes = {0, 3, 20, 0, 255, 255, 255, 0}};
     const kospelna_frame ignored[] = {three, announcement, first_part, second_part, third_part, above};
     kospelna_receiver held = begun;
     held.held = true;
