@@ -31,6 +31,30 @@ class Stored(unittest.TestCase):
                 self.assertEqual(status, 0 if kind == "fact" else 1)
 
 
+class OneFunction(unittest.TestCase):
+    """Of a log that speaks of several functions, one alone is judged."""
+
+    def judged(self, log, proofs, place):
+        status, said = refusal(f"{HERE}/refusals/{log}.log", proofs, place)
+        return status, said.split(": ")[0].split(",")[0].strip()
+
+    def test_by_its_proof(self):
+        log = "fact_beside_form_in_another_file"
+        self.assertEqual(self.judged(log, "parts_fit", "src/lib.rt:1-2"), (0, "refused"))
+        self.assertEqual(self.judged(log, "number_of", "src/lib.rt:1-2"), (1, "refused for its form alone"))
+        self.assertEqual(self.judged(log, "join", "src/lib.rt:1-2"), (1, "refused for its form alone"))
+
+    def test_by_its_lines(self):
+        log = "fact_in_the_provers_own_proof"
+        self.assertEqual(self.judged(log, "announce/announced_again", "src/announce.rt:31-35"), (0, "refused"))
+        self.assertEqual(self.judged(log, "announce/announced_again", "src/announce.rt:32-35")[0], 1)
+        self.assertEqual(self.judged(log, "announce/announced_again", "src/hear.rt:31-35")[0], 1)
+        self.assertEqual(self.judged(log, "Receiver/hear", "src/hear.rt:90-99")[0], 1)
+
+    def test_an_error_before_the_prover_is_everyones(self):
+        self.assertEqual(self.judged("form_definition_ill_typed", "parts_fit", "src/lib.rt:1-2")[0], 1)
+
+
 class MustFail(unittest.TestCase):
     def tried(self, **logs):
         """The verdict on a repository with these must-fail edits; None: the edit was not tried."""
