@@ -3,7 +3,7 @@ ghost use mathlib.Core.Path.{_≡_};
 ghost use Rattle.kospelna.specs.Frames.{frameFrom, flatFrame};
 use frame::Frame;
 
-// A kind and the bytes d0 to d7.
+// The bytes d0 to d7 and a kind. With the bytes first C passes them in one register.
 #[repr(C)]
 pub struct FlatFrame {
     pub bytes: [u8; 8],

@@ -27,7 +27,7 @@ impl Receiver {
         self.asking(x, x.expected, x.misses + 1)
     }
 
-    // The window is asked for again; at the third miss the connection fails.
+    // The window is asked for again; with two misses behind it, the third fails the connection.
     fn timeout_free(self, x: Connection) -> Answer
         ensures { λ r. ⌜ told r ≡ timeoutFree self x ⌝ }
     {
@@ -48,7 +48,7 @@ impl Receiver {
             .emitting(x.hold_ack())
     }
 
-    // Twenty times, then the connection fails.
+    // Twenty times; with these behind it, the connection fails.
     fn timeout_held(self, x: Connection) -> Answer
         ensures { λ r. ⌜ told r ≡ timeoutHeld self x ⌝ }
     {
