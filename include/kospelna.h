@@ -243,9 +243,10 @@ kospelna_receiver_answer kospelna_receiver_tick(kospelna_receiver receiver);
  * sender answers with that one frame, which the receiver has already; its sending time runs on, and so do its own timeouts.
  * Where the hold came at a window's end, each LM_ACK that it hears of the hold sets its misses back to 0; inside a window
  * they stay, and a sender whose timeout is the shorter fails in a long hold. Every information frame is ignored while held;
- * other kinds are heard as ever, and an LM_NACK ends the hold with the connection. A connection has KOSPELNA_HELD_TIMEOUTS_MAX of these timeouts in all, however often it
- * is resumed: where one more falls due it fails, KOSPELNA_CAUSE_TIMEOUTS. Refused 13 where no connection is open, where
- * frame 1 is expected, and where the transfer is held already. */
+ * other kinds are heard as ever, and an LM_NACK ends the hold with the connection. A connection has
+ * KOSPELNA_HELD_TIMEOUTS_MAX of these timeouts in all, however often it is resumed: where one more falls due it fails,
+ * KOSPELNA_CAUSE_TIMEOUTS. Refused 13 where no connection is open, where frame 1 is expected, and where the transfer is
+ * held already. */
 kospelna_receiver_answer kospelna_receiver_hold(kospelna_receiver receiver);
 
 /* Ends the hold: asks for a window from the frame expected on. Refused 13 where the transfer is not held. Neither hold nor
