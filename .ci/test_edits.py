@@ -90,5 +90,32 @@ class Checks(unittest.TestCase):
                 self.assertLessEqual(len(check), edits.TOGETHER)
 
 
+class Tried(unittest.TestCase):
+    """What a check with three edits settles, where the prover is stood in for."""
+
+    def tried(self, together, alone, fits=True):
+        """Of each edit whether it passes, and how often the crate is checked; `together` and `alone` name those refused."""
+        checks, tree = [], []
+        kept = edits.applied, edits.checked, edits.refused
+        edits.applied = lambda copy, name, some: tree.__setitem__(slice(None), some) or ("" if fits or len(some) == 1 else "no")
+        edits.checked = lambda copy, name: checks.append(list(tree))
+        edits.refused = lambda copy, function=None: ((function or tree[0]) in (together if function else alone), "said")
+        try:
+            found = {edit: good for edit, good, _ in edits.tried_check("copy", "one", [(e, e) for e in "abc"])}
+        finally:
+            edits.applied, edits.checked, edits.refused = kept
+        return found, len(checks)
+
+    def test_all_refused_together(self):
+        self.assertEqual(self.tried("abc", ""), ({"a": True, "b": True, "c": True}, 1))
+
+    def test_what_is_not_refused_together_is_tried_alone(self):
+        self.assertEqual(self.tried("ac", "b"), ({"a": True, "b": True, "c": True}, 2))
+        self.assertEqual(self.tried("ac", ""), ({"a": True, "b": False, "c": True}, 2))
+
+    def test_edits_that_do_not_fit_together_are_tried_alone(self):
+        self.assertEqual(self.tried("abc", "ab", fits=False), ({"a": True, "b": True, "c": False}, 3))
+
+
 if __name__ == "__main__":
     unittest.main()
