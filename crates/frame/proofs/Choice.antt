@@ -31,9 +31,10 @@ pick-accepted true r n h = (refl, h)
 pick-accepted false r n h = (cc, cc)
 
 -- a frame is read as what it is, or refused 6
-pub read-elim : (P : Result Parsed → Type 0) (f : Frame) → P (accepted (parsedOf f)) → P (refused 6) → P (readOf f)
+pub read-elim : (P : Result Parsed → Type 0) (f : Frame) (length : ℕ) → P (accepted (parsedOf f length)) → P (refused 6)
+    → P (readOf f length)
 unfolding readOf
-read-elim P f whole bad = pick-elim P _ (λ known. pick-elim P _ (λ clean. whole) (λ dirty. bad)) (λ unknown. bad)
+read-elim P f length whole bad = pick-elim P _ (λ known. pick-elim P _ (λ clean. whole) (λ dirty. bad)) (λ unknown. bad)
 
 -- the two halves of a test that passed
 pub both-left : (a b : Bool) → (a && b) ≡ true → a ≡ true

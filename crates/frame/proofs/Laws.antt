@@ -1,21 +1,23 @@
 -- Laws on the definitions of specs/ that several proofs cite.
 -- Assumes nothing.
-use Prim.Native.Nat.{ℕ, zero, suc, _+_, _*_, _<_, _≤_}
+use Prim.Native.Nat.{ℕ, zero, suc, _+_, _*_, _<_, _≤_, min}
 use mathlib.Core.Path.{_≡_, refl, sym, ap, _∙_}
-use mathlib.Core.Bool.{Bool, true, false}
+use mathlib.Core.Bool.{Bool, true, false, and-eq-true-iff}
 use mathlib.Core.List.{List, [], _∷_}
 use native.Mathlib.Nat.{le-of-suc-le-suc, not-suc-le-zero}
 use native.Mathlib.Omega.{arith}
 use native.Mathlib.Numerals.{add-one}
-use borrow.Author.Tests.{le-leb, lt-leb, ne-eqb}
+use borrow.Author.Tests.{le-leb, lt-leb, ne-eqb, eqb-true}
+use lib.Dec.{eqb}
 use lib.ListN.{length, getD, take, drop, drop-of-length-le, List·getD-eq-default}
-use lib.Seq.{drop-cons}
+use lib.Seq.{drop-cons, drop-drop}
 use Rattle.frame.specs.Count.{frameCountOf, incrementOf, lowByte, highByte, wordOf}
 use Rattle.frame.specs.Choice.{pick}
-use Rattle.frame.specs.Frames.{byteOf, fillTo}
-use Rattle.frame.specs.Reading.{parsedOf, namedOf, allFiller, readOf}
+use Rattle.frame.specs.Frames.{byteOf, fillTo, carried}
+use Rattle.frame.specs.Reading.{namedOf, allFiller, hasPart, cleanFor, parsedOf, readOf}
 use Rattle.frame.specs.Result.{accepted, refused}
 use Rattle.frame.specs.declared.Frame.{Frame}
+use Rattle.frame.proofs.Choice.{pick-true, pick-false}
 
 -- What N is: the least number of sevens that hold l.
 pub frame-count-bounds : (l : ℕ) → (l ≤ 7 * frameCountOf l) × (7 * frameCountOf l < l + 7)
@@ -91,6 +93,27 @@ take-fill (suc k) (suc n) [] h g = absurd (not-suc-le-zero g)
 take-fill (suc k) (suc n) (b ∷ given) h g =
     ap (λ (l : List ℕ). b ∷ l) (take-fill k n given (le-of-suc-le-suc h) (le-of-suc-le-suc g))
 
+-- Behind what is given stands nothing but filler; and where nothing else stands behind c bytes, filling these c restores all.
+pub fill-behind : (n k : ℕ) (given : List ℕ) → min n (length given) ≤ k → allFiller (drop k (fillTo n given)) ≡ true
+unfolding fillTo allFiller
+fill-behind zero zero given h = refl
+fill-behind zero (suc k) given h = refl
+fill-behind (suc n) zero [] h = fill-behind n zero [] (omega arith)
+fill-behind (suc n) (suc k) [] h = fill-behind n k [] (omega arith)
+fill-behind (suc n) zero (b ∷ given) h = absurd (omega arith)
+fill-behind (suc n) (suc k) (b ∷ given) h = fill-behind n k given (omega arith)
+
+pub fill-restores : (c : ℕ) (s : List ℕ) → allFiller (drop c s) ≡ true → fillTo (length s) (take c s) ≡ s
+unfolding fillTo allFiller
+fill-restores zero [] h = refl
+fill-restores zero (b ∷ s) h =
+    let both = and-eq-true-iff (eqb b 255) (allFiller s) .0 h in
+    let head : b ≡ 255 = eqb-true b 255 (both .0) in
+    let tail : fillTo (length s) [] ≡ s = fill-restores zero s (both .1) in
+    cc
+fill-restores (suc c) [] h = refl
+fill-restores (suc c) (b ∷ s) h = ap (λ (l : List ℕ). b ∷ l) (fill-restores c s h)
+
 -- Judging filler from place i on: it goes on past 0xFF, stops at another byte, and passes at the end.
 pub filler-on : (s : List ℕ) (i : ℕ) → i < length s → getD s i 0 ≡ 255 → allFiller (drop i s) ≡ allFiller (drop (i + 1) s)
 unfolding allFiller
@@ -104,17 +127,34 @@ pub filler-ends : (s : List ℕ) (i : ℕ) → length s ≤ i → allFiller (dro
 unfolding allFiller
 filler-ends s i h = rw (drop-of-length-le s h)
 
+-- Filler behind a message is judged in a frame that has a part of one.
+module _ (f : Frame) (l : ℕ) {part : Bool} where
+  pub clean-judged : {r : Bool} → r ≡ allFiller (drop (1 + carried (byteOf f 0) l) (f .bytes)) → part ≡ hasPart f → part ≡ true
+      → r ≡ cleanFor f l
+  unfolding cleanFor
+  clean-judged e p t = pick-true _ (sym p ∙ t) (rw drop-drop e)
+
+  pub clean-else : part ≡ hasPart f → part ≡ false → true ≡ cleanFor f l
+  unfolding cleanFor
+  clean-else p t = pick-false _ (sym p ∙ t) refl
+
 -- Reading goes by the range of the kind, then by the filler.
-pub read-low : (f : Frame) → f .kind < 1 → refused 6 ≡ readOf f
-unfolding readOf pick
-read-low f h = rw (lt-leb _ _ h)
+module _ (f : Frame) (l : ℕ) where
+  pub read-low : f .kind < 1 → refused 6 ≡ readOf f l
+  unfolding readOf pick
+  read-low h = rw (lt-leb _ _ h)
 
-pub read-high : (f : Frame) → 8 ≤ f .kind → refused 6 ≡ readOf f
-unfolding readOf pick
-read-high f h = rw (le-leb 1 (f .kind) (omega arith), lt-leb (f .kind) 7 (omega arith))
+  pub read-high : 8 ≤ f .kind → refused 6 ≡ readOf f l
+  unfolding readOf pick
+  read-high h = rw (le-leb 1 (f .kind) (omega arith), lt-leb (f .kind) 7 (omega arith))
 
-pub read-inside : (f : Frame) → 1 ≤ f .kind → f .kind < 8 → (filler : Bool)
-    → filler ≡ allFiller (drop (namedOf (f .kind) (byteOf f 0)) (f .bytes))
-    → pick filler (accepted (parsedOf f)) (refused 6) ≡ readOf f
-unfolding readOf pick
-read-inside f low high filler e = rw (le-leb 1 (f .kind) low, le-leb (f .kind) 7 (omega arith), e)
+  module _ (low : 1 ≤ f .kind) (high : f .kind < 8) {filler : Bool}
+      (e : filler ≡ allFiller (drop (namedOf (f .kind) (byteOf f 0)) (f .bytes))) where
+    pub read-filled : {clean : Bool} → clean ≡ cleanFor f l → filler ≡ true
+        → accepted (record { kind = f .kind; number = byteOf f 0; clean = clean }) ≡ readOf f l
+    unfolding readOf pick
+    read-filled c t = rw (le-leb 1 (f .kind) low, le-leb (f .kind) 7 (omega arith), sym e, t, c)
+
+    pub read-unfilled : filler ≡ false → refused 6 ≡ readOf f l
+    unfolding readOf pick
+    read-unfilled t = rw (le-leb 1 (f .kind) low, le-leb (f .kind) 7 (omega arith), sym e, t)

@@ -1,5 +1,5 @@
 -- Document 01, Frames: the bytes of every frame.
-use Prim.Native.Nat.{ℕ, zero, suc, _-_, _*_}
+use Prim.Native.Nat.{ℕ, zero, suc, _-_, _*_, min}
 use mathlib.Core.List.{List, [], _∷_}
 use lib.ListN.{getD, drop}
 use Rattle.frame.specs.Count.{lowByte, highByte, wordOf}
@@ -36,6 +36,10 @@ informationOf number part = record { kind = 1; bytes = number ∷ fillTo 7 part 
 -- Frames, kind 1: frames carry seven bytes each, so the part of frame i starts where those before it end
 abbrev pub partFrom : ℕ → List ℕ → List ℕ
 partFrom number message = drop (7 * (number - 1)) message
+
+-- how many bytes of a message of this length frame i carries: seven, in the last frame what is left of the length
+abbrev pub carried : ℕ → ℕ → ℕ
+carried number length = min 7 (length - 7 * (number - 1))
 
 -- Frames, kind 2, LM_ACK: the start in d0 and the count in d1
 unfoldable pub lmAckOf : ℕ → ℕ → Frame

@@ -1,12 +1,13 @@
--- Document 01, Refusals, hearing, number 6: frames that cannot be read.
+-- Document 01, Refusals, hearing, number 6: frames that cannot be read. Document 02, E3: whether the filler behind a message
+-- of a given length is clean.
 use Prim.Native.Nat.{ℕ}
 use mathlib.Core.Bool.{Bool, true, _&&_}
 use mathlib.Core.List.{List, [], _∷_}
-use lib.Dec.{eqb}
+use lib.Dec.{eqb, leb}
 use lib.ListN.{drop}
 use Rattle.frame.specs.Choice.{pick}
 use Rattle.frame.specs.Count.{within}
-use Rattle.frame.specs.Frames.{byteOf}
+use Rattle.frame.specs.Frames.{byteOf, carried}
 use Rattle.frame.specs.declared.Frame.{Frame}
 use Rattle.frame.specs.Result.{Result, accepted, refused}
 use Rattle.frame.specs.declared.Parsed.{Parsed}
@@ -18,13 +19,9 @@ abbrev pub toldReading : Reading → Result Parsed
 toldReading (Read parsed) = accepted parsed
 toldReading (Refused number) = refused number
 
--- what reading tells of a frame: its kind, and d0, which is the number of an information frame
-abbrev pub parsedOf : Frame → Parsed
-parsedOf f = record { kind = f .kind; number = byteOf f 0 }
-
 -- How many bytes of a frame are named, from d0 on, by its kind and its d0; the bytes after them are filler. Frames, each
--- kind's line: an announcement names d0 to d3, an information frame from number 1 all eight (what fills the last one is not
--- judged), LM_ACK d0 d1, LM_NACK and SM_ACK d0, LM_EndofACK d0 to d2, SM_RM and SM_URM all eight.
+-- kind's line: an announcement names d0 to d3, an information frame from number 1 all eight (6 does not judge what
+-- fills the last one), LM_ACK d0 d1, LM_NACK and SM_ACK d0, LM_EndofACK d0 to d2, SM_RM and SM_URM all eight.
 unfoldable pub namedOf : ℕ → ℕ → ℕ
 namedOf kind number =
     pick (eqb kind 1) (pick (eqb number 0) 4 8)
@@ -35,9 +32,28 @@ unfoldable pub allFiller : List ℕ → Bool
 allFiller [] = true
 allFiller (b ∷ bytes) = eqb b 255 && allFiller bytes
 
--- Refusals, hearing, number 6: a kind that no frame has, or a byte where filler belongs that is not filler
-unfoldable pub readOf : Frame → Result Parsed
-readOf f =
+-- an information frame from number 1 on: it has message bytes in d1 to d7
+abbrev pub hasPart : Frame → Bool
+hasPart f = eqb (f .kind) 1 && leb 1 (byteOf f 0)
+
+-- Document 02, E3: for a message of this length, whatever an information frame has behind the message's last byte is filler.
+-- A frame that is full of the message has nothing there; number 0 and the other kinds have no part of a long message.
+unfoldable pub cleanFor : Frame → ℕ → Bool
+cleanFor f length = pick (hasPart f) (allFiller (drop (carried (byteOf f 0) length) (drop 1 (f .bytes)))) true
+
+-- the length that a frame is read for where no message is awaited, that of the longest message: no number goes past it, so
+-- that every frame is clean
+abbrev pub noLength : ℕ
+noLength = 1785
+
+-- what reading tells of a frame: its kind; d0, which is the number of an information frame; and whether it is clean
+abbrev pub parsedOf : Frame → ℕ → Parsed
+parsedOf f length = record { kind = f .kind; number = byteOf f 0; clean = cleanFor f length }
+
+-- Refusals, hearing, number 6: a kind that no frame has, or a byte where filler belongs that is not filler. What fills the
+-- last information frame is told, by E3, for the length that is given, and is no reason to refuse it here.
+unfoldable pub readOf : Frame → ℕ → Result Parsed
+readOf f length =
     pick (within 1 (f .kind) 7)
-    (pick (allFiller (drop (namedOf (f .kind) (byteOf f 0)) (f .bytes))) (accepted (parsedOf f)) (refused 6))
+    (pick (allFiller (drop (namedOf (f .kind) (byteOf f 0)) (f .bytes))) (accepted (parsedOf f length)) (refused 6))
     (refused 6)

@@ -6,16 +6,21 @@ pub mod read;
 // What stands in a byte that a kind does not name.
 const FILLER: u8 = 0xFF;
 
+// The length that a frame is read for where no message is awaited: the longest, behind which no frame has anything.
+pub const NO_LENGTH: u16 = 1785;
+
 // A frame: its kind and its eight data bytes, d0 to d7. It is passed and returned by value.
 pub struct Frame {
     pub kind: u8,
     pub bytes: [u8; 8],
 }
 
-// What reading tells of a frame: its kind, and d0, which is the number of an information frame.
+// What reading tells of a frame: its kind; d0, which is the number of an information frame; and whether what stands behind
+// the message in an information frame is filler.
 pub struct Parsed {
     pub kind: u8,
     pub number: u8,
+    pub clean: bool,
 }
 
 // What reading a frame answers: what it tells of the frame, or the number of the refusal.

@@ -1,12 +1,13 @@
-// Reading a frame: what is told of it, or refusal 6.
+// Reading a frame: what is told of it for a message of a given length, or refusal 6.
 ghost use mathlib.Core.Path.{_≡_};
 ghost use lib.ListN.{drop};
-ghost use Rattle.frame.specs.Reading.{toldReading, namedOf, allFiller, readOf};
+ghost use Rattle.frame.specs.Reading.{toldReading, namedOf, allFiller, hasPart, cleanFor, readOf};
 ghost use Rattle.frame.specs.Result.{refusalOf};
 use crate::FILLER;
 use crate::Frame;
 use crate::Parsed;
 use crate::Reading;
+use crate::count::carried;
 
 // How many bytes a kind names, from d0 on; those after them are filler.
 fn named(kind: u8, number: u8) -> usize
@@ -35,9 +36,29 @@ pub fn all_filler(bytes: &[u8], from: usize) -> bool
     true
 }
 
-// What a frame is, if its kind is one of the seven and its filler is as it must be.
-pub fn read(f: Frame) -> Reading
-    ensures { λ r. ⌜ toldReading r ≡ readOf f ⌝ }
+// An information frame from number 1 on.
+fn has_part(f: Frame) -> bool
+    ensures { λ r. ⌜ r ≡ hasPart f ⌝ }
+{
+    (f.kind == 1) & (1 <= f.bytes[0])
+}
+
+// Behind the message's last byte an information frame has nothing but filler, for a message of this length.
+fn clean(f: Frame, length: u16) -> bool
+    ensures { λ r. ⌜ r ≡ cleanFor f length ⌝ }
+{
+    let bytes = f.bytes;
+    if has_part(f) {
+        let from = 1 + carried(bytes[0], length);
+        return all_filler(&bytes, from);
+    }
+    true
+}
+
+// What a frame is, if its kind is one of the seven and its filler is as it must be; of its last frame's filler what there is
+// to tell for a message of this length.
+pub fn read(f: Frame, length: u16) -> Reading
+    ensures { λ r. ⌜ toldReading r ≡ readOf f length ⌝ }
 {
     let kind = f.kind;
     let bytes = f.bytes;
@@ -46,7 +67,12 @@ pub fn read(f: Frame) -> Reading
             let number = bytes[0];
             let from = named(kind, number);
             if all_filler(&bytes, from) {
-                Reading::Read(Parsed { kind, number })
+                let clean = clean(f, length);
+                Reading::Read(Parsed {
+                    kind,
+                    number,
+                    clean,
+                })
             } else {
                 Reading::Refused(6)
             }

@@ -19,13 +19,13 @@ use Rattle.frame.specs.Result.{accepted, refused, refusalOf}
 use Rattle.frame.proofs.Choice.{pick-true, pick-false, both-left, both-right}
 use Rattle.frame.specs.Choice.{pick}
 use Rattle.frame.specs.Count.{incrementOf, wordOf, within}
-use Rattle.frame.specs.Frames.{byteOf, lmNackOf, smAckOf}
+use Rattle.frame.specs.Frames.{byteOf, carried, lmNackOf, smAckOf}
 use Rattle.frame.specs.Reading.{readOf, toldReading}
 use Rattle.frame.specs.declared.Frame.{Frame}
 use Rattle.frame.specs.declared.Parsed.{Parsed}
 use Rattle.frame.specs.declared.Reading.{Reading}
 use Rattle.frame.specs.declared.Reading.the-variants.{Read, Refused}
-use Rattle.receiver.specs.Hear.{announcesWell, opening, announceIdle, announcedAgain, openingAgain, announceOpen, hearAnnouncement, ending, askingNext, expectingNext, stored, carried, storing, informationOpen, endingAgain, informationDone, hearInformation, hearNack, hearNumbered, isHeld, hearUnlessHeld, hearKind, hearRead, hearOf}
+use Rattle.receiver.specs.Hear.{announcesWell, opening, announceIdle, announcedAgain, openingAgain, announceOpen, hearAnnouncement, ending, askingNext, expectingNext, stored, storing, isUnclean, informationExpected, informationOpen, endingAgain, informationDone, hearInformation, hearNack, hearNumbered, isHeld, hearUnlessHeld, hearKind, hearRead, awaited, hearOf}
 use Rattle.receiver.specs.Hold.{mayHold, holding, holdOpen, holdPhase, holdOf, resuming, resumeOpen, resumePhase, resumeOf}
 use Rattle.receiver.specs.Make.{settingsFit, idleWith, makeOf}
 use Rattle.receiver.specs.Reachable.{SettingsWithin}
@@ -310,21 +310,31 @@ module _ (r : Receiver) (x : Connection) {a : Told} where
 
 pub ruleset stores-on = (stored-ends, stored-asks, stored-goes-on)
 
-module _ (r : Receiver) (x : Connection) (number : ℕ) (bytes buffer : List ℕ) {a : Told} where
-  pub information-above : a ≡ failingWith r 4 → x .frames < number
-      → heard a buffer ≡ informationOpen r x number bytes buffer
+module _ (r : Receiver) (x : Connection) (p : Parsed) (bytes buffer : List ℕ) where
+  module _ {a : Told} {unclean : Bool} (u : unclean ≡ isUnclean x p) where
+    pub expected-unclean : a ≡ refusing r 14 → unclean ≡ true → heard a buffer ≡ informationExpected r x p bytes buffer
+    unfolding informationExpected
+    expected-unclean e t = pick-true _ (sym u ∙ t) (cc)
+
+    pub expected-stored : {left : List ℕ} → a ≡ stored r x → left ≡ storing buffer (p .number) (x .length) bytes
+        → unclean ≡ false
+        → heard a left ≡ informationExpected r x p bytes buffer
+    unfolding informationExpected
+    expected-stored e l t = pick-false _ (sym u ∙ t) (cc)
+
+  pub information-above : {a : Told} → a ≡ failingWith r 4 → x .frames < p .number
+      → heard a buffer ≡ informationOpen r x p bytes buffer
   unfolding informationOpen
   information-above e above = pick-true _ (lt-ltb _ _ above) (cc)
 
-  module _ (inside : number ≤ x .frames) where
-    pub information-expected : {left : List ℕ} → a ≡ stored r x → left ≡ storing buffer number (x .length) bytes
-        → number ≡ x .expected
-        → heard a left ≡ informationOpen r x number bytes buffer
+  module _ (inside : p .number ≤ x .frames) where
+    pub information-expected : {h : Heard} → h ≡ informationExpected r x p bytes buffer → p .number ≡ x .expected
+        → h ≡ informationOpen r x p bytes buffer
     unfolding informationOpen
-    information-expected e l at = pick-false _ (le-ltb _ _ inside) (pick-true _ (eq-eqb _ _ at) (cc))
+    information-expected e at = pick-false _ (le-ltb _ _ inside) (pick-true _ (eq-eqb _ _ at) e)
 
-    pub information-other : a ≡ silently r → (number ≡ x .expected → ⊥)
-        → heard a buffer ≡ informationOpen r x number bytes buffer
+    pub information-other : {a : Told} → a ≡ silently r → (p .number ≡ x .expected → ⊥)
+        → heard a buffer ≡ informationOpen r x p bytes buffer
     unfolding informationOpen
     information-other e other = pick-false _ (le-ltb _ _ inside) (pick-false _ (ne-eqb _ _ other) (cc))
 
@@ -337,24 +347,26 @@ module _ (r : Receiver) (x : Delivery) (number : ℕ) {a : Told} where
   unfolding informationDone
   done-other e other = pick-false _ (ne-eqb _ _ other) e
 
-module _ (r : Receiver) (number : ℕ) (bytes buffer : List ℕ) {p : Phase} where
+module _ (r : Receiver) (k : Parsed) (bytes buffer : List ℕ) {p : Phase} where
   pub information-idle : {a : Told} → a ≡ silently r → p ≡ Idle
-      → heard a buffer ≡ hearInformation r p number bytes buffer
+      → heard a buffer ≡ hearInformation r p k bytes buffer
   unfolding hearInformation
-  information-idle e k = rw k (cc)
+  information-idle e is = rw is (cc)
 
-  pub information-done : {a : Told} {x : Delivery} → a ≡ informationDone r x number → p ≡ Done x
-      → heard a buffer ≡ hearInformation r p number bytes buffer
+  pub information-done : {a : Told} {x : Delivery} → a ≡ informationDone r x (k .number) → p ≡ Done x
+      → heard a buffer ≡ hearInformation r p k bytes buffer
   unfolding hearInformation
-  information-done e k = rw k (cc)
+  information-done e is = rw is (cc)
 
-  pub information-open : {h : Heard} {t : Receiver} {x : Connection} → h ≡ informationOpen t x number bytes buffer
+  pub information-open : {h : Heard} {t : Receiver} {x : Connection} → h ≡ informationOpen t x k bytes buffer
       → t ≡ r → p ≡ Open x
-      → h ≡ hearInformation r p number bytes buffer
+      → h ≡ hearInformation r p k bytes buffer
   unfolding hearInformation
-  information-open {x} e same k = rw k (e ∙ ap (λ (t : Receiver). informationOpen t x number bytes buffer) same)
+  information-open {x} e same is = rw is (e ∙ ap (λ (t : Receiver). informationOpen t x k bytes buffer) same)
 
 pub ruleset informs = (
+  expected-unclean,
+  expected-stored,
   information-above,
   information-expected,
   information-other,
@@ -390,7 +402,7 @@ module _ (r : Receiver) (f : Frame) (buffer : List ℕ) where
   unfolding hearNumbered
   numbered-zero p e l zero = pick-true _ (eq-eqb _ _ zero) (cc)
 
-  pub numbered-from-one : (p : Parsed) {h : Heard} → h ≡ hearInformation r (r .phase) (p .number) (drop 1 (f .bytes)) buffer
+  pub numbered-from-one : (p : Parsed) {h : Heard} → h ≡ hearInformation r (r .phase) p (drop 1 (f .bytes)) buffer
       → (p .number ≡ 0 → ⊥)
       → h ≡ hearNumbered r f p buffer
   unfolding hearNumbered
@@ -441,21 +453,21 @@ module _ (r : Receiver) (f : Frame) (buffer : List ℕ) where
   unfolding hearOf
   buffer-refused e other = pick-false _ (ne-eqb _ _ other) (cc)
 
-  pub reading-refused : (reading : Reading) {a : Told} {n m : ℕ} → a ≡ refusing r n
-      → n ≡ refusalOf (toldReading reading) → reading ≡ Refused m → toldReading reading ≡ readOf f
-      → length buffer ≡ 1785
-      → heard a buffer ≡ hearOf r f buffer
-  unfolding hearOf hearRead
-  reading-refused reading {a} {n} {m} e number p t whole =
-      pick-true _ (eq-eqb _ _ whole)
-      ((cc) ∙ ap (hearRead r f buffer) (ap toldReading (sym p) ∙ t))
+  module _ (reading : Reading) {l : ℕ} (t : toldReading reading ≡ readOf f l) (n : l ≡ awaited (r .phase)) where
+    pub reading-refused : {a : Told} {n m : ℕ} → a ≡ refusing r n → n ≡ refusalOf (toldReading reading) → reading ≡ Refused m
+        → length buffer ≡ 1785
+        → heard a buffer ≡ hearOf r f buffer
+    unfolding hearOf hearRead
+    reading-refused e number p whole =
+        pick-true _ (eq-eqb _ _ whole)
+        ((cc) ∙ ap (hearRead r f buffer) (ap toldReading (sym p) ∙ t ∙ ap (readOf f) n))
 
-  pub reading-accepted : (reading : Reading) {h : Heard} {k : Parsed} → h ≡ hearKind r f k buffer → reading ≡ Read k
-      → toldReading reading ≡ readOf f → length buffer ≡ 1785
-      → h ≡ hearOf r f buffer
-  unfolding hearOf hearRead
-  reading-accepted reading e p t whole =
-      pick-true _ (eq-eqb _ _ whole) (e ∙ ap (hearRead r f buffer) (ap toldReading (sym p) ∙ t))
+    pub reading-accepted : {h : Heard} {k : Parsed} → h ≡ hearKind r f k buffer → reading ≡ Read k → length buffer ≡ 1785
+        → h ≡ hearOf r f buffer
+    unfolding hearOf hearRead
+    reading-accepted e p whole =
+        pick-true _ (eq-eqb _ _ whole)
+        (e ∙ ap (hearRead r f buffer) (ap toldReading (sym p) ∙ t ∙ ap (readOf f) n))
 
 pub ruleset hears = (
   numbered-zero,

@@ -153,7 +153,7 @@ module _ (s : Settings) (w : SettingsWithin s) where
 
   hears-within : {f : Frame} {buffer : List ℕ} {p : Phase} {h : Heard} → PhaseWithin s p → Hears s f buffer p h → NextHeard h
   unfolding frameCountOf
-  hears-within o (refuses _) = record { settings = w; phase = o }
+  hears-within o (refuses _ _) = record { settings = w; phase = o }
   hears-within o ignores = record { settings = w; phase = o }
   hears-within o (announced _ _ (nacks _ _)) = record { settings = w; phase = o }
   hears-within {f} o (announced _ _ (opens _ low high fits room)) =

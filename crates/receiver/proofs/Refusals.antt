@@ -84,7 +84,7 @@ module _ {s : Settings} {buffer : List ℕ} where
   unchanged : {f : Frame} {p : Phase} {h : told.Heard} {number : ℕ} → Hears s f buffer p h
       → h .told .outcome ≡ told.refused number
       → Unchanged (receiverIn s p) buffer h
-  unchanged (refuses _) e = record { receiver = refl; lent = refl; emits = refl; frame = refl; bytes = refl }
+  unchanged (refuses _ _) e = record { receiver = refl; lent = refl; emits = refl; frame = refl; bytes = refl }
   unchanged ignores e = absurd (not-refused tt e)
   unchanged (announced _ _ a) e = absurd (not-refused (announced-taken a) e)
   unchanged (informed _ _ _ i) e = absurd (not-refused (informed-taken i) e)

@@ -2,8 +2,8 @@
 -- call matches on these and unfolds no definition.
 -- Assumes nothing.
 use Prim.Native.Nat.{ℕ, _+_, _≤_, _<_}
-use mathlib.Core.Path.{_≡_}
-use mathlib.Core.Bool.{true, false, not}
+use mathlib.Core.Path.{_≡_, sym, _∙_}
+use mathlib.Core.Bool.{true, false, not, _&&_}
 use mathlib.Core.List.{List}
 use native.Mathlib.Omega.{arith}
 use borrow.Author.Tests.{not-true, leb-true, leb-false, eqb-true, eqb-false, ltb-true, ltb-false}
@@ -12,10 +12,11 @@ use lib.ListN.{length, drop}
 use Rattle.frame.proofs.Choice.{pick-elim, read-elim, both-left, both-right}
 use Rattle.frame.specs.Count.{frameCountOf, incrementOf, within}
 use Rattle.frame.specs.Frames.{byteOf, wordAt, lmNackOf, smAckOf}
+use Rattle.frame.specs.Reading.{cleanFor, parsedOf}
 use Rattle.frame.specs.Result.{Result}
 use Rattle.frame.specs.declared.Frame.{Frame}
 use Rattle.frame.specs.declared.Parsed.{Parsed}
-use Rattle.receiver.specs.Hear.{announcesWell, opening, announceIdle, openingAgain, announceOpen, hearAnnouncement, ending, askingNext, expectingNext, stored, storing, informationOpen, endingAgain, informationDone, hearInformation, hearNack, hearNumbered, isHeld, hearUnlessHeld, hearKind, hearRead, hearOf}
+use Rattle.receiver.specs.Hear.{announcesWell, opening, announceIdle, openingAgain, announceOpen, hearAnnouncement, ending, askingNext, expectingNext, stored, storing, informationExpected, informationOpen, endingAgain, informationDone, hearInformation, hearNack, hearNumbered, isHeld, hearUnlessHeld, hearKind, hearRead, awaited, hearOf}
 use Rattle.receiver.specs.Hold.{holding, holdOpen, holdPhase, holdOf, resuming, resumeOpen, resumePhase, resumeOf}
 use Rattle.receiver.specs.Tick.{waiting, askingAgain, timeoutFree, holdingOn, timeoutHeld, tickOpen, tickPhase, tickOf}
 use Rattle.receiver.specs.Told.{Told, Heard, heard, refusing, silently, emitting, failingWith, failing, shortWith, shortOnly}
@@ -35,6 +36,14 @@ abbrev pub Shut : Phase → Type 0
 Shut Idle = Unit
 Shut (Done x) = Unit
 Shut (Open x) = ⊥
+
+-- why a hearing may be refused 14 (document 02, E3): frame N is expected and no hold stands, and the frame is not clean
+abbrev pub Unclean : Frame → Phase → Type 0
+Unclean f Idle = ⊥
+Unclean f (Done x) = ⊥
+Unclean f (Open x) =
+    (f .kind ≡ 1) × (1 ≤ byteOf f 0) × (byteOf f 0 ≡ x .expected) × (x .expected ≡ x .frames) × (x .held ≡ false)
+    × (cleanFor f (x .length) ≡ false)
 
 -- the two calls of a hold
 pub data Pause : Type 0 where
@@ -125,6 +134,7 @@ module _ (s : Settings) where
 
   pub data Hears (f : Frame) (buffer : List ℕ) : Phase → Heard → Type 0 where
     refuses : {p : Phase} (number : ℕ)
+        → (number ≡ 14 → Unclean f p)
         → Hears f buffer p (heard (refusing (receiverIn s p) number) buffer)
     ignores : {p : Phase} → Hears f buffer p (heard (silently (receiverIn s p)) buffer)
     announced : {p : Phase} {h : Heard}
@@ -236,22 +246,37 @@ module _ (s : Settings) where
           pick-elim (Stores x) _ (λ full. takes (asks at below (eqb-true _ _ full)))
           (λ part. takes (goes-on at below (eqb-false _ _ part))))
 
+      -- the frame is expected: taken, or unclean
+      expected-does : (x : Connection) → x .held ≡ false → byteOf f 0 ≡ x .expected → x .expected ≤ x .frames
+          → Hears s f buffer (Open x)
+          (informationExpected (receiverIn s (Open x)) x (parsedOf f (x .length)) (drop 1 (f .bytes)) buffer)
+      unfolding informationExpected
+      expected-does x free at inside =
+          let last = eqb (byteOf f 0) (x .frames) in
+          let stained = not (cleanFor f (x .length)) in
+          pick-elim (Hears s f buffer (Open x)) (last && stained)
+          (λ unclean.
+          let whole : byteOf f 0 ≡ x .frames = eqb-true _ _ (both-left last stained unclean) in
+          let dirty = not-true (cleanFor f (x .length)) (both-right last stained unclean) in
+          refuses 14 (λ _. (one, low, at, sym at ∙ whole, free, dirty)))
+          (λ _. stored-does x at inside)
+
       -- every phase, and every reason to refuse or to ignore the frame
-      information-does : (p : Phase)
+      information-does : (p : Phase) → isHeld p ≡ false
           → Hears s f buffer p
-          (hearInformation (receiverIn s p) p (byteOf f 0) (drop 1 (f .bytes)) buffer)
+          (hearInformation (receiverIn s p) p (parsedOf f (awaited p)) (drop 1 (f .bytes)) buffer)
       unfolding hearInformation informationDone informationOpen
-      information-does Idle = ignores
-      information-does (Done y) =
+      information-does Idle free = ignores
+      information-does (Done y) free =
           pick-elim (Answers (Done y)) _ (λ last. takes (ended (eqb-true _ _ last))) (λ other. ignores)
-      information-does (Open x) =
+      information-does (Open x) free =
           let P : Heard → Type 0 = Hears s f buffer (Open x) in
           pick-elim P _ (λ over. takes (above (ltb-true _ _ over)))
           (λ inside. pick-elim P _
           (λ at.
           let e = eqb-true (byteOf f 0) (x .expected) at in
           let top = ltb-false (x .frames) (byteOf f 0) inside in
-          stored-does x e (omega arith))
+          expected-does x free e (omega arith))
           (λ other. ignores))
 
     nack-does : f .kind ≡ 3 → (p : Phase) → Answers p (hearNack (receiverIn s p) p)
@@ -265,18 +290,18 @@ module _ (s : Settings) where
     hear-phase p =
         let P : Heard → Type 0 = Hears s f buffer p in
         pick-elim P _
-        (λ lent. read-elim (λ (j : Result Parsed). P (hearRead (receiverIn s p) f buffer j)) f
+        (λ lent. read-elim (λ (j : Result Parsed). P (hearRead (receiverIn s p) f buffer j)) f (awaited p)
         (pick-elim P _
         (λ one. pick-elim P (isHeld p) (λ held. ignores)
         (λ free. pick-elim P _ (λ zero. announcement-does (eqb-true _ _ one) (eqb-true _ _ zero) p)
         (λ more.
         let low : 1 ≤ byteOf f 0 = omega (arith, eqb-false (byteOf f 0) 0 more) in
-        information-does (eqb-true _ _ lent) (eqb-true _ _ one) low p)))
+        information-does (eqb-true _ _ lent) (eqb-true _ _ one) low p free)))
         (λ _. pick-elim P _ (λ three. nack-does (eqb-true _ _ three) p)
         (λ _. pick-elim P _ (λ five. short (eqb-true _ _ five))
-        (λ _. pick-elim P _ (λ seven. short-only (eqb-true _ _ seven)) (λ _. refuses 7)))))
-        (refuses 6))
-        (λ other. refuses 5)
+        (λ _. pick-elim P _ (λ seven. short-only (eqb-true _ _ seven)) (λ _. refuses 7 (λ e. absurd (omega arith)))))))
+        (refuses 6 (λ e. absurd (omega arith))))
+        (λ other. refuses 5 (λ e. absurd (omega arith)))
 
 pub tick-does : (r : Receiver) → Ticks (r .settings) (r .phase) (tickOf r)
 unfolding tickOf

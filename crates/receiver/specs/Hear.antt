@@ -1,14 +1,14 @@
 -- What the receiver does at each frame heard. Places are items of document 01, The receiver, unless another part is named.
-use Prim.Native.Nat.{ℕ, _+_, _-_, _*_, min}
-use mathlib.Core.Bool.{Bool, false, _&&_}
+use Prim.Native.Nat.{ℕ, _+_, _-_, _*_}
+use mathlib.Core.Bool.{Bool, false, not, _&&_}
 use mathlib.Core.List.{List}
 use lib.Dec.{eqb, leb, ltb}
 use lib.ListN.{length, drop}
 use lib.Seq.{paste}
 use Rattle.frame.specs.Choice.{pick}
 use Rattle.frame.specs.Count.{frameCountOf, within}
-use Rattle.frame.specs.Frames.{byteOf, wordAt, lmAckOf, lmNackOf, endOfAckOf, smAckOf}
-use Rattle.frame.specs.Reading.{readOf}
+use Rattle.frame.specs.Frames.{byteOf, wordAt, carried, lmAckOf, lmNackOf, endOfAckOf, smAckOf}
+use Rattle.frame.specs.Reading.{noLength, readOf}
 use Rattle.frame.specs.Result.{Result, accepted, refused}
 use Rattle.frame.specs.declared.Frame.{Frame}
 use Rattle.frame.specs.declared.Parsed.{Parsed}
@@ -83,21 +83,28 @@ stored r x =
     pick (eqb (x .expected) (x .frames)) (ending r x)
     (pick (eqb (x .expected) (x .last)) (askingNext r x) (expectingNext r x))
 
--- how many bytes of a message of this length frame i carries: seven, in the last frame what is left of the length
-abbrev pub carried : ℕ → ℕ → ℕ
-carried number length = min 7 (length - 7 * (number - 1))
-
--- where they go: frame i starts at place 7(i − 1) of the buffer; what stands before and after them is left alone
+-- where the bytes go that frame i carries: it starts at place 7(i − 1) of the buffer; what stands before and after them is
+-- left alone
 unfoldable pub storing : List ℕ → ℕ → ℕ → List ℕ → List ℕ
 storing buffer number length bytes =
     paste buffer (7 * (number - 1)) bytes (carried number length)
 
--- "Frame i, Open": a number that the message does not have fails the connection with NACK 4; the frame expected is stored;
--- any other is ignored
-unfoldable pub informationOpen : Receiver → Connection → ℕ → List ℕ → List ℕ → Heard
-informationOpen r x number bytes buffer =
-    pick (ltb (x .frames) number) (heard (failingWith r 4) buffer)
-    (pick (eqb number (x .expected)) (heard (stored r x) (storing buffer number (x .length) bytes))
+-- Document 02, E3: frame N, and something else than filler behind the message in it
+abbrev pub isUnclean : Connection → Parsed → Bool
+isUnclean x parsed = eqb (parsed .number) (x .frames) && not (parsed .clean)
+
+-- the frame expected: such a frame N is refused 14 and changes nothing, every other is stored
+unfoldable pub informationExpected : Receiver → Connection → Parsed → List ℕ → List ℕ → Heard
+informationExpected r x parsed bytes buffer =
+    pick (isUnclean x parsed) (heard (refusing r 14) buffer)
+    (heard (stored r x) (storing buffer (parsed .number) (x .length) bytes))
+
+-- "Frame i, Open": a number that the message does not have fails the connection with NACK 4; the frame expected is taken or
+-- refused; any other is ignored
+unfoldable pub informationOpen : Receiver → Connection → Parsed → List ℕ → List ℕ → Heard
+informationOpen r x parsed bytes buffer =
+    pick (ltb (x .frames) (parsed .number)) (heard (failingWith r 4) buffer)
+    (pick (eqb (parsed .number) (x .expected)) (informationExpected r x parsed bytes buffer)
     (heard (silently r) buffer))
 
 -- what was delivered is acknowledged once more
@@ -109,10 +116,10 @@ unfoldable pub informationDone : Receiver → Delivery → ℕ → Told
 informationDone r x number = pick (eqb number (x .frames)) (endingAgain r x) (silently r)
 
 -- a frame from number 1 on by the state; where no delivery is remembered it is ignored
-unfoldable pub hearInformation : Receiver → Phase → ℕ → List ℕ → List ℕ → Heard
-hearInformation r Idle number bytes buffer = heard (silently r) buffer
-hearInformation r (Done x) number bytes buffer = heard (informationDone r x number) buffer
-hearInformation r (Open x) number bytes buffer = informationOpen r x number bytes buffer
+unfoldable pub hearInformation : Receiver → Phase → Parsed → List ℕ → List ℕ → Heard
+hearInformation r Idle parsed bytes buffer = heard (silently r) buffer
+hearInformation r (Done x) parsed bytes buffer = heard (informationDone r x (parsed .number)) buffer
+hearInformation r (Open x) parsed bytes buffer = informationOpen r x parsed bytes buffer
 
 -- ---- every frame
 
@@ -127,7 +134,7 @@ unfoldable pub hearNumbered : Receiver → Frame → Parsed → List ℕ → Hea
 hearNumbered r f parsed buffer =
     pick (eqb (parsed .number) 0)
     (heard (hearAnnouncement r (r .phase) (byteOf f 1) (wordAt f 2 3)) buffer)
-    (hearInformation r (r .phase) (parsed .number) (drop 1 (f .bytes)) buffer)
+    (hearInformation r (r .phase) parsed (drop 1 (f .bytes)) buffer)
 
 -- Document 02, E2: a hold stands. A close leaves no connection, and so no mark.
 abbrev pub isHeld : Phase → Bool
@@ -155,7 +162,13 @@ unfoldable pub hearRead : Receiver → Frame → List ℕ → Result Parsed → 
 hearRead r f buffer (accepted parsed) = hearKind r f parsed buffer
 hearRead r f buffer (refused number) = heard (refusing r number) buffer
 
+-- Document 02, E3: the length that a frame is read for, that of the open connection; elsewhere no message is awaited
+abbrev pub awaited : Phase → ℕ
+awaited Idle = noLength
+awaited (Done x) = noLength
+awaited (Open x) = x .length
+
 -- Refusals, hearing: 5, before all else, where the buffer lent is not one of 1785 bytes
 unfoldable pub hearOf : Receiver → Frame → List ℕ → Heard
 hearOf r f buffer =
-    pick (eqb (length buffer) 1785) (hearRead r f buffer (readOf f)) (heard (refusing r 5) buffer)
+    pick (eqb (length buffer) 1785) (hearRead r f buffer (readOf f (awaited (r .phase)))) (heard (refusing r 5) buffer)

@@ -7,8 +7,9 @@ use mathlib.Core.List.{List}
 use lib.Dec.{eqb, leb}
 use Rattle.frame.specs.Result.{accepted}
 use Rattle.frame.specs.Count.{frameCountOf, incrementOf}
+use Rattle.frame.specs.Frames.{carried}
 use Rattle.frame.specs.declared.Frame.{Frame}
-use Rattle.receiver.specs.Hear.{carried, hearOf}
+use Rattle.receiver.specs.Hear.{hearOf}
 use Rattle.receiver.specs.Hold.{holdOf, resumeOf}
 use Rattle.receiver.specs.Make.{makeOf}
 use Rattle.receiver.specs.Tick.{tickOf}

@@ -1,12 +1,13 @@
 // A hearing: by the length of the buffer, by the reading of the frame, by its kind.
 ghost use mathlib.Core.Path.{_≡_};
 ghost use lib.ListN.{length};
-ghost use Rattle.receiver.specs.Hear.{hearNack, hearNumbered, isHeld, hearUnlessHeld, hearKind, hearOf};
+ghost use Rattle.receiver.specs.Hear.{hearNack, hearNumbered, isHeld, hearUnlessHeld, hearKind, awaited, hearOf};
 ghost use Rattle.receiver.specs.Told.{told, heard};
 use crate::Answer;
 use crate::Phase;
 use crate::Receiver;
 use frame::Frame;
+use frame::NO_LENGTH;
 use frame::Parsed;
 use frame::Reading;
 use frame::build::sm_ack;
@@ -37,11 +38,10 @@ impl Receiver {
             ≡ hearNumbered self f parsed (now (buffer .entry)) ⌝ }
     {
         let bytes = f.bytes;
-        let number = parsed.number;
-        if number == 0 {
+        if parsed.number == 0 {
             self.hear_announcement(bytes[1], word(bytes[2], bytes[3]))
         } else {
-            self.hear_information(f, number, buffer)
+            self.hear_information(f, parsed, buffer)
         }
     }
 
@@ -86,6 +86,18 @@ impl Receiver {
         }
     }
 
+    // The length of the message that is awaited.
+    fn awaited(self) -> u16
+        ensures { λ r. ⌜ r ≡ awaited (self .phase) ⌝ }
+    {
+        let phase = self.phase;
+        match phase {
+            Phase::Idle => NO_LENGTH,
+            Phase::Done(_) => NO_LENGTH,
+            Phase::Open(x) => x.length,
+        }
+    }
+
     // A frame that is heard, with the buffer lent. Refused 5 for the buffer's length, then 6 where it cannot be read.
     pub fn hear(self, f: Frame, buffer: &mut [u8]) -> Answer
         ensures { λ r. ⌜ heard (told r) (now (buffer .exit)) ≡ hearOf self f (now (buffer .entry)) ⌝ }
@@ -93,7 +105,7 @@ impl Receiver {
         if buffer.len() != BUFFER {
             return self.refusing(5);
         }
-        let reading = read(f);
+        let reading = read(f, self.awaited());
         let Reading::Read(parsed) = reading else {
             return self.refusing(refusal(reading));
         };

@@ -15,10 +15,10 @@ use crate::Answer;
 use crate::Connection;
 use crate::Phase;
 use crate::Receiver;
-use crate::window::saturating_sub;
 use crate::window::window_ack;
 use frame::Frame;
 use frame::build::lm_ack;
+use frame::count::saturating_sub;
 
 impl Connection {
     // LM_ACK e − 1, 1.

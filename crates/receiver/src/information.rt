@@ -7,6 +7,8 @@ ghost use Rattle.receiver.specs.Hear.{
   askingNext,
   expectingNext,
   stored,
+  isUnclean,
+  informationExpected,
   informationOpen,
   endingAgain,
   informationDone,
@@ -20,7 +22,17 @@ use crate::Phase;
 use crate::Receiver;
 use crate::store::storing;
 use frame::Frame;
+use frame::Parsed;
 use frame::build::end_of_ack;
+
+impl Connection {
+    // The message's last frame, with something else than filler behind the message.
+    fn is_unclean(self, parsed: Parsed) -> bool
+        ensures { λ r. ⌜ r ≡ isUnclean self parsed ⌝ }
+    {
+        (parsed.number == self.frames) & !parsed.clean
+    }
+}
 
 impl Receiver {
     // The message is whole.
@@ -65,18 +77,36 @@ impl Receiver {
         self.expecting_next(x)
     }
 
-    // Above N the connection fails; the frame expected is stored; any other is ignored.
-    fn information_open(self, x: Connection, f: Frame, number: u8, buffer: &mut [u8]) -> Answer
+    // The frame expected: refused 14 where it is the message's last and unclean, else stored.
+    fn information_expected(
+        self,
+        x: Connection,
+        f: Frame,
+        parsed: Parsed,
+        buffer: &mut [u8],
+    ) -> Answer
+        requires { ⌜ (length (now buffer) ≡ 1785) × (x .expected ≤ x .frames) ⌝ }
+        ensures { λ r. ⌜ heard (told r) (now (buffer .exit))
+            ≡ informationExpected self x parsed (drop 1 (f .bytes)) (now (buffer .entry)) ⌝ }
+    {
+        if x.is_unclean(parsed) {
+            return self.refusing(14);
+        }
+        storing(f, parsed.number, x.length, buffer);
+        self.stored(x)
+    }
+
+    // Above N the connection fails; the frame expected is taken or refused; any other is ignored.
+    fn information_open(self, x: Connection, f: Frame, parsed: Parsed, buffer: &mut [u8]) -> Answer
         requires { ⌜ length (now buffer) ≡ 1785 ⌝ }
         ensures { λ r. ⌜ heard (told r) (now (buffer .exit))
-            ≡ informationOpen self x number (drop 1 (f .bytes)) (now (buffer .entry)) ⌝ }
+            ≡ informationOpen self x parsed (drop 1 (f .bytes)) (now (buffer .entry)) ⌝ }
     {
-        if x.frames < number {
+        if x.frames < parsed.number {
             return self.failing_with(4);
         }
-        if number == x.expected {
-            storing(f, number, x.length, buffer);
-            return self.stored(x);
+        if parsed.number == x.expected {
+            return self.information_expected(x, f, parsed, buffer);
         }
         self.silently()
     }
@@ -98,16 +128,16 @@ impl Receiver {
         }
     }
 
-    pub(crate) fn hear_information(self, f: Frame, number: u8, buffer: &mut [u8]) -> Answer
+    pub(crate) fn hear_information(self, f: Frame, parsed: Parsed, buffer: &mut [u8]) -> Answer
         requires { ⌜ length (now buffer) ≡ 1785 ⌝ }
         ensures { λ r. ⌜ heard (told r) (now (buffer .exit))
-            ≡ hearInformation self (self .phase) number (drop 1 (f .bytes)) (now (buffer .entry)) ⌝ }
+            ≡ hearInformation self (self .phase) parsed (drop 1 (f .bytes)) (now (buffer .entry)) ⌝ }
     {
         let phase = self.phase;
         match phase {
             Phase::Idle => self.silently(),
-            Phase::Done(x) => self.information_done(x, number),
-            Phase::Open(x) => self.information_open(x, f, number, buffer),
+            Phase::Done(x) => self.information_done(x, parsed.number),
+            Phase::Open(x) => self.information_open(x, f, parsed, buffer),
         }
     }
 }

@@ -3,9 +3,10 @@ ghost use mathlib.Core.Path.{_≡_};
 ghost use mathlib.Core.List.{_++_};
 ghost use Prim.Native.Nat.{_≤_};
 ghost use lib.ListN.{length, take, drop};
-ghost use Rattle.receiver.specs.Hear.{carried, storing};
-use crate::window::saturating_sub;
+ghost use Rattle.receiver.specs.Hear.{storing};
 use frame::Frame;
+use frame::count::carried;
+use frame::count::saturating_sub;
 
 // Copies the first `count` bytes; the rest of `to` stays.
 fn copy(to: &mut [u8], from: &[u8], count: usize)
@@ -16,21 +17,6 @@ fn copy(to: &mut [u8], from: &[u8], count: usize)
     while j < count {
         to[j] = from[j];
         j += 1;
-    }
-}
-
-// How many message bytes frame `number` of a message of this length carries.
-fn carried(number: u8, length: u16) -> usize
-    ensures { λ r. ⌜ r ≡ carried number length ⌝ }
-{
-    let before = 7 * (saturating_sub(number, 1) as u16);
-    if before + 7 <= length {
-        return 7;
-    }
-    if before <= length {
-        (length - before) as usize
-    } else {
-        0
     }
 }
 

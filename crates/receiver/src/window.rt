@@ -1,6 +1,5 @@
 // The window: the frames that one LM_ACK asks for.
 ghost use mathlib.Core.Path.{_≡_};
-ghost use Prim.Native.Nat.{_-_};
 ghost use Rattle.receiver.specs.Told.{told};
 ghost use Rattle.receiver.specs.Window.{windowOf, windowAck, asking};
 use crate::Answer;
@@ -10,13 +9,7 @@ use crate::Receiver;
 use crate::Settings;
 use frame::Frame;
 use frame::build::lm_ack;
-
-// The difference, 0 where b is the larger.
-pub(crate) fn saturating_sub(a: u8, b: u8) -> u8
-    ensures { λ r. ⌜ r ≡ a - b ⌝ }
-{
-    if b <= a { a - b } else { 0 }
-}
+use frame::count::saturating_sub;
 
 // LM_ACK e, w − e + 1.
 pub(crate) fn window_ack(expected: u8, last: u8) -> Frame

@@ -2,9 +2,7 @@
 -- of the definition.
 -- Assumes nothing.
 use borrow.Author.Needs.{needs}
-use mathlib.Core.Bool.{true, false}
-use Rattle.frame.proofs.Laws.{read-low, read-high, read-inside}
-use Rattle.frame.specs.Choice.{pick}
+use Rattle.frame.proofs.Laws.{read-low, read-high, read-filled, read-unfilled}
 use Rattle.frame.proofs.read.read.Statement.{statement}
 use Rattle.frame.proofs.read.read.Tie as tie
 
@@ -20,19 +18,20 @@ slice-aggregate-all-filler c = search needs
 all-filler-requires : tie.Need-all-filler-requires
 all-filler-requires c κs = search needs
 
+clean-requires : tie.Need-clean-requires
+clean-requires c κs = search needs
+
 returns : tie.Need-returns
-unfolding pick
-returns c = read-inside _ (search needs) (search needs) true (cc)
+returns c = read-filled _ _ (search needs) (search needs) (cc) (cc) (c .before .if3 .taken)
 
 returns-2 : tie.Need-returns-2
-unfolding pick
-returns-2 c = read-inside _ (search needs) (search needs) false (cc)
+returns-2 c = read-unfilled _ _ (search needs) (search needs) (cc) (c .if3 .left)
 
 returns-3 : tie.Need-returns-3
-returns-3 c = read-low _ (c .if1 .taken)
+returns-3 c = read-low _ _ (c .if1 .taken)
 
 returns-4 : tie.Need-returns-4
-returns-4 c = read-high _ (c .if2 .left)
+returns-4 c = read-high _ _ (c .if2 .left)
 
 pub read-spec : {M : Type 1} → statement M
 read-spec =
@@ -42,6 +41,7 @@ read-spec =
     named-requires
     slice-aggregate-all-filler
     all-filler-requires
+    clean-requires
     returns
     returns-2
     returns-3

@@ -12,6 +12,9 @@ refusing-requires c κs = search needs
 returns : tie.Need-returns
 returns c = search hears
 
+awaited-requires : tie.Need-awaited-requires
+awaited-requires c κs = search needs
+
 read-requires : tie.Need-read-requires
 read-requires c κs = search needs
 
@@ -45,6 +48,7 @@ hear-spec =
     (tie.spec
     refusing-requires
     returns
+    awaited-requires
     read-requires
     enum-known-reading
     enum-told

@@ -12,11 +12,8 @@ failing-with-requires c κs = search needs
 returns : tie.Need-returns
 returns c = search informs
 
-storing-requires : tie.Need-storing-requires
-storing-requires c κs = search needs
-
-stored-requires : tie.Need-stored-requires
-stored-requires c κs = search needs
+information-expected-requires : tie.Need-information-expected-requires
+information-expected-requires c κs = search needs
 
 same-length : tie.Need-same-length
 same-length c = search needs
@@ -36,8 +33,7 @@ information-open-spec =
     (tie.spec
     failing-with-requires
     returns
-    storing-requires
-    stored-requires
+    information-expected-requires
     same-length
     returns-2
     silently-requires
