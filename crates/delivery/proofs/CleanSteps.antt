@@ -38,7 +38,7 @@ refused-elim : {rs : receiver-settings.Settings} {f : Frame} {lent : List ℕ} {
     → Hears rs f lent q h
     → not (wasRefused (h .told .outcome)) ≡ false
     → P h
-refused-elim P k (refuses number) e = k number
+refused-elim P k (refuses number _) e = k number
 refused-elim P k ignores e = absurd (true≢false e)
 refused-elim P k (view.announced _ _ a) e = absurd (true≢false (sym (announced-taken a) ∙ e))
 refused-elim P k (view.informed _ _ _ i) e = absurd (true≢false (sym (informed-taken i) ∙ e))

@@ -136,7 +136,7 @@ module _ {rs : receiver-settings.Settings} {lo : ℕ} {back : List Frame} where
       → Rising lo back 1
       → LowNext lo back (h .told)
   unfolding lmAckOf lmNackOf
-  low-hear a (view.refuses _) l r = record { low = l; rises = quiet-back r }
+  low-hear a (view.refuses _ _) l r = record { low = l; rises = quiet-back r }
   low-hear a view.ignores l r = record { low = l; rises = quiet-back r }
   low-hear a (view.announced _ _ (view.nacks _ _)) l r = record { low = l; rises = joins-other _ (λ e. omega arith) r }
   low-hear a (view.announced _ _ (view.opens _ _ _ _ _)) l r =
@@ -154,7 +154,7 @@ module _ {rs : receiver-settings.Settings} {lo : ℕ} {back : List Frame} where
       → Rising lo back hi
       → HighNext lo back (h .told)
   unfolding lmAckOf lmNackOf endOfAckOf smAckOf
-  high-hear {hi} c (view.refuses _) l r = record { hi = hi; high = l; rises = quiet-back r }
+  high-hear {hi} c (view.refuses _ _) l r = record { hi = hi; high = l; rises = quiet-back r }
   high-hear {hi} c view.ignores l r = record { hi = hi; high = l; rises = quiet-back r }
   high-hear c (view.announced k z _) l r = absurd (c (k, z))
   high-hear {hi} c (view.informed _ _ _ (view.ended _)) l r =

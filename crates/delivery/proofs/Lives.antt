@@ -383,7 +383,7 @@ module _ {st : Settings} {m : List ℕ} {n : ℕ} {p : Phase} {forward back : Li
       → Line (Repeats m) forward
       → view.Hears rs (smRmOf m) lent q h → Received Lax st (senderIn st p) forward back buffer (since m n 0 ds) h
   unfolding smRmOf
-  short-hear l (view.refuses _) = record { live = rw (append-nil, add-zero n) (short narrow young v l e c) }
+  short-hear l (view.refuses _ _) = record { live = rw (append-nil, add-zero n) (short narrow young v l e c) }
   short-hear l view.ignores = record { live = rw (append-nil, add-zero n) (short narrow young v l e c) }
   short-hear l (view.announced k _ _) = absurd (omega arith)
   short-hear l (view.informed _ k _ _) = absurd (omega arith)

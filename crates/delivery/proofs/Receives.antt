@@ -40,7 +40,7 @@ module _ {rs : Settings} {lent : List ℕ} where
   pub reads-announcement : {q : Phase} {h : Heard} (frames l : ℕ) → l < 65536 → Hears rs (announcementOf frames l) lent q h
       → Read rs q lent (Announced rs frames l lent q) h
   unfolding announcementOf
-  reads-announcement frames l small (refuses number) = refused number
+  reads-announcement frames l small (refuses number _) = refused number
   reads-announcement frames l small ignores = ignored
   reads-announcement frames l small (announced _ _ a) = read (announced-taken a) (rw (word-whole l small) at a)
   reads-announcement frames l small (informed _ _ z _) = absurd (omega arith)
@@ -51,7 +51,7 @@ module _ {rs : Settings} {lent : List ℕ} where
   pub reads-information : {q : Phase} {h : Heard} (number : ℕ) (m : List ℕ) → 1 ≤ number → Hears rs (informationAt number m) lent q h
       → Read rs q lent (λ g. (length lent ≡ 1785) × Informed rs number (fillTo 7 (partFrom number m)) lent q g) h
   unfolding informationOf
-  reads-information number m low (refuses n) = refused n
+  reads-information number m low (refuses n _) = refused n
   reads-information number m low ignores = ignored
   reads-information number m low (announced _ z _) = absurd (omega arith)
   reads-information number m low (informed held _ _ i) = read (informed-taken i) (held, i)

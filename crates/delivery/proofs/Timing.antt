@@ -243,7 +243,7 @@ module _ (st : Settings) (pos : 1 ≤ st .timeout) (small : st .timeout ≤ 1000
         record { timed = counts-on (since (byteOf f 1) 0 0 0) _ (and-false (announces (toReceiver f) && firstAck (emission (a .emits) (a .frame)))) h }
 
     heard-open : {lent : List ℕ} {h : Heard} → Hears st f lent (Open x) h → To (h .told)
-    heard-open (refuses number) = on (timed-later (during w))
+    heard-open (refuses number _) = on (timed-later (during w))
     heard-open ignores = on (timed-later (during w))
     heard-open (announced k z (nacks shut cause)) = absurd shut
     heard-open (announced k z (opens shut _ _ _ _)) = absurd shut
@@ -264,7 +264,7 @@ module _ (st : Settings) (pos : 1 ≤ st .timeout) (small : st .timeout ≤ 1000
 
     heard-shut : {p : Phase} {lent : List ℕ} {h : Heard} → Shut p → Timed st (receiverIn st p) (later o 0 0 0) → Hears st f lent p h → Listened st o f (h .told)
     unfolding pick lmAckOf frameCountOf
-    heard-shut shut same (refuses number) = quietly refl same
+    heard-shut shut same (refuses number _) = quietly refl same
     heard-shut shut same ignores = quietly refl same
     heard-shut shut same (announced k z (nacks _ cause)) = quietly (nack-drawn cause) same
     heard-shut shut same (announced k z (opens _ nine top fits _)) =

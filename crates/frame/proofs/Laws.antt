@@ -158,3 +158,10 @@ module _ (f : Frame) (l : ℕ) where
     pub read-unfilled : filler ≡ false → refused 6 ≡ readOf f l
     unfolding readOf pick
     read-unfilled t = rw (le-leb 1 (f .kind) low, le-leb (f .kind) 7 (omega arith), sym e, t)
+
+  -- of an information frame from number 1 on no byte is judged
+  pub read-information : f .kind ≡ 1 → 1 ≤ byteOf f 0 → length (f .bytes) ≡ 8 → readOf f l ≡ accepted (parsedOf f l)
+  unfolding namedOf pick
+  read-information one low eight =
+      let named : namedOf (f .kind) (byteOf f 0) ≡ 8 = rw (one, ne-eqb (byteOf f 0) 0 (omega arith)) in
+      sym (read-filled (omega arith) (omega arith) (sym (filler-ends (f .bytes) (namedOf (f .kind) (byteOf f 0)) (omega arith))) refl refl)

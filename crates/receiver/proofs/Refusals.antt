@@ -1,17 +1,25 @@
 -- A refused call of the receiver changes nothing. By the view of its calls: one case of a hearing, and one of a hold or a resume, is a refusal, and it
 -- answers the receiver and the buffer as they were; the outcome of every other case is none.
 -- Assumes nothing.
-use Prim.Native.Nat.{ℕ}
-use mathlib.Core.Path.{_≡_, refl, sym, ap, subst}
+use Prim.Native.Nat.{ℕ, _≤_}
+use mathlib.Core.Path.{_≡_, refl, sym, ap, _∙_, subst}
 use mathlib.Core.List.{List, []}
+use native.Mathlib.Omega.{arith}
+use borrow.Author.Tests.{eq-eqb, ne-eqb, le-ltb}
+use lib.ListN.{length}
 use Rattle.frame.proofs.Choice.{pick-elim}
+use Rattle.frame.proofs.Laws.{read-information}
+use Rattle.frame.specs.Choice.{pick}
+use Rattle.frame.specs.Frames.{byteOf}
 use Rattle.frame.specs.Result as result
 use Rattle.frame.specs.declared.Frame.{Frame}
 use Rattle.receiver.proofs.View.{receiverIn, Ticks, rests, waits, retries, repeats, expires, tick-does, Pause, hold, resume, Pauses, denied, holds, resumes, pause-does, Announced, nacks, opens, again, Informed, ended, above, delivers, asks, goes-on, Hears, refuses, ignores, announced, informed, closes, short, short-only, hear-does}
+use Rattle.receiver.specs.Hear.{informationExpected, informationOpen, hearInformation, hearNumbered, hearUnlessHeld, hearKind, hearRead, hearOf}
 use Rattle.receiver.specs.Make.{makeOf}
-use Rattle.receiver.specs.Refusals.{Unchanged, Refusals}
+use Rattle.receiver.specs.Refusals.{Unchanged, Unclean, Refusals}
 use Rattle.receiver.specs.Told as told
 use Rattle.receiver.specs.declared.Phase.{Phase}
+use Rattle.receiver.specs.declared.Phase.the-variants.{Idle, Done, Open}
 use Rattle.receiver.specs.declared.Receiver.{Receiver}
 use Rattle.receiver.specs.declared.Settings.{Settings}
 
@@ -92,6 +100,36 @@ module _ {s : Settings} {buffer : List ℕ} where
   unchanged (short _) e = absurd (not-refused tt e)
   unchanged (short-only _) e = absurd (not-refused tt e)
 
+  -- by 14 only an unclean frame
+  unclean : {f : Frame} {p : Phase} {h : told.Heard} → Hears s f buffer p h → h .told .outcome ≡ told.refused 14 → Unclean f p
+  unfolding number-of
+  unclean (refuses number why) e = why (ap number-of e)
+  unclean ignores e = absurd (not-refused tt e)
+  unclean (announced _ _ a) e = absurd (not-refused (announced-taken a) e)
+  unclean (informed _ _ _ i) e = absurd (not-refused (informed-taken i) e)
+  unclean (closes _) e = absurd (not-refused tt e)
+  unclean (short _) e = absurd (not-refused tt e)
+  unclean (short-only _) e = absurd (not-refused tt e)
+
+-- and every one: no test before it holds it back
+judged : (s : Settings) (p : Phase) (f : Frame) (buffer : List ℕ) → length (f .bytes) ≡ 8 → length buffer ≡ 1785 → Unclean f p
+    → hearOf (receiverIn s p) f buffer .told .outcome ≡ told.refused 14
+unfolding hearOf hearRead hearKind hearUnlessHeld hearNumbered hearInformation informationOpen informationExpected pick
+judged s Idle f buffer eight whole u = absurd u
+judged s (Done y) f buffer eight whole u = absurd u
+judged s (Open x) f buffer eight whole (one, low, last, at, free, dirty) =
+    rw (
+      whole,
+      read-information f (x .length) one low eight,
+      eq-eqb (f .kind) 1 one,
+      free,
+      ne-eqb (byteOf f 0) 0 (omega arith),
+      le-ltb (x .frames) (byteOf f 0) (omega arith),
+      eq-eqb (byteOf f 0) (x .expected) (last ∙ sym at),
+      eq-eqb (byteOf f 0) (x .frames) last,
+      dirty,
+    )
+
 pub refusals : Refusals
 refusals =
     record {
@@ -100,4 +138,6 @@ refusals =
       hold = λ r number e. pause-unchanged (pause-does hold r) e;
       resume = λ r number e. pause-unchanged (pause-does resume r) e;
       hear = λ r f buffer number e. unchanged (hear-does r f buffer) e;
+      unclean = λ r f buffer e. unclean (hear-does r f buffer) e;
+      judged = λ r f buffer eight whole u. judged (r .settings) (r .phase) f buffer eight whole u;
     }

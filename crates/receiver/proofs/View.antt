@@ -18,6 +18,7 @@ use Rattle.frame.specs.declared.Frame.{Frame}
 use Rattle.frame.specs.declared.Parsed.{Parsed}
 use Rattle.receiver.specs.Hear.{announcesWell, opening, announceIdle, openingAgain, announceOpen, hearAnnouncement, ending, askingNext, expectingNext, stored, storing, informationExpected, informationOpen, endingAgain, informationDone, hearInformation, hearNack, hearNumbered, isHeld, hearUnlessHeld, hearKind, hearRead, awaited, hearOf}
 use Rattle.receiver.specs.Hold.{holding, holdOpen, holdPhase, holdOf, resuming, resumeOpen, resumePhase, resumeOf}
+use Rattle.receiver.specs.Refusals.{Unclean}
 use Rattle.receiver.specs.Tick.{waiting, askingAgain, timeoutFree, holdingOn, timeoutHeld, tickOpen, tickPhase, tickOf}
 use Rattle.receiver.specs.Told.{Told, Heard, heard, refusing, silently, emitting, failingWith, failing, shortWith, shortOnly}
 use Rattle.receiver.specs.declared.Connection.{Connection}
@@ -36,14 +37,6 @@ abbrev pub Shut : Phase → Type 0
 Shut Idle = Unit
 Shut (Done x) = Unit
 Shut (Open x) = ⊥
-
--- why a hearing may be refused 14 (document 02, E3): frame N is expected and no hold stands, and the frame is not clean
-abbrev pub Unclean : Frame → Phase → Type 0
-Unclean f Idle = ⊥
-Unclean f (Done x) = ⊥
-Unclean f (Open x) =
-    (f .kind ≡ 1) × (1 ≤ byteOf f 0) × (byteOf f 0 ≡ x .expected) × (x .expected ≡ x .frames) × (x .held ≡ false)
-    × (cleanFor f (x .length) ≡ false)
 
 -- the two calls of a hold
 pub data Pause : Type 0 where
@@ -258,7 +251,7 @@ module _ (s : Settings) where
           (λ unclean.
           let whole : byteOf f 0 ≡ x .frames = eqb-true _ _ (both-left last stained unclean) in
           let dirty = not-true (cleanFor f (x .length)) (both-right last stained unclean) in
-          refuses 14 (λ _. (one, low, at, sym at ∙ whole, free, dirty)))
+          refuses 14 (λ _. (one, low, whole, sym at ∙ whole, free, dirty)))
           (λ _. stored-does x at inside)
 
       -- every phase, and every reason to refuse or to ignore the frame

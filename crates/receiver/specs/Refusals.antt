@@ -1,11 +1,13 @@
 -- Document 01, Refusals, by place, and The line ("A refused call stands"): a refusal is a number, and nothing else comes of
 -- it. Said here of every call of the receiver and apart from the definitions that answer refusals; `proofs/Refusals.antt`
 -- proves it.
-use Prim.Native.Nat.{ℕ}
+use Prim.Native.Nat.{ℕ, _≤_}
 use mathlib.Core.Path.{_≡_}
 use mathlib.Core.Bool.{false}
 use mathlib.Core.List.{List, []}
-use Rattle.frame.specs.Frames.{blankOf}
+use lib.ListN.{length}
+use Rattle.frame.specs.Frames.{byteOf, blankOf}
+use Rattle.frame.specs.Reading.{cleanFor}
 use Rattle.frame.specs.Result as result
 use Rattle.frame.specs.declared.Frame.{Frame}
 use Rattle.receiver.specs.Hear.{hearOf}
@@ -13,6 +15,8 @@ use Rattle.receiver.specs.Hold.{holdOf, resumeOf}
 use Rattle.receiver.specs.Make.{makeOf}
 use Rattle.receiver.specs.Tick.{tickOf}
 use Rattle.receiver.specs.Told.{refused, Heard, heard, noBytes}
+use Rattle.receiver.specs.declared.Phase.{Phase}
+use Rattle.receiver.specs.declared.Phase.the-variants.{Idle, Done, Open}
 use Rattle.receiver.specs.declared.Receiver.{Receiver}
 
 -- what a hearing answers leaves the receiver and the lent buffer as they were, emits no frame (the blank one stands there)
@@ -23,6 +27,19 @@ pub record Unchanged (r : Receiver) (buffer : List ℕ) (h : Heard) : Type 0 whe
   pub emits : h .told .emits ≡ false
   pub frame : h .told .frame ≡ blankOf
   pub bytes : h .told .bytes ≡ noBytes
+
+-- Document 02, E3, Errors: an information frame that is not clean for L, where its number is N, N is expected and no hold
+-- stands
+abbrev pub Unclean : Frame → Phase → Type 0
+Unclean f Idle = ⊥
+Unclean f (Done x) = ⊥
+Unclean f (Open x) =
+    (f .kind ≡ 1)
+    × (1 ≤ byteOf f 0)
+    × (byteOf f 0 ≡ x .frames)
+    × (x .expected ≡ x .frames)
+    × (x .held ≡ false)
+    × (cleanFor f (x .length) ≡ false)
 
 pub record Refusals : Type 0 where
   -- making: refused, it answers no receiver, and the number is 1
@@ -37,3 +54,9 @@ pub record Refusals : Type 0 where
   -- a hearing, by whatever number it is refused, of any frame, lent anything, in any state
   pub hear : (r : Receiver) (f : Frame) (buffer : List ℕ) (number : ℕ) → hearOf r f buffer .told .outcome ≡ refused number
       → Unchanged r buffer (hearOf r f buffer)
+  -- by 14 it is refused nowhere but there, and there always, so long as the buffer has its length and the frame its bytes
+  pub unclean : (r : Receiver) (f : Frame) (buffer : List ℕ) → hearOf r f buffer .told .outcome ≡ refused 14
+      → Unclean f (r .phase)
+  pub judged : (r : Receiver) (f : Frame) (buffer : List ℕ) → length (f .bytes) ≡ 8 → length buffer ≡ 1785
+      → Unclean f (r .phase)
+      → hearOf r f buffer .told .outcome ≡ refused 14

@@ -62,7 +62,7 @@ hearing-honest : {rs : Settings} {f : Frame} {lent : List ℕ} {p : receiver-pha
     → view.Hears rs f lent p h
     → wasRefused (h .told .outcome) ≡ true
     → RefusedHearing (view.receiverIn rs p) lent h
-hearing-honest (view.refuses number) e = refusal number
+hearing-honest (view.refuses number _) e = refusal number
 hearing-honest view.ignores e = absurd (false≢true e)
 hearing-honest (view.announced _ _ (view.nacks _ _)) e = absurd (false≢true e)
 hearing-honest (view.announced _ _ (view.opens _ _ _ _ _)) e = absurd (false≢true e)

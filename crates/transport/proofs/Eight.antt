@@ -82,7 +82,7 @@ HeardEights h = Eights (h .told)
 hear-told : {s : Settings} {f : Frame} {buffer : List ℕ} {p : receiver-phase.Phase} {h : receiver.Heard} → length (f .bytes) ≡ 8
     → Hears s f buffer p h → HeardEights h
 unfolding lmNackOf lmAckOf endOfAckOf smAckOf blankOf
-hear-told e (refuses _) = blank refl refl
+hear-told e (refuses _ _) = blank refl refl
 hear-told e ignores = blank refl refl
 hear-told e (announced _ _ (nacks _ _)) = blank refl refl
 hear-told e (announced _ _ (opens _ _ _ _ _)) = blank refl refl

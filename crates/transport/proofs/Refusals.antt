@@ -41,7 +41,7 @@ taken buffer h = go (wasRefused (h .told .outcome))
 -- the buffer after the call is what the call left
 left : {s : Settings} {f : Frame} {p : Phase} {buffer : List ℕ} {h : Heard} → Hears s f buffer p h
     → bufferAfter (wasRefused (h .told .outcome)) buffer (h .buffer) ≡ h .buffer
-left (refuses _) = refl
+left (refuses _ _) = refl
 left ignores = refl
 left {buffer = buffer} {h = h} (announced _ _ a) = taken buffer h (announced-taken a)
 left {buffer = buffer} {h = h} (informed _ _ _ i) = taken buffer h (informed-taken i)
