@@ -12,7 +12,7 @@ use Rattle.delivery.specs.Seen.{begunIn, begunAfter}
 use Rattle.frame.specs.Choice.{pick}
 use Rattle.frame.specs.Count.{frameCountOf, incrementOf}
 use Rattle.frame.specs.Frames.{fillTo, blankOf, announcementOf, informationOf, lmAckOf, endOfAckOf}
-use Rattle.frame.specs.Reading.{namedOf, allFiller, readOf}
+use Rattle.frame.specs.Reading.{namedOf, allFiller, cleanFor, readOf}
 use Rattle.receiver.specs.Hear as receiver-hear
 use Rattle.receiver.specs.Hold as receiver-hold
 use Rattle.receiver.specs.Make as receiver-make
@@ -35,7 +35,7 @@ unfolding
     runOf stepOf givenForward givenBack begunIn begunAfter
     pick frameCountOf incrementOf
     fillTo blankOf announcementOf informationOf lmAckOf endOfAckOf
-    namedOf allFiller readOf
+    namedOf allFiller cleanFor readOf
     sender-make.makeOf
     sender-begin.beginOf sender-begin.beginPhase sender-begin.beginIdle sender-begin.beginLong
     sender-tick.tickOf sender-tick.lentTo sender-tick.tickPhase sender-tick.tickSending
@@ -45,7 +45,7 @@ unfolding
     receiver-make.makeOf
     receiver-hear.hearOf receiver-hear.hearRead receiver-hear.hearKind receiver-hear.hearUnlessHeld receiver-hear.hearNumbered
     receiver-hear.hearAnnouncement receiver-hear.announceIdle receiver-hear.hearInformation
-    receiver-hear.informationOpen receiver-hear.stored receiver-hear.storing receiver-window.windowOf
+    receiver-hear.informationExpected receiver-hear.informationOpen receiver-hear.stored receiver-hear.storing receiver-window.windowOf
     receiver-hold.holdOf receiver-hold.holdPhase receiver-hold.holdOpen
     receiver-hold.resumeOf receiver-hold.resumePhase receiver-hold.resumeOpen
     receiver-tick.tickOf receiver-tick.tickPhase receiver-tick.tickOpen

@@ -1,21 +1,22 @@
 -- What the receiver answers in a clean transfer of m, call by call: its wait is short of T, and each frame heard is the one
 -- that it expects or, where frames are repeated, one that it has heard already.
 -- Assumes nothing.
-use Prim.Native.Nat.{ℕ, _+_, _-_, _≤_, _<_}
-use mathlib.Core.Bool.{false}
+use Prim.Native.Nat.{ℕ, suc, _+_, _-_, _≤_, _<_}
+use mathlib.Core.Bool.{false, and-false}
 use mathlib.Core.Path.{_≡_, refl, ap, _∙_}
 use mathlib.Core.List.{List, _∷_}
 use native.Mathlib.Omega.{arith}
 use borrow.Author.Tests.{le-leb, lt-leb, le-ltb, eq-eqb, ne-eqb}
 use lib.ListN.{length}
 use Rattle.frame.proofs.Choice.{pick-elim}
-use Rattle.frame.proofs.Laws.{increment-is, word-whole, length-fill, filler-ends}
+use Rattle.frame.proofs.Inverse.{written-clean}
+use Rattle.frame.proofs.Laws.{increment-is, word-whole, length-fill, read-information}
 use Rattle.frame.specs.Choice.{pick}
 use Rattle.frame.specs.Frames.{fillTo, partFrom, announcementOf, informationOf, lmAckOf, endOfAckOf}
-use Rattle.frame.specs.Reading.{parsedOf, readOf, namedOf, allFiller}
+use Rattle.frame.specs.Reading.{noLength, parsedOf, readOf, namedOf, allFiller}
 use Rattle.frame.specs.Result.{accepted}
 use Rattle.receiver.proofs.View.{receiverIn}
-use Rattle.receiver.specs.Hear.{announceIdle, announceOpen, hearAnnouncement, stored, storing, informationOpen, informationDone, hearInformation, hearNumbered, hearUnlessHeld, hearKind, hearRead, hearOf}
+use Rattle.receiver.specs.Hear.{announceIdle, announceOpen, hearAnnouncement, stored, storing, informationExpected, informationOpen, informationDone, hearInformation, hearNumbered, hearUnlessHeld, hearKind, hearRead, hearOf}
 use Rattle.receiver.specs.Tick.{tickOpen, tickPhase, tickOf}
 use Rattle.receiver.specs.Told.{Told, Heard, heard, silently, emitting, delivering}
 use Rattle.receiver.specs.Window.{windowOf, windowAck}
@@ -90,11 +91,10 @@ module _ (rs : Settings) (m : List ℕ) where
   unfolding tickOf tickPhase tickOpen pick
   waits-on expected last wait early small = rw (increment-is wait (omega arith), lt-leb (rs .timeout) (wait + 1) early)
 
-  -- a frame with message bytes is read as what it is
-  reads : (number : ℕ) → 1 ≤ number → readOf (informationAt number m) ≡ accepted (parsedOf (informationAt number m))
-  unfolding readOf namedOf informationOf pick
-  reads number low =
-      rw (ne-eqb number 0 (omega arith), filler-ends (number ∷ fillTo 7 (partFrom number m)) 8 (rw length-fill (omega arith)))
+  -- a frame with message bytes is read as what it is, for any length
+  reads : (number l : ℕ) → 1 ≤ number → readOf (informationAt number m) l ≡ accepted (parsedOf (informationAt number m) l)
+  unfolding informationOf
+  reads number l low = read-information (informationAt number m) l refl low (ap suc (length-fill 7 (partFrom number m)))
 
   -- the frame before the one that is expected is ignored
   pub hears-passed : (number last wait : ℕ) (buffer : List ℕ) → length buffer ≡ 1785 → 1 ≤ number → number < framesOf m
@@ -104,7 +104,7 @@ module _ (rs : Settings) (m : List ℕ) where
   hears-passed number last wait buffer held low high =
       rw (
         held,
-        reads number low,
+        reads number (length m) low,
         ne-eqb number 0 (omega arith),
         le-ltb (framesOf m) number (omega arith),
         ne-eqb number (number + 1) (omega arith),
@@ -116,16 +116,24 @@ module _ (rs : Settings) (m : List ℕ) where
       ≡ heard (emitting (receiverIn rs (donePhase m)) (endOfAckOf (framesOf m) (length m))) buffer
   unfolding hearOf hearRead hearKind hearUnlessHeld hearNumbered hearInformation informationDone informationOf pick
   hears-delivered buffer held some =
-      rw (held, reads (framesOf m) some, ne-eqb (framesOf m) 0 (omega arith), eq-eqb (framesOf m) (framesOf m) refl)
+      rw (held, reads (framesOf m) noLength some, ne-eqb (framesOf m) 0 (omega arith), eq-eqb (framesOf m) (framesOf m) refl)
 
   -- the frame that is expected is stored
   hears-frame : (number last wait : ℕ) (buffer : List ℕ) → length buffer ≡ 1785 → 1 ≤ number → number ≤ framesOf m
       → hearOf (receiverIn rs (Open (connected m number last wait))) (informationAt number m) buffer
       ≡ heard (stored (receiverIn rs (Open (connected m number last wait))) (connected m number last wait))
       (storedIn m number buffer)
-  unfolding hearOf hearRead hearKind hearUnlessHeld hearNumbered hearInformation informationOpen informationOf pick
+  unfolding hearOf hearRead hearKind hearUnlessHeld hearNumbered hearInformation informationOpen informationExpected informationOf pick
   hears-frame number last wait buffer held low high =
-      rw (held, reads number low, ne-eqb number 0 (omega arith), le-ltb (framesOf m) number high, eq-eqb number number refl)
+      rw (
+        held,
+        reads number (length m) low,
+        ne-eqb number 0 (omega arith),
+        le-ltb (framesOf m) number high,
+        eq-eqb number number refl,
+        written-clean number m,
+        and-false,
+      )
 
   module _ (number last wait : ℕ) (buffer : List ℕ) (held : length buffer ≡ 1785) (low : 1 ≤ number) where
     -- it is not refused

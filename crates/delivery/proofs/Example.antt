@@ -9,7 +9,7 @@ use Rattle.delivery.specs.Seen.{begunIn, begunAfter, openedIn, openedAft
 use Rattle.frame.specs.Choice.{pick}
 use Rattle.frame.specs.Count.{frameCountOf, incrementOf}
 use Rattle.frame.specs.Frames.{fillTo, blankOf, announcementOf, informationOf, lmAckOf, lmNackOf, endOfAckOf, smRmOf, smAckOf}
-use Rattle.frame.specs.Reading.{namedOf, allFiller, readOf}
+use Rattle.frame.specs.Reading.{namedOf, allFiller, cleanFor, readOf}
 use Rattle.receiver.specs.Hear as receiver-hear
 use Rattle.receiver.specs.Window as receiver-window
 use Rattle.sender.specs.Begin as sender-begin
@@ -23,7 +23,7 @@ unfolding
     runOf stepOf givenForward givenBack begunIn begunAfter openedIn openedAfter
     pick frameCountOf incrementOf
     fillTo blankOf announcementOf informationOf lmAckOf lmNackOf endOfAckOf smRmOf smAckOf
-    namedOf allFiller readOf
+    namedOf allFiller cleanFor readOf
     sender-begin.beginOf sender-begin.beginPhase sender-begin.beginIdle sender-begin.beginLong sender-begin.beginShort
     sender-tick.tickOf sender-tick.lentTo sender-tick.tickPhase sender-tick.tickOpening sender-tick.tickSending
     sender-tick.tickShort sender-tick.unlessOver sender-tick.atLimit sender-tick.afterFrame
@@ -31,7 +31,7 @@ unfolding
     sender-hear.taking sender-hear.hearEnd sender-hear.ifWhole sender-hear.hearShortAck sender-hear.ifFirst
     receiver-hear.hearOf receiver-hear.hearRead receiver-hear.hearKind receiver-hear.hearUnlessHeld receiver-hear.hearNumbered
     receiver-hear.hearAnnouncement receiver-hear.announceIdle receiver-hear.announceOpen receiver-hear.hearInformation
-    receiver-hear.informationOpen receiver-hear.stored receiver-hear.storing receiver-window.windowOf
+    receiver-hear.informationExpected receiver-hear.informationOpen receiver-hear.stored receiver-hear.storing receiver-window.windowOf
 examples =
     record {
       example =

@@ -12,7 +12,7 @@ use Rattle.delivery.specs.Seen.{begunIn, begunAfter}
 use Rattle.frame.specs.Choice.{pick}
 use Rattle.frame.specs.Count.{frameCountOf, incrementOf}
 use Rattle.frame.specs.Frames.{fillTo, blankOf, announcementOf, informationOf, lmAckOf, lmNackOf, endOfAckOf}
-use Rattle.frame.specs.Reading.{namedOf, allFiller, readOf}
+use Rattle.frame.specs.Reading.{namedOf, allFiller, cleanFor, readOf}
 use Rattle.frame.specs.Result.{accepted, refused}
 use Rattle.line.specs.Ring.{frameAt, framesFrom, framesIn, emptyOf}
 use Rattle.pack.proofs.Examples as pack
@@ -167,7 +167,7 @@ unfolding
     newestFirst reportsIn turnIn begunIn begunAfter figuresFor
     callFor turnFor eventsFrom runFrom callsFor framesText eventText textOf
     capped cappedStep joined makeOf givenForward givenBack stepOf
-    frameCountOf incrementOf fillTo blankOf announcementOf informationOf lmAckOf lmNackOf endOfAckOf namedOf allFiller readOf
+    frameCountOf incrementOf fillTo blankOf announcementOf informationOf lmAckOf lmNackOf endOfAckOf namedOf allFiller cleanFor readOf
     sender-make.makeOf receiver-make.makeOf
     sender-begin.beginOf sender-begin.beginPhase sender-begin.beginIdle sender-begin.beginLong
     sender-tick.tickOf sender-tick.lentTo sender-tick.tickPhase sender-tick.tickOpening
@@ -176,7 +176,7 @@ unfolding
     sender-hear.ackOpening sender-hear.taking sender-hear.hearEnd sender-hear.ifWhole
     receiver-hear.hearOf receiver-hear.hearRead receiver-hear.hearKind
     receiver-hear.hearUnlessHeld receiver-hear.hearNumbered receiver-hear.hearAnnouncement receiver-hear.announceIdle
-    receiver-hear.hearInformation receiver-hear.informationOpen receiver-hear.stored receiver-hear.storing
+    receiver-hear.hearInformation receiver-hear.informationExpected receiver-hear.informationOpen receiver-hear.stored receiver-hear.storing
     receiver-tick.tickOf receiver-tick.tickPhase receiver-tick.tickOpen receiver-window.windowOf
     digitsIn decimal hexGlyph spaced hexes headOf frameLine sentLine deliveredLine senderReport receiverReport refusedText
 computed =
