@@ -15,7 +15,7 @@ use lib.Seq.{length-paste}
 use Rattle.frame.proofs.Laws.{length-fill}
 use Rattle.frame.specs.Choice.{pick}
 use Rattle.frame.specs.Count.{frameCountOf}
-use Rattle.frame.specs.Frames.{fillTo, partFrom}
+use Rattle.frame.specs.Frames.{carried, fillTo, partFrom}
 use Rattle.frame.specs.declared.Frame.{Frame}
 use Rattle.receiver.proofs.View.{receiverIn}
 use Rattle.receiver.specs.Hear as hearing
@@ -154,7 +154,7 @@ module _ {st : Settings} {rs : receiver-settings.Settings} {m : List ℕ} (c : C
   unfolding hearing.storing frameCountOf
   stored-size number buffer low high size =
       let fits = c .fits in
-      length-paste buffer (7 * (number - 1)) (fillTo 7 (partFrom number m)) (hearing.carried number (length m)) (omega arith)
+      length-paste buffer (7 * (number - 1)) (fillTo 7 (partFrom number m)) (carried number (length m)) (omega arith)
       (rw length-fill (omega arith))
       ∙ size
 

@@ -7,9 +7,9 @@ use native.Mathlib.Omega.{arith}
 use lib.ListN.{length, take, drop, length-drop}
 use lib.Seq.{take-paste, take-add, take-all}
 use Rattle.frame.specs.Count.{frameCountOf}
-use Rattle.frame.specs.Frames.{fillTo, partFrom}
+use Rattle.frame.specs.Frames.{carried, fillTo, partFrom}
 use Rattle.frame.proofs.Laws.{length-fill, take-fill}
-use Rattle.receiver.specs.Hear.{storing, carried}
+use Rattle.receiver.specs.Hear.{storing}
 
 module _ (m buffer : List ℕ) (number : ℕ) (held : length buffer ≡ 1785) (long : length m ≤ 1785) (low : 1 ≤ number)
     (high : number ≤ frameCountOf (length m))
