@@ -5,6 +5,7 @@ use std::sync::OnceLock;
 
 use compare::packs::random::Random;
 
+use crate::filling::{Filling, PLACES};
 use crate::holding::Met;
 use crate::interface::Face;
 use crate::values::*;
@@ -269,7 +270,7 @@ pub struct Pair<'a, L, R> {
 /// The outcomes of the ends and of talkers: 0 to 7.
 pub const OUTCOMES: usize = 8;
 
-/// Calls by function, answers by function and outcome, and what was met of a hold.
+/// Calls by function, answers by function and outcome, and what was met of a hold and of a last frame's filler.
 #[derive(Clone, Debug, Default)]
 pub struct Tally {
     pub calls: [u64; NAMES.len()],
@@ -277,6 +278,8 @@ pub struct Tally {
     pub outcomes: [[u64; OUTCOMES]; NAMES.len()],
     /// In the order of `Met`.
     pub met: [u64; Met::ALL.len()],
+    /// In the order of `Filling`, each by the places behind the message.
+    pub fillings: [[u64; PLACES]; Filling::ALL.len()],
 }
 
 impl Tally {
@@ -291,6 +294,25 @@ impl Tally {
         if let Some(met) = Met::by(call, answer) {
             self.met[met as usize] += 1;
         }
+        if let Some((filling, places)) = Filling::by(call, answer) {
+            self.fillings[filling as usize][places] += 1;
+        }
+    }
+
+    /// What was met fewer times than this, of a hold and of filler.
+    pub fn rare(&self, times: u64) -> Vec<String> {
+        let holds = Met::ALL
+            .iter()
+            .filter(|&&met| self.met[met as usize] < times)
+            .map(|met| format!("{met:?}"));
+        let fillings = Filling::ALL.iter().flat_map(|&filling| {
+            let counts = self.fillings[filling as usize];
+            let places = filling
+                .places()
+                .filter(move |&places| counts[places] < times);
+            places.map(move |places| format!("{filling:?} with {places}"))
+        });
+        holds.chain(fillings).collect()
     }
 }
 

@@ -17,13 +17,13 @@ use compare::reference::frame::frames_for;
 use crate::call::Call;
 use crate::frames::{self, EDGE_LENGTHS};
 use crate::lists::{self, message, standing, three, unjudged, version_at};
-use crate::sessions::{part, wrong_buffer};
+use crate::sessions::{mostly_right_buffer, part};
 use crate::values::*;
 
 /// A call of an end in a forged state.
 pub fn end_call(random: &mut Random) -> Call {
     let (sender, receiver) = (sender(random), receiver(random));
-    match random.weighted(&[8, 6, 32, 22, 12, 6, 6, 22]) {
+    match random.weighted(&[8, 6, 32, 22, 12, 6, 6, 22, 20]) {
         0 => Call::SenderBegin(sender, any_part(random, sender.length)),
         1 => {
             let length = random.between(0, 10);
@@ -34,13 +34,14 @@ pub fn end_call(random: &mut Random) -> Call {
         4 => Call::ReceiverTick(expecting(random, receiver)),
         5 => Call::ReceiverHold(receiver),
         6 => Call::ReceiverResume(expecting(random, receiver)),
-        _ => {
-            let lent = match random.percent(96) {
-                true => 1785,
-                false => wrong_buffer(random),
-            };
+        7 => {
             let frame = frames::any(random, &sender, &receiver);
-            Call::ReceiverHear(receiver, frame, lent)
+            Call::ReceiverHear(receiver, frame, mostly_right_buffer(random, 96))
+        }
+        _ => {
+            let (receiver, number) = ending(random, receiver);
+            let frame = frames::last(random, number, receiver.length);
+            Call::ReceiverHear(receiver, frame, mostly_right_buffer(random, 85))
         }
     }
 }
@@ -150,9 +151,10 @@ fn receiver(random: &mut Random) -> FlatReceiver {
         true => frames_for(length) as u8,
         false => random.byte(),
     };
-    let expected = match random.percent(80) {
-        true => random.between(1, frames.max(1).into()) as u8,
-        false => random.byte(),
+    let expected = match random.weighted(&[30, 50, 20]) {
+        0 => frames,
+        1 => random.between(1, frames.max(1).into()) as u8,
+        _ => random.byte(),
     };
     let held = random.percent(40);
     FlatReceiver {
@@ -182,6 +184,42 @@ fn expecting(random: &mut Random, receiver: FlatReceiver) -> FlatReceiver {
         expected: random.between(1, frames.into()) as u8,
         frames,
         ..receiver
+    }
+}
+
+/// A receiver at the end of its message, or mostly, with the number of a frame there: N, where it is expected, or the frame in
+/// which L ends and after which N comes.
+fn ending(random: &mut Random, receiver: FlatReceiver) -> (FlatReceiver, u8) {
+    let end = frames_for(receiver.length).min(255) as u8;
+    let (frames, expected, number) = match random.weighted(&[60, 10, 30]) {
+        0 => (end, end, end),
+        1 => (end, receiver.expected, end),
+        _ => {
+            let further = random.between(end.into(), 255) as u8;
+            let number = near_end(random, end);
+            (further, number, number)
+        }
+    };
+    let receiver = FlatReceiver {
+        phase: if random.percent(70) {
+            2
+        } else {
+            receiver.phase
+        },
+        frames,
+        expected,
+        held: random.percent(20),
+        holds: receiver.holds.min(20),
+        ..receiver
+    };
+    (receiver, number)
+}
+
+/// Mostly this number, else the one after it.
+fn near_end(random: &mut Random, end: u8) -> u8 {
+    match random.percent(85) {
+        true => end,
+        false => end.saturating_add(1),
     }
 }
 
