@@ -270,6 +270,9 @@ pub struct Pair<'a, L, R> {
 /// The outcomes of the ends and of talkers: 0 to 7.
 pub const OUTCOMES: usize = 8;
 
+/// From so many calls on, all that can be met of a hold and of a last frame's filler has to be.
+const USUAL: u64 = 1_000_000;
+
 /// Calls by function, answers by function and outcome, and what was met of a hold and of a last frame's filler.
 #[derive(Clone, Debug, Default)]
 pub struct Tally {
@@ -299,20 +302,30 @@ impl Tally {
         }
     }
 
-    /// What was met fewer times than this, of a hold and of filler.
-    pub fn rare(&self, times: u64) -> Vec<String> {
-        let holds = Met::ALL
+    /// What was met of a hold fewer times than this.
+    pub fn rare_holds(&self, times: u64) -> Vec<String> {
+        let rare = Met::ALL
             .iter()
-            .filter(|&&met| self.met[met as usize] < times)
-            .map(|met| format!("{met:?}"));
-        let fillings = Filling::ALL.iter().flat_map(|&filling| {
-            let counts = self.fillings[filling as usize];
-            let places = filling
-                .places()
-                .filter(move |&places| counts[places] < times);
-            places.map(move |places| format!("{filling:?} with {places}"))
-        });
-        holds.chain(fillings).collect()
+            .filter(|&&met| self.met[met as usize] < times);
+        rare.map(|met| format!("{met:?}")).collect()
+    }
+
+    /// The same of a last frame's filler, with the places behind the message.
+    pub fn rare_fillings(&self, times: u64) -> Vec<String> {
+        let each = Filling::ALL
+            .iter()
+            .flat_map(|&filling| filling.places().map(move |places| (filling, places)));
+        each.filter(|&(filling, places)| self.fillings[filling as usize][places] < times)
+            .map(|(filling, places)| format!("{filling:?} with {places}"))
+            .collect()
+    }
+
+    /// What was never met. Only in a run of usual size does that say anything.
+    pub fn unmet(&self) -> Vec<String> {
+        match self.total() < USUAL {
+            true => Vec::new(),
+            false => [self.rare_holds(1), self.rare_fillings(1)].concat(),
+        }
     }
 }
 

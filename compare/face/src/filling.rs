@@ -67,10 +67,9 @@ impl Filling {
         let (Call::ReceiverHear(end, frame, _), Answer::Receiver(answer)) = (call, answer) else {
             return None;
         };
-        let length = if matches!(end.phase, DONE | OPEN) {
-            end.length
-        } else {
-            0
+        let length = match end.phase {
+            DONE | OPEN => end.length,
+            _ => 0,
         };
         let places = behind(frame, length);
         let dirty: Vec<usize> = places

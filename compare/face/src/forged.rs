@@ -187,25 +187,24 @@ fn expecting(random: &mut Random, receiver: FlatReceiver) -> FlatReceiver {
     }
 }
 
-/// A receiver at the end of its message, or mostly, with the number of a frame there: N, where it is expected, or the frame in
-/// which L ends and after which N comes.
+/// Mostly an open receiver at the end of its message, and a frame's number: N, mostly expected; or, where N lies further on
+/// than L asks for, the frame in which L ends or the one after it, expected too.
 fn ending(random: &mut Random, receiver: FlatReceiver) -> (FlatReceiver, u8) {
     let end = frames_for(receiver.length).min(255) as u8;
-    let (frames, expected, number) = match random.weighted(&[60, 10, 30]) {
+    let (frames, expected, number) = match random.weighted(&[60, 10, 25, 5]) {
         0 => (end, end, end),
         1 => (end, receiver.expected, end),
-        _ => {
-            let further = random.between(end.into(), 255) as u8;
-            let number = near_end(random, end);
-            (further, number, number)
+        place => {
+            let number = end.saturating_add(place as u8 - 2);
+            (random.between(end.into(), 255) as u8, number, number)
         }
     };
+    let phase = match random.percent(70) {
+        true => 2,
+        false => receiver.phase,
+    };
     let receiver = FlatReceiver {
-        phase: if random.percent(70) {
-            2
-        } else {
-            receiver.phase
-        },
+        phase,
         frames,
         expected,
         held: random.percent(20),
@@ -213,14 +212,6 @@ fn ending(random: &mut Random, receiver: FlatReceiver) -> (FlatReceiver, u8) {
         ..receiver
     };
     (receiver, number)
-}
-
-/// Mostly this number, else the one after it.
-fn near_end(random: &mut Random, end: u8) -> u8 {
-    match random.percent(85) {
-        true => end,
-        false => end.saturating_add(1),
-    }
 }
 
 /// A call of a talker in a forged state.

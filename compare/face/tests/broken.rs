@@ -87,15 +87,23 @@ fn every_outcome_comes() {
     ] {
         come(name, &[0, 1]);
     }
-    assert_eq!(tally.rare(100), Vec::<String>::new());
+    assert_eq!(tally.rare_holds(100), Vec::<String>::new());
+    assert_eq!(tally.rare_fillings(100), Vec::<String>::new());
+    assert_eq!(tally.unmet(), Vec::<String>::new());
 }
 
-/// What `rare` looks for: without any call all of it is, 25 things of a hold and 60 of filler.
+/// A run of usual size that meets nothing, or misses one thing, is found out; a shorter one may miss any.
 #[test]
-fn nothing_is_met_by_no_calls() {
-    let unmet = Tally::default().rare(1);
-    assert_eq!(unmet.len(), 25 + 60);
-    assert!(unmet.contains(&"RefusedForLast with 2".into()));
+fn what_is_not_met_is_named() {
+    let mut tally = Tally::default();
+    assert_eq!(tally.unmet(), Vec::<String>::new());
+    tally.calls[0] = COUNT;
+    // 25 things of a hold, and of filler 12 by their places.
+    assert_eq!(tally.unmet().len(), 25 + 60);
+    tally.met.fill(1);
+    tally.fillings.fill([1; 8]);
+    tally.fillings[Filling::RefusedForLast as usize][2] = 0;
+    assert_eq!(tally.unmet(), ["RefusedForLast with 2"]);
 }
 
 #[test]
@@ -139,10 +147,8 @@ fn transfers_go_through() {
     assert!(sent[0] > 5000 && sent[1] > 2000 && sent[2] > 20, "{sent:?}");
 }
 
-/// What can be met of a hold and of filler is met by sessions alone, and by forged states alone. Only a caller makes a
-/// connection whose L ends before its frame N.
-#[test]
-fn holds_and_filler_come_about() {
+/// What sessions alone meet, and forged states alone.
+fn met_apart() -> [Tally; 2] {
     let mut sessions = Pair::new(&Reference, &Reference);
     for seed in 0..10_000 {
         let (_, played) = sessions::run(&mut Random::new(seed), &mut sessions);
@@ -154,18 +160,41 @@ fn holds_and_filler_come_about() {
         let call = forged::end_call(&mut random);
         assert!(forged.compare(call).is_ok());
     }
+    [sessions.tally, forged.tally]
+}
+
+/// All that can be met of a hold is met by either.
+#[test]
+fn holds_come_about() {
+    let tallies = met_apart();
     for met in Met::ALL {
-        let times = [&sessions, &forged].map(|pair| pair.tally.met[met as usize]);
-        println!("{met:?}: {times:?}");
+        println!(
+            "{met:?}: {:?}",
+            tallies.each_ref().map(|tally| tally.met[met as usize])
+        );
     }
+    assert_eq!(
+        tallies.map(|tally| tally.rare_holds(50)),
+        [const { Vec::<String>::new() }; 2]
+    );
+}
+
+/// And of a last frame's filler. But only a caller makes a connection whose L ends before its frame N.
+#[test]
+fn dirty_last_frames_come_about() {
+    let tallies = met_apart();
     for filling in Filling::ALL {
-        let times = [&sessions, &forged].map(|pair| pair.tally.fillings[filling as usize]);
-        println!("{filling:?}: {times:?}");
+        println!(
+            "{filling:?}: {:?}",
+            tallies
+                .each_ref()
+                .map(|tally| tally.fillings[filling as usize])
+        );
     }
-    let mut rare = sessions.tally.rare(50);
-    rare.retain(|met| !met.starts_with("DirtyBeforeLast"));
-    assert_eq!(rare, Vec::<String>::new());
-    assert_eq!(forged.tally.rare(50), Vec::<String>::new());
+    let [mut sessions, forged] = tallies.map(|tally| tally.rare_fillings(50));
+    assert_eq!(sessions.len(), 7);
+    sessions.retain(|met| !met.starts_with("DirtyBeforeLast "));
+    assert_eq!([sessions, forged], [const { Vec::<String>::new() }; 2]);
 }
 
 /// The seed that is named shows the difference at once.

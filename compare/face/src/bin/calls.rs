@@ -18,9 +18,6 @@ const USAGE: &str = "usage: calls [--count N] [--seed S] [--mistake NAME]
     --mistake NAME   in place of the proved code a reference with this mistake, to see a difference; the names are in
                      src/broken/";
 
-/// From so many calls on, all that can be met of a hold and of a last frame's filler has to be.
-const USUAL: u64 = 1_000_000;
-
 struct Options {
     count: u64,
     seed: u64,
@@ -92,8 +89,8 @@ fn main() -> ExitCode {
         return ExitCode::from(1);
     }
     print(&tally);
-    let unmet = tally.rare(1);
-    if count >= USUAL && !unmet.is_empty() {
+    let unmet = tally.unmet();
+    if !unmet.is_empty() {
         println!("calls: never met: {}", unmet.join(", "));
         return ExitCode::from(3);
     }
