@@ -5,6 +5,7 @@ use std::sync::OnceLock;
 
 use compare::packs::random::Random;
 
+use crate::filling::{Filling, PLACES};
 use crate::holding::Met;
 use crate::interface::Face;
 use crate::values::*;
@@ -269,7 +270,10 @@ pub struct Pair<'a, L, R> {
 /// The outcomes of the ends and of talkers: 0 to 7.
 pub const OUTCOMES: usize = 8;
 
-/// Calls by function, answers by function and outcome, and what was met of a hold.
+/// From so many calls on, all that can be met of a hold and of a last frame's filler has to be.
+const USUAL: u64 = 1_000_000;
+
+/// Calls by function, answers by function and outcome, and what was met of a hold and of a last frame's filler.
 #[derive(Clone, Debug, Default)]
 pub struct Tally {
     pub calls: [u64; NAMES.len()],
@@ -277,6 +281,8 @@ pub struct Tally {
     pub outcomes: [[u64; OUTCOMES]; NAMES.len()],
     /// In the order of `Met`.
     pub met: [u64; Met::ALL.len()],
+    /// In the order of `Filling`, each by the places behind the message.
+    pub fillings: [[u64; PLACES]; Filling::ALL.len()],
 }
 
 impl Tally {
@@ -290,6 +296,35 @@ impl Tally {
         self.outcomes[place][usize::from(outcome(answer)).min(OUTCOMES - 1)] += 1;
         if let Some(met) = Met::by(call, answer) {
             self.met[met as usize] += 1;
+        }
+        if let Some((filling, places)) = Filling::by(call, answer) {
+            self.fillings[filling as usize][places] += 1;
+        }
+    }
+
+    /// What was met of a hold fewer times than this.
+    pub fn rare_holds(&self, times: u64) -> Vec<String> {
+        let rare = Met::ALL
+            .iter()
+            .filter(|&&met| self.met[met as usize] < times);
+        rare.map(|met| format!("{met:?}")).collect()
+    }
+
+    /// The same of a last frame's filler, with the places behind the message.
+    pub fn rare_fillings(&self, times: u64) -> Vec<String> {
+        let each = Filling::ALL
+            .iter()
+            .flat_map(|&filling| filling.places().map(move |places| (filling, places)));
+        each.filter(|&(filling, places)| self.fillings[filling as usize][places] < times)
+            .map(|(filling, places)| format!("{filling:?} with {places}"))
+            .collect()
+    }
+
+    /// What was never met. Only in a run of usual size does that say anything.
+    pub fn unmet(&self) -> Vec<String> {
+        match self.total() < USUAL {
+            true => Vec::new(),
+            false => [self.rare_holds(1), self.rare_fillings(1)].concat(),
         }
     }
 }

@@ -17,13 +17,13 @@ use compare::reference::frame::frames_for;
 use crate::call::Call;
 use crate::frames::{self, EDGE_LENGTHS};
 use crate::lists::{self, message, standing, three, unjudged, version_at};
-use crate::sessions::{part, wrong_buffer};
+use crate::sessions::{mostly_right_buffer, part};
 use crate::values::*;
 
 /// A call of an end in a forged state.
 pub fn end_call(random: &mut Random) -> Call {
     let (sender, receiver) = (sender(random), receiver(random));
-    match random.weighted(&[8, 6, 32, 22, 12, 6, 6, 22]) {
+    match random.weighted(&[8, 6, 32, 22, 12, 6, 6, 22, 20]) {
         0 => Call::SenderBegin(sender, any_part(random, sender.length)),
         1 => {
             let length = random.between(0, 10);
@@ -34,13 +34,14 @@ pub fn end_call(random: &mut Random) -> Call {
         4 => Call::ReceiverTick(expecting(random, receiver)),
         5 => Call::ReceiverHold(receiver),
         6 => Call::ReceiverResume(expecting(random, receiver)),
-        _ => {
-            let lent = match random.percent(96) {
-                true => 1785,
-                false => wrong_buffer(random),
-            };
+        7 => {
             let frame = frames::any(random, &sender, &receiver);
-            Call::ReceiverHear(receiver, frame, lent)
+            Call::ReceiverHear(receiver, frame, mostly_right_buffer(random, 96))
+        }
+        _ => {
+            let (receiver, number) = ending(random, receiver);
+            let frame = frames::last(random, number, receiver.length);
+            Call::ReceiverHear(receiver, frame, mostly_right_buffer(random, 85))
         }
     }
 }
@@ -150,9 +151,10 @@ fn receiver(random: &mut Random) -> FlatReceiver {
         true => frames_for(length) as u8,
         false => random.byte(),
     };
-    let expected = match random.percent(80) {
-        true => random.between(1, frames.max(1).into()) as u8,
-        false => random.byte(),
+    let expected = match random.weighted(&[30, 50, 20]) {
+        0 => frames,
+        1 => random.between(1, frames.max(1).into()) as u8,
+        _ => random.byte(),
     };
     let held = random.percent(40);
     FlatReceiver {
@@ -183,6 +185,33 @@ fn expecting(random: &mut Random, receiver: FlatReceiver) -> FlatReceiver {
         frames,
         ..receiver
     }
+}
+
+/// Mostly an open receiver at the end of its message, and a frame's number: N, mostly expected; or, where N lies further on
+/// than L asks for, the frame in which L ends or the one after it, expected too.
+fn ending(random: &mut Random, receiver: FlatReceiver) -> (FlatReceiver, u8) {
+    let end = frames_for(receiver.length).min(255) as u8;
+    let (frames, expected, number) = match random.weighted(&[60, 10, 25, 5]) {
+        0 => (end, end, end),
+        1 => (end, receiver.expected, end),
+        place => {
+            let number = end.saturating_add(place as u8 - 2);
+            (random.between(end.into(), 255) as u8, number, number)
+        }
+    };
+    let phase = match random.percent(70) {
+        true => 2,
+        false => receiver.phase,
+    };
+    let receiver = FlatReceiver {
+        phase,
+        frames,
+        expected,
+        held: random.percent(20),
+        holds: receiver.holds.min(20),
+        ..receiver
+    };
+    (receiver, number)
 }
 
 /// A call of a talker in a forged state.

@@ -1,7 +1,7 @@
 //! Frames near what the ends hold: of every kind, with right and with wrong filler.
 
 use compare::packs::random::Random;
-use compare::reference::frame::frames_for;
+use compare::reference::frame::{carried, frames_for};
 
 use crate::values::*;
 
@@ -51,9 +51,10 @@ fn information(
     sender: &FlatSender,
     receiver: &FlatReceiver,
 ) {
-    let number = match random.percent(25) {
-        true => 0,
-        false => {
+    let number = match random.weighted(&[25, 15, 60]) {
+        0 => 0,
+        1 => return *bytes = last(random, receiver.frames, receiver.length).bytes,
+        _ => {
             let above = receiver.frames.wrapping_add(1);
             let ends = [receiver.expected, receiver.last, receiver.frames, above];
             near(random, &ends)
@@ -66,6 +67,66 @@ fn information(
         *bytes = random_bytes(random);
         bytes[0] = number;
     }
+}
+
+/// A frame of a message of this length: any bytes of it, and behind them filler, or mostly what a card left there.
+pub fn last(random: &mut Random, number: u8, length: u16) -> FlatFrame {
+    let mut bytes = random_bytes(random);
+    bytes[0] = number;
+    let filled = soiled(FlatFrame { kind: 1, bytes }, length, Dirt::All(0xFF));
+    match random.percent(30) {
+        true => filled,
+        false => soiled(filled, length, dirt(random)),
+    }
+}
+
+/// What a card leaves behind the message: a byte at the first place there, at the middle one, at the last, at all, or at each
+/// that has its bit set, that of d1 the lowest.
+#[derive(Clone, Copy, Debug, PartialEq, Eq)]
+pub enum Dirt {
+    First(u8),
+    Middle(u8),
+    Last(u8),
+    All(u8),
+    At(u8, u8),
+}
+
+pub fn dirt(random: &mut Random) -> Dirt {
+    let byte = match random.percent(50) {
+        true => random.pick(&[0x00, 0x01, 0x7F, 0x80, 0xFE]),
+        false => random.between(0, 254) as u8,
+    };
+    match random.weighted(&[20, 20, 20, 10, 30]) {
+        0 => Dirt::First(byte),
+        1 => Dirt::Middle(byte),
+        2 => Dirt::Last(byte),
+        3 => Dirt::All(byte),
+        _ => Dirt::At(random.between(1, 127) as u8, byte),
+    }
+}
+
+/// The places behind a message of this length in an information frame with a number; none in any other frame.
+pub fn behind(frame: &FlatFrame, length: u16) -> std::ops::Range<usize> {
+    match (frame.kind, frame.bytes[0]) {
+        (1, number @ 1..) => 1 + carried(number, length)..8,
+        _ => 8..8,
+    }
+}
+
+/// The frame with this dirt behind a message of this length.
+pub fn soiled(mut frame: FlatFrame, length: u16, dirt: Dirt) -> FlatFrame {
+    let places = behind(&frame, length);
+    for place in places.clone() {
+        let left = match dirt {
+            Dirt::First(byte) => (place == places.start).then_some(byte),
+            Dirt::Middle(byte) => (place == places.start + places.len() / 2).then_some(byte),
+            Dirt::Last(byte) => (place == 7).then_some(byte),
+            Dirt::All(byte) => Some(byte),
+            Dirt::At(mask, byte) => (mask >> (place - 1) & 1 == 1).then_some(byte),
+        };
+        frame.bytes[place] = left.unwrap_or(frame.bytes[place]);
+    }
+    frame
 }
 
 /// One of these numbers, one beside it, or any.

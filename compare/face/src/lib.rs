@@ -6,6 +6,7 @@ pub mod broken;
 pub mod call;
 pub mod differences;
 pub mod ends;
+pub mod filling;
 pub mod forged;
 pub mod frames;
 mod groups;

@@ -3,6 +3,7 @@
 use std::collections::VecDeque;
 
 use crate::call::{Answer, Call, Mismatch, Pair, Part};
+use crate::frames::{soiled, Dirt};
 use crate::interface::Face;
 use crate::values::*;
 
@@ -25,6 +26,8 @@ pub enum Step {
     Resume,
     /// With the length of the lent buffer.
     Forward(Way, usize),
+    /// As repeat, but with this dirt behind the message of the receiver's length.
+    ForwardDirty(Dirt, usize),
     Back(Way),
     /// A frame that was never on the line.
     SenderHears(FlatFrame),
@@ -121,6 +124,11 @@ impl World {
             Step::Forward(way, lent) => {
                 let frame = given(&mut self.forward, way)?;
                 Call::ReceiverHear(self.receiver, frame, lent)
+            }
+            Step::ForwardDirty(dirt, lent) => {
+                let frame = given(&mut self.forward, Way::Repeat)?;
+                let dirty = soiled(frame, self.receiver.length, dirt);
+                Call::ReceiverHear(self.receiver, dirty, lent)
             }
             Step::Back(way) => Call::SenderHear(self.sender, given(&mut self.back, way)?),
             Step::SenderHears(frame) => Call::SenderHear(self.sender, frame),

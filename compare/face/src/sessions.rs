@@ -18,11 +18,13 @@ const ALIKE: usize = 2;
 const ODD: usize = 3;
 const SHORT: usize = 4;
 
-/// How a session's steps are drawn: so many times in a hundred the one that brings the transfer forward, else by weights:
+/// How a session's steps are drawn: where a last frame comes next, so many times in a hundred with dirt behind the message;
+/// so many times in a hundred the step that brings the transfer forward, else by weights:
 /// 0 sender tick, 1 receiver tick, 2 to 4 forward hear, lose, repeat, 5 to 7 back hear, lose, repeat, 8 begin, 9 post,
 /// 10 a tick lent another message, 11 a hearing lent another buffer, 12, 13 the sender, the receiver hears a frame from
 /// elsewhere, 14 hold, 15 resume.
 struct Manner {
+    dirty: usize,
     forward: usize,
     weights: [usize; 16],
 }
@@ -30,36 +32,43 @@ struct Manner {
 const MANNERS: [Manner; 7] = [
     // Mostly forward.
     Manner {
+        dirty: 15,
         forward: 97,
         weights: [4, 4, 2, 1, 1, 2, 1, 1, 1, 1, 1, 1, 1, 1, 1, 1],
     },
     // Lossy.
     Manner {
+        dirty: 30,
         forward: 75,
         weights: [8, 8, 2, 6, 6, 2, 6, 6, 1, 1, 1, 1, 0, 0, 2, 1],
     },
     // Quiet: timeouts.
     Manner {
+        dirty: 15,
         forward: 20,
         weights: [30, 30, 2, 2, 1, 2, 2, 1, 1, 1, 1, 1, 1, 1, 1, 1],
     },
     // Repeats.
     Manner {
+        dirty: 40,
         forward: 55,
         weights: [6, 4, 1, 0, 12, 1, 0, 12, 1, 0, 0, 0, 0, 0, 1, 1],
     },
     // Odd calls and frames.
     Manner {
+        dirty: 30,
         forward: 60,
         weights: [4, 4, 1, 1, 1, 1, 1, 1, 2, 3, 3, 3, 8, 8, 2, 1],
     },
     // Held and resumed.
     Manner {
+        dirty: 80,
         forward: 75,
         weights: [3, 8, 1, 2, 2, 1, 2, 2, 1, 1, 0, 1, 3, 16, 12, 4],
     },
     // Held for long: the receiver's time passes.
     Manner {
+        dirty: 80,
         forward: 50,
         weights: [2, 80, 1, 1, 1, 1, 1, 1, 0, 0, 0, 0, 0, 3, 12, 1],
     },
@@ -176,6 +185,10 @@ fn draw_steps<L: Face, R: Face>(
 }
 
 fn draw(random: &mut Random, manner: &Manner, world: &World, begun: usize) -> Step {
+    if comes_last(world) && random.percent(manner.dirty) {
+        let lent = mostly_right_buffer(random, 80);
+        return Step::ForwardDirty(frames::dirt(random), lent);
+    }
     if random.percent(manner.forward) {
         return onward(random, world, begun);
     }
@@ -200,16 +213,26 @@ fn draw(random: &mut Random, manner: &Manner, world: &World, begun: usize) -> St
         15 => Step::Resume,
         _ => {
             let frame = frames::any(random, &world.sender, &world.receiver);
-            let lent = match random.percent(90) {
-                true => BUFFER,
-                false => wrong_buffer(random),
-            };
-            Step::ReceiverHears(frame, lent)
+            Step::ReceiverHears(frame, mostly_right_buffer(random, 90))
         }
     }
 }
 
-pub fn wrong_buffer(random: &mut Random) -> usize {
+/// The next frame is the last of the message that the receiver takes or has taken.
+fn comes_last(world: &World) -> bool {
+    let (next, last) = (world.forward.front(), world.receiver.frames);
+    last != 0 && next.is_some_and(|frame| frame.kind == 1 && frame.bytes[0] == last)
+}
+
+/// The length that a buffer has to have, so many times in a hundred.
+pub fn mostly_right_buffer(random: &mut Random, share: usize) -> usize {
+    match random.percent(share) {
+        true => BUFFER,
+        false => wrong_buffer(random),
+    }
+}
+
+fn wrong_buffer(random: &mut Random) -> usize {
     random.pick(&[0, 1, 7, 8, 9, 14, 15, 1784, 1786, 2048])
 }
 

@@ -3,7 +3,7 @@
 use crate::call::{Mismatch, Pair};
 use crate::differences::Case;
 use crate::interface::Face;
-use crate::session::Session;
+use crate::session::{Session, Step};
 use crate::talk::{Talk, TalkStep};
 
 /// Trials of one shortening.
@@ -34,6 +34,7 @@ pub fn shrink<L: Face, R: Face>(
     loop {
         let before = shrinker.case.clone();
         shrinker.drop_steps();
+        shrinker.drop_alike();
         shrinker.lessen();
         if shrinker.case == before || shrinker.trials == 0 {
             return (shrinker.case, shrinker.mismatch);
@@ -74,6 +75,16 @@ impl<L: Face, R: Face> Shrinker<'_, L, R> {
         }
     }
 
+    /// Drops a step of a session with all that follow and are like it, where neither can go alone.
+    fn drop_alike(&mut self) {
+        let mut start = 0;
+        while let Some(fewer) = without_alike(&self.case, start) {
+            if !self.take(fewer) {
+                start += 1;
+            }
+        }
+    }
+
     /// Shorter messages and runs of ticks, smaller settings and lists.
     fn lessen(&mut self) {
         while lesser(&self.case).into_iter().any(|case| self.take(case)) {}
@@ -89,6 +100,20 @@ fn without(case: &Case, start: usize, run: usize) -> Option<Case> {
         Case::Single(_) => return None,
     }
     Some(fewer)
+}
+
+fn without_alike(case: &Case, start: usize) -> Option<Case> {
+    let Case::Session(session) = case else {
+        return None;
+    };
+    let alike = *session.steps.get(start)?;
+    let mut fewer = session.clone();
+    let mut place = 0;
+    fewer.steps.retain(|&step| {
+        place += 1;
+        place <= start || step != alike
+    });
+    Some(Case::Session(fewer))
 }
 
 fn lesser(case: &Case) -> Vec<Case> {
@@ -110,6 +135,16 @@ fn lesser_sessions(session: &Session) -> Vec<Case> {
         for length in less(part.length, &[1, 8, 9, 14, 15]) {
             add(&|changed| changed.messages[place].length = length);
         }
+        // A frame fewer, and the steps that brought it over.
+        for (tick, given) in ticks_and_frames(&session.steps) {
+            if part.length > 15 {
+                add(&|changed| {
+                    changed.messages[place].length -= 7;
+                    changed.steps.remove(given);
+                    changed.steps.remove(tick);
+                });
+            }
+        }
     }
     for place in 0..3 {
         for number in less(session.sender[place].into(), &[1, 2, 3, 10]) {
@@ -120,6 +155,20 @@ fn lesser_sessions(session: &Session) -> Vec<Case> {
         }
     }
     cases
+}
+
+/// The places of a sender's tick and of a frame that goes forward after it.
+fn ticks_and_frames(steps: &[Step]) -> Vec<(usize, usize)> {
+    let places = |wanted: fn(&Step) -> bool| (0..steps.len()).filter(move |&at| wanted(&steps[at]));
+    let ticks = places(|step| matches!(step, Step::SenderTick(_)));
+    ticks
+        .flat_map(|tick| {
+            let frames = places(|step| matches!(step, Step::Forward(..)));
+            frames
+                .filter(move |&given| given > tick)
+                .map(move |given| (tick, given))
+        })
+        .collect()
 }
 
 fn lesser_talks(talk: &Talk) -> Vec<Case> {

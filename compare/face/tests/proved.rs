@@ -29,6 +29,7 @@ fn the_program() {
     assert!(text.contains("calls from seed 7 alike"));
     assert!(text.contains("calls: kospelna_receiver_hear "));
     assert!(text.contains("calls: of a hold: HeldTimeout "));
+    assert!(text.contains("calls: of filler: RefusedForFirst "));
 
     let (status, text) = calls(&["--mistake", "filler copied past L"]);
     assert_eq!(status, Some(1));

@@ -1,4 +1,4 @@
-//! Chapter "Frames".
+//! Chapter "Frames", and document 02, E3: what stands behind the message in an information frame.
 
 use super::{refusal, Refused};
 
@@ -39,8 +39,9 @@ pub struct Frame {
 pub enum Content {
     /// Kind 1 with number 0: a transfer of l bytes in n frames is announced.
     Announcement { n: u8, l: u16 },
-    /// Kind 1 with another number: the i-th seven bytes of the message.
-    Information { i: u8, bytes: [u8; 7] },
+    /// Kind 1 with another number: the i-th seven bytes of the message; clean where only filler stands
+    /// behind its last byte. Of every other content the filler has been judged by reading.
+    Information { i: u8, bytes: [u8; 7], clean: bool },
     /// Kind 2: c frames are asked for, from s on.
     LmAck { s: u8, c: u8 },
     /// Kind 3.
@@ -60,14 +61,21 @@ pub fn frames_for(l: u16) -> u16 {
     l.div_ceil(PER_FRAME)
 }
 
+/// How many of the l bytes of a message its frame i carries: seven, fewer at the end, none past it.
+pub fn carried(i: u8, l: u16) -> usize {
+    let before = PER_FRAME * u16::from(i).saturating_sub(1);
+    l.saturating_sub(before).min(PER_FRAME).into()
+}
+
 /// "Words of two bytes go low byte first".
 fn word(low: u8, high: u8) -> u16 {
     u16::from_le_bytes([low, high])
 }
 
-/// Reads a frame: refusal 6 for an unknown kind, and for a byte other than 0xFF where the kind names
-/// none. Frames that carry message bytes have no such places.
-pub fn read(frame: Frame) -> Result<Content, Refused> {
+/// Reads a frame of a message of l bytes: refusal 6 for an unknown kind, and for a byte other than
+/// 0xFF where the kind names none. Frames that carry message bytes have no such places; of those with
+/// a number it is told whether what stands behind the message is filler.
+pub fn read(frame: Frame, l: u16) -> Result<Content, Refused> {
     let d = frame.data;
     // How many bytes are named.
     let named = match frame.kind {
@@ -89,6 +97,7 @@ pub fn read(frame: Frame) -> Result<Content, Refused> {
         1 => Content::Information {
             i: d[0],
             bytes: [d[1], d[2], d[3], d[4], d[5], d[6], d[7]],
+            clean: d[1 + carried(d[0], l)..].iter().all(|&byte| byte == FILLER),
         },
         2 => Content::LmAck { s: d[0], c: d[1] },
         3 => Content::LmNack { cause: d[0] },

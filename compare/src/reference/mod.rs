@@ -45,4 +45,6 @@ pub mod refusal {
     pub const PACK: Refused = Refused(12);
     /// Document 02, E2: a hold of nothing that can be held, or a resume of nothing that is.
     pub const HOLD: Refused = Refused(13);
+    /// Document 02, E3: a last frame with something other than filler behind the message.
+    pub const LAST_FILLER: Refused = Refused(14);
 }

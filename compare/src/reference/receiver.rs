@@ -1,4 +1,4 @@
-//! Chapter "The receiver", and document 02, E2: holding a transfer.
+//! Chapter "The receiver", and document 02: holding a transfer (E2), dirty filler in a last frame (E3).
 
 use super::frame::{self, Content, Frame};
 use super::{refusal, Refused};
@@ -135,19 +135,22 @@ impl Receiver {
     }
 
     /// "hearing: 5 buffer not 1785 (receiver); 6 ...; 7 kind for the other end (... receiver 1, 3,
-    /// 5, 7)", in this order and before any look at the state.
+    /// 5, 7)", in this order and before any look at the state; then 14, of a last frame that would be
+    /// taken.
     pub fn hear(&mut self, heard: Frame, buffer: &mut [u8]) -> Result<Answer, Refused> {
         if buffer.len() != frame::BUFFER_LENGTH {
             return Err(refusal::BUFFER);
         }
-        let content = frame::read(heard)?;
+        let content = frame::read(heard, self.length())?;
         match content {
             // Nothing of kind 1 reaches a held transfer: neither number 0 nor one above N.
             Content::Announcement { .. } | Content::Information { .. } if self.held() => {
                 Ok(Answer::default())
             }
             Content::Announcement { n, l } => Ok(self.hear_announcement(n, l)),
-            Content::Information { i, bytes } => Ok(self.hear_information(i, bytes, buffer)),
+            Content::Information { i, bytes, clean } => {
+                self.hear_information(i, bytes, clean, buffer)
+            }
             Content::LmNack { .. } => Ok(match self.state {
                 // "LM_NACK, Open: closed, failed 1."
                 State::Open(_) => self.fail(frame::CAUSE_NO_SPACE, None),
@@ -208,31 +211,39 @@ impl Receiver {
         }
     }
 
-    fn hear_information(&mut self, i: u8, bytes: [u8; 7], buffer: &mut [u8]) -> Answer {
-        let mut open = match self.state {
+    fn hear_information(
+        &mut self,
+        i: u8,
+        bytes: [u8; 7],
+        clean: bool,
+        buffer: &mut [u8],
+    ) -> Result<Answer, Refused> {
+        match self.state {
             // The last frame of what was delivered comes again: its EndofACK was lost.
-            State::Idle { delivered } => {
-                return match delivered {
-                    Some(last) if i == last.n => Answer::frame(frame::endof_ack(last.n, last.l)),
-                    _ => Answer::default(),
-                };
+            State::Idle { delivered } => Ok(match delivered {
+                Some(last) if i == last.n => Answer::frame(frame::endof_ack(last.n, last.l)),
+                _ => Answer::default(),
+            }),
+            // A number that the message does not have closes the connection.
+            State::Open(open) if i > open.n => {
+                let nack = frame::lm_nack(frame::CAUSE_NUMBER);
+                Ok(self.fail(frame::CAUSE_NUMBER, Some(nack)))
             }
-            State::Open(open) => open,
-        };
-        // A number that the message does not have closes the connection.
-        if i > open.n {
-            let nack = frame::lm_nack(frame::CAUSE_NUMBER);
-            return self.fail(frame::CAUSE_NUMBER, Some(nack));
+            // Only the frame expected is taken; the wait goes on over any other.
+            State::Open(open) if i != open.e => Ok(Answer::default()),
+            // The last one is not taken with old bytes behind the message. The wait goes on over it, too.
+            State::Open(open) if i == open.n && !clean => Err(refusal::LAST_FILLER),
+            State::Open(open) => Ok(self.take(open, i, bytes, buffer)),
         }
-        // Only the frame expected is taken; the wait goes on over any other.
-        if i != open.e {
-            return Answer::default();
-        }
+    }
+
+    /// The frame expected, and clean where it is the last.
+    fn take(&mut self, mut open: Connection, i: u8, bytes: [u8; 7], buffer: &mut [u8]) -> Answer {
         // Its bytes are copied behind those of the frames before. Message bytes are those before L,
         // so filler is not copied.
         let start = usize::from(frame::PER_FRAME) * usize::from(i).saturating_sub(1);
-        let count = usize::from(open.l).saturating_sub(start).min(bytes.len());
-        for (place, &byte) in buffer.iter_mut().skip(start).zip(&bytes[..count]) {
+        let message = &bytes[..frame::carried(i, open.l)];
+        for (place, &byte) in buffer.iter_mut().skip(start).zip(message) {
             *place = byte;
         }
         // "wait and misses 0."
@@ -286,6 +297,15 @@ impl Receiver {
         open.holds = open.holds.saturating_add(1);
         self.state = State::Open(open);
         Answer::frame(pause(&open))
+    }
+
+    /// The length that frames are read with: the open connection's. Without one it is the longest, whose
+    /// frames have nothing behind the message.
+    fn length(&self) -> u16 {
+        match self.state {
+            State::Open(open) => open.l,
+            State::Idle { .. } => frame::LONG_MOST,
+        }
     }
 
     fn held(&self) -> bool {

@@ -164,9 +164,10 @@ impl Sender {
         })
     }
 
-    /// Hearing. Refusals 6 and 7 come before any look at the state.
+    /// Hearing. Refusals 6 and 7 come before any look at the state. Information frames are 7, so no
+    /// filler behind a message is judged here, whatever length they are read with.
     pub fn hear(&mut self, heard: Frame) -> Result<Answer, Refused> {
-        let content = frame::read(heard)?;
+        let content = frame::read(heard, frame::LONG_MOST)?;
         match content {
             Content::LmAck { s, c } => Ok(self.hear_lm_ack(s, c)),
             // A NACK ends a long transfer, whatever its cause; the report has 1.

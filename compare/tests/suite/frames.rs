@@ -1,4 +1,4 @@
-//! Chapter "Frames".
+//! Chapter "Frames", and what document 02, E3 adds to reading one.
 
 use compare::reference::frame::{self, Content, Frame};
 use compare::reference::Refused;
@@ -17,6 +17,7 @@ fn builders_and_reader_agree() {
             Content::Information {
                 i: 2,
                 bytes: [8, 9, 255, 255, 255, 255, 255],
+                clean: true,
             },
         ),
         (
@@ -60,7 +61,7 @@ fn builders_and_reader_agree() {
                 data
             }
         );
-        assert_eq!(frame::read(built), Ok(content));
+        assert_eq!(frame::read(built, 9), Ok(content));
     }
 }
 
@@ -86,10 +87,11 @@ fn number_of_frames() {
 #[test]
 fn other_kinds_are_refused() {
     for kind in 0..=255 {
-        let read = frame::read(Frame {
+        let all_filler = Frame {
             kind,
             data: [0xFF; 8],
-        });
+        };
+        let read = frame::read(all_filler, 1785);
         assert_eq!(read.is_ok(), (1..=7).contains(&kind), "kind {kind}");
         if read.is_err() {
             assert_eq!(read, Err(Refused(6)));
@@ -119,7 +121,10 @@ fn filler_is_judged_where_it_is_filler() {
                 if place > 0 {
                     data[place] = byte;
                 }
-                let read = frame::read(Frame { kind, data });
+                // The length has no part in it.
+                let read = frame::read(Frame { kind, data }, 1785);
+                let other = frame::read(Frame { kind, data }, 0);
+                assert_eq!(read.is_ok(), other.is_ok());
                 if place < named {
                     assert!(read.is_ok(), "kind {kind} place {place}");
                 } else {
@@ -144,5 +149,93 @@ fn information_frames_carry_the_message() {
         }
         assert_eq!(carried[..length], *message);
         assert!(carried[length..].iter().all(|&byte| byte == 0xFF));
+    }
+}
+
+/// Whether reading tells this frame of kind 1 to be clean.
+fn is_clean(data: [u8; 8], l: u16) -> bool {
+    match frame::read(Frame { kind: 1, data }, l) {
+        Ok(Content::Information { i, bytes, clean }) => {
+            assert_eq!((i, &bytes[..]), (data[0], &data[1..]));
+            clean
+        }
+        other => panic!("{other:?}"),
+    }
+}
+
+/// How many bytes of a message each frame carries, worked by hand: full ones, the last, those past it.
+#[test]
+fn bytes_that_a_frame_carries() {
+    for (l, i, carried) in [
+        (9, 1, 7),
+        (9, 2, 2),
+        (9, 3, 0),
+        (9, 255, 0),
+        (13, 2, 6),
+        (14, 2, 7),
+        (14, 3, 0),
+        (15, 2, 7),
+        (15, 3, 1),
+        (16, 3, 2),
+        (1784, 254, 7),
+        (1784, 255, 6),
+        (1785, 255, 7),
+        (1778, 254, 7),
+        (1778, 255, 0),
+        // No length of a message, but two bytes hold it.
+        (0, 1, 0),
+        (1, 1, 1),
+        (65535, 255, 7),
+    ] {
+        assert_eq!(frame::carried(i, l), carried, "frame {i} of {l} bytes");
+    }
+}
+
+/// For each number of message bytes in the last frame, 1 to 7: a byte other than 0xFF shows at each
+/// place behind them and at none of theirs.
+#[test]
+fn each_place_behind_the_message() {
+    // l, i, the places behind the message
+    for (l, i, behind) in [
+        (15, 3, 2..8),
+        (9, 2, 3..8),
+        (17, 3, 4..8),
+        (11, 2, 5..8),
+        (1783, 255, 6..8),
+        (1784, 255, 7..8),
+        (1785, 255, 8..8),
+    ] {
+        let mut filled = [0xFF; 8];
+        filled[0] = i;
+        assert!(is_clean(filled, l));
+        for place in 1..8 {
+            for byte in [0x00, 0x01, 0x7F, 0x80, 0xFE] {
+                let mut data = filled;
+                data[place] = byte;
+                let dirty = behind.contains(&place);
+                assert_eq!(is_clean(data, l), !dirty, "{l} bytes, d{place} {byte:02X}");
+            }
+        }
+    }
+}
+
+/// Frames that the message fills have nothing to judge, and so has every frame of the longest one. In a
+/// frame past the message's end all seven bytes are filler.
+#[test]
+fn frames_without_filler_and_without_message() {
+    for i in 1..=255 {
+        assert!(is_clean([i, 0, 0, 0, 0, 0, 0, 0], 1785), "{i}");
+        let past = is_clean([i, 0, 0, 0, 0, 0, 0, 0], 7 * (u16::from(i) - 1));
+        assert!(!past, "{i}");
+    }
+    for data in [[1, 1, 2, 3, 4, 5, 6, 7], [2, 0, 0, 0, 0, 0, 0, 0]] {
+        assert!(is_clean(data, 14));
+    }
+    for place in 1..8 {
+        let mut data = [0xFF; 8];
+        data[0] = 3;
+        assert!(is_clean(data, 14));
+        data[place] = 0;
+        assert!(!is_clean(data, 14));
     }
 }

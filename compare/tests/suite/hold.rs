@@ -746,17 +746,17 @@ impl Run {
     }
 
     /// One call, and what E2 leaves of demand 3 after it: a delivery is the very message, sent comes
-    /// after one, and a connection is over by 3 x T x N + 21 x T.
+    /// after one, and a connection is over by 3 x T x N + 21 x T. Only holds and resumes are refused.
     fn call(&mut self, call: Call) -> Option<sender::Report> {
-        let outcome = self.bench.call(call, &self.message, &mut self.buffer);
         let mut sent = None;
-        match outcome.unwrap_or(Outcome::Nothing) {
-            Outcome::Nothing => {}
-            Outcome::Sender(answer) => {
+        match self.bench.call(call, &self.message, &mut self.buffer) {
+            Err(refused) => assert_eq!(refused, Refused(13)),
+            Ok(Outcome::Nothing) => {}
+            Ok(Outcome::Sender(answer)) => {
                 sent = answer.report;
                 assert!(self.deliveries > 0 || !matches!(sent, Some(sender::Report::Sent { .. })));
             }
-            Outcome::Receiver(answer) => self.deliver(answer.report),
+            Ok(Outcome::Receiver(answer)) => self.deliver(answer.report),
         }
         let timeout = usize::from(self.bench.receiver.timeout);
         match self.bench.receiver.state {

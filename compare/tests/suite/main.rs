@@ -2,6 +2,7 @@
 
 mod clean;
 mod edge_cases;
+mod filler;
 mod frames;
 mod groups;
 mod hold;

@@ -164,17 +164,21 @@ fn filler_is_not_copied() {
     }
 }
 
-/// A last frame whose bytes past L are no filler at all: still only the message bytes go over.
+/// Nor are bytes in the place of filler: in a state that no calls make, where L ends before frame N,
+/// a frame that is not judged has none.
 #[test]
 fn bytes_past_l_are_not_copied() {
-    let (mut receiver, mut buffer) = opened(10, 2, 9);
-    receiver
-        .hear(frame::information(1, &[1; 14]), &mut buffer)
-        .unwrap();
-    let answer = receiver.hear(frame::information(2, &[2; 14]), &mut buffer);
-    assert_eq!(answer, Ok(r_delivered(2, 9)));
+    let (mut receiver, mut buffer) = opened(10, 2, 21);
+    let State::Open(open) = &mut receiver.state else {
+        panic!()
+    };
+    open.l = 9;
+    for i in [1, 2] {
+        let frame = frame::information(i, &[i; 14]);
+        receiver.hear(frame, &mut buffer).unwrap();
+    }
     assert_eq!(buffer[..9], [1, 1, 1, 1, 1, 1, 1, 2, 2]);
-    assert_eq!(buffer[9..16], [0xEE; 7]);
+    assert_eq!(buffer[9..21], [0xEE; 12]);
 }
 
 /// The last frame again after delivery draws EndofACK, and no silence.

@@ -4,6 +4,7 @@ use crate::help::*;
 use compare::reference::frame;
 use compare::reference::receiver::{Connection, Receiver, State};
 use compare::reference::sender::{Phase, Sender};
+use compare::reference::Refused;
 
 /// The most a reachable transfer counts: a frame at every tick up to M = 60000, and begin's.
 #[test]
@@ -85,7 +86,10 @@ fn receiver_counts_stay_at_65535() {
                             receiver.state = State::Open(open);
                             for i in [1, e.max(1), 255] {
                                 let frame = frame::information(i, &[1; 1785]);
-                                receiver.clone().hear(frame, &mut buffer).unwrap();
+                                let answer = receiver.clone().hear(frame, &mut buffer);
+                                // Frame 255 of no bytes is all filler.
+                                let dirty = (l, e, i) == (0, 255, 255);
+                                assert_eq!(answer.err(), dirty.then_some(Refused(14)));
                             }
                             receiver
                                 .clone()

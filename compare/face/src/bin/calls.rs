@@ -1,5 +1,5 @@
 //! Makes random calls on the proved code and on the reference, and compares all that they answer.
-//! Exit status: 0 all alike, 1 a difference, 2 bad usage.
+//! Exit status: 0 all alike, 1 a difference, 2 bad usage, 3 something was never met in a run of usual size.
 
 use std::process::ExitCode;
 use std::time::Instant;
@@ -8,6 +8,7 @@ use face::broken::{mistakes, Broken, Mistake};
 use face::call::{Tally, NAMES};
 use face::differences::first_difference;
 use face::ffi::Proved;
+use face::filling::Filling;
 use face::holding::Met;
 use face::Reference;
 
@@ -44,7 +45,8 @@ fn options(mut words: impl Iterator<Item = String>) -> Option<Options> {
     Some(options)
 }
 
-/// A line for each function: calls, and answers by outcome. Then one for each thing met of a hold.
+/// A line for each function: calls, and answers by outcome. Then one for each thing met of a hold, and of a last frame's
+/// filler by the places behind the message.
 fn print(tally: &Tally) {
     for (place, name) in NAMES.iter().enumerate() {
         let outcomes: Vec<String> = tally.outcomes[place]
@@ -61,6 +63,13 @@ fn print(tally: &Tally) {
     }
     for met in Met::ALL {
         println!("calls: of a hold: {met:24?} {:9}", tally.met[met as usize]);
+    }
+    for filling in Filling::ALL {
+        let counts = tally.fillings[filling as usize];
+        println!(
+            "calls: of filler: {filling:24?} {:9}   by places 0 to 7: {counts:?}",
+            counts.iter().sum::<u64>()
+        );
     }
 }
 
@@ -80,6 +89,11 @@ fn main() -> ExitCode {
         return ExitCode::from(1);
     }
     print(&tally);
+    let unmet = tally.unmet();
+    if !unmet.is_empty() {
+        println!("calls: never met: {}", unmet.join(", "));
+        return ExitCode::from(3);
+    }
     println!(
         "calls: {} calls from seed {} alike, in {:.1} s",
         tally.total(),

@@ -8,7 +8,7 @@ pub(super) const SENDING: u8 = 2;
 pub(super) const WAITING: u8 = 3;
 const SHORT: u8 = 4;
 /// The receiver's phases.
-const DONE: u8 = 1;
+pub(super) const DONE: u8 = 1;
 pub(super) const OPEN: u8 = 2;
 
 pub const MISTAKES: &[(&str, Mistake)] = &[

@@ -3,6 +3,7 @@
 pub mod around;
 pub mod clean;
 mod ends;
+pub mod filler;
 pub mod hold;
 
 use crate::interface::{Around, Ends};
@@ -51,6 +52,7 @@ pub fn mistakes() -> Vec<(&'static str, Mistake)> {
     [
         ends::MISTAKES,
         hold::MISTAKES,
+        filler::MISTAKES,
         clean::MISTAKES,
         around::MISTAKES,
     ]

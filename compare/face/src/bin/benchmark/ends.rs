@@ -336,6 +336,13 @@ pub fn receiver_rows() -> Vec<Row> {
     let announcement = frame(1, &[0, 255, 0xF9, 0x06]);
     let information = |number: u8| frame(1, &[number, 1, 2, 3, 4, 5, 6, 7]);
     let expecting = |expected: u8| FlatReceiver { expected, ..open() };
+    // Frame 255 of 1780 bytes carries two of them.
+    let filled = FlatReceiver {
+        length: 1780,
+        ..expecting(255)
+    };
+    let clean = frame(1, &[255, 1, 2]);
+    let dirty = frame(1, &[255, 1, 2, 0xFF, 0xFF, 0xFF, 0xFF, 7]);
     let late = FlatReceiver { wait: 9, ..open() };
     let late_held = FlatReceiver { wait: 9, ..held() };
     let hear = |name: &str, receiver, frame| receiver_hear(name, receiver, frame, 1785);
@@ -361,6 +368,7 @@ pub fn receiver_rows() -> Vec<Row> {
         hear("hear frame i, stored", open(), information(101)),
         hear("hear frame w, LM_ACK", expecting(110), information(110)),
         hear("hear frame N, delivered", expecting(255), information(255)),
+        hear("hear frame N with filler, delivered", filled, clean),
         hear("hear frame i, ignored", open(), information(100)),
         hear("hear frame i, held", held(), information(101)),
         hear("hear frame N after delivery", delivered(), information(255)),
@@ -370,6 +378,7 @@ pub fn receiver_rows() -> Vec<Row> {
         receiver_hear("hear, refused 5", open(), information(101), 1784),
         hear("hear, refused 6", open(), frame(9, &[1])),
         hear("hear, refused 7", open(), frame(2, &[1, 1])),
+        hear("hear, refused 14", filled, dirty),
     ]
 }
 
