@@ -9,6 +9,7 @@ pub mod Lives
 pub mod Theorem
 pub mod Example
 pub mod HeldExample
+pub mod Keeps
 pub mod Climbs
 pub mod Unmet
 pub mod CleanExample
