@@ -474,7 +474,7 @@ receiver-hears k (high c l (more a f) r) v =
 
 -- ---- what is lost
 
-cut-line : {P : Frame → Type 0} {fs : List Frame} (n : ℕ) → Line P fs → Line P (take n fs)
+pub cut-line : {P : Frame → Type 0} {fs : List Frame} (n : ℕ) → Line P fs → Line P (take n fs)
 cut-line zero l = none
 cut-line (suc n) none = none
 cut-line (suc n) (more p l) = more p (cut-line n l)
@@ -503,7 +503,7 @@ cut n (opening l f r) = opening l (cut-line n f) (cut-rising n r)
 cut n (low c l o r) = low c l (cut-ordered n o) (cut-rising n r)
 cut n (high c l o r) = high c l (cut-line n o) (cut-rising n r)
 
-drop-line : {P : Frame → Type 0} (fs : List Frame) → Line P fs → Line P (dropped fs)
+pub drop-line : {P : Frame → Type 0} (fs : List Frame) → Line P fs → Line P (dropped fs)
 drop-line [] l = l
 drop-line (f ∷ fs) l = behind l
 

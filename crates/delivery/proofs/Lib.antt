@@ -12,6 +12,7 @@ pub mod HeldExample
 pub mod Keeps
 pub mod Climbs
 pub mod Unmet
+pub mod Filler
 pub mod CleanExample
 pub mod Runs
 pub mod CleanSends

@@ -8,4 +8,5 @@ pub mod Lenient
 pub mod Example
 pub mod HeldExample
 pub mod Unmet
+pub mod Filler
 pub mod CleanExample

@@ -101,7 +101,7 @@ module _ {s : Settings} {buffer : List ℕ} where
   unchanged (short-only _) e = absurd (not-refused tt e)
 
   -- by 14 only an unclean frame
-  unclean : {f : Frame} {p : Phase} {h : told.Heard} → Hears s f buffer p h → h .told .outcome ≡ told.refused 14 → Unclean f p
+  pub unclean : {f : Frame} {p : Phase} {h : told.Heard} → Hears s f buffer p h → h .told .outcome ≡ told.refused 14 → Unclean f p
   unfolding number-of
   unclean (refuses number why) e = why (ap number-of e)
   unclean ignores e = absurd (not-refused tt e)

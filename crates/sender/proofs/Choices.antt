@@ -3,6 +3,7 @@
 -- Assumes nothing.
 use Prim.Native.Nat.{ℕ, _≤_, _<_}
 use mathlib.Core.Path.{_≡_}
+use mathlib.Core.Bool.{true}
 use mathlib.Core.List.{List}
 use native.Mathlib.Omega.{arith}
 use borrow.Author.Tests.{leb-true, leb-false, ltb-false, eqb-true, eqb-false}
@@ -18,7 +19,7 @@ use Rattle.frame.specs.declared.Parsed.{Parsed}
 use Rattle.sender.specs.Begin.{beginLong, beginShort, beginIdle, beginPhase, beginOf}
 use Rattle.sender.specs.Hear.{unlessBad, hearAck, hearNack, hearEnd, hearShortAck, hearKind, hearRead, hearOf}
 use Rattle.sender.specs.State.{aged}
-use Rattle.sender.specs.Tick.{unlessOver, atLimit, unlessThird, atTimeout, tickPhase, tickOf}
+use Rattle.sender.specs.Tick.{unlessOver, atLimit, unlessThird, atTimeout, lentTo, tickPhase, tickOf}
 use Rattle.sender.specs.Told.{Told, refusing, silently, failingWith}
 use Rattle.sender.specs.declared.Phase.{Phase}
 use Rattle.sender.specs.declared.Phase.the-variants.{Idle, Opening, Sending, Waiting, Short}
@@ -55,10 +56,14 @@ module _ (P : Told → Type 0) where
         go (Waiting x) = refuses 3
         go (Short x) = refuses 3
 
-    -- a tick: refused, or by the phase
-    pub tick-elim : (m : List ℕ) → P (refusing s 4) → P (tickPhase s (s .phase) m) → P (tickOf s m)
+    -- a tick: refused, or by the phase (that the lent length is the begun one, where a proof needs it)
+    pub lent-elim : (m : List ℕ) → P (refusing s 4) → (lentTo (s .phase) m ≡ true → P (tickPhase s (s .phase) m))
+        → P (tickOf s m)
     unfolding tickOf
-    tick-elim m refuses ticks = pick-elim P _ (λ _. ticks) (λ _. refuses)
+    lent-elim m refuses ticks = pick-elim P _ ticks (λ _. refuses)
+
+    pub tick-elim : (m : List ℕ) → P (refusing s 4) → P (tickPhase s (s .phase) m) → P (tickOf s m)
+    tick-elim m refuses ticks = lent-elim m refuses (λ _. ticks)
 
     module _ (t : Transfer) where
       -- over at M, or in time
