@@ -1,6 +1,6 @@
 /* Kospelna for programs in C: the two transport ends of GB/T 27930 category B, version talk, parameter groups.
  * Link target/staticlib/libkospelna.a, which `rt staticlib kospelna` makes for x86-64. examples/bench.c is a whole bench,
- * examples/hold.c a transfer that is held.
+ * examples/hold.c a transfer that is held, examples/filler.c one whose last frame comes with old bytes behind the message.
  *
  * Every function takes every value of its parameters and is proved to answer by the rules of document 01, and of document
  * 02 as far as docs/landings/ has it (the equations stand in crates/kospelna/specs/; 001 is the source of version talk and
@@ -33,14 +33,15 @@ enum {
     KOSPELNA_REFUSAL_BUSY = 3,          /* begin: the sender is not Idle */
     KOSPELNA_REFUSAL_OTHER_MESSAGE = 4, /* sender tick: the lent length is not the begun one */
     KOSPELNA_REFUSAL_BUFFER = 5,        /* receiver hears: the buffer's length is not KOSPELNA_BUFFER_LENGTH */
-    KOSPELNA_REFUSAL_FRAME = 6,         /* hearing: no such kind, or filler that is not 0xFF */
+    KOSPELNA_REFUSAL_FRAME = 6,         /* hearing: no such kind, or filler that is not 0xFF; a last frame's is 14 */
     KOSPELNA_REFUSAL_OTHER_END = 7,     /* hearing: a kind for the other end */
     KOSPELNA_REFUSAL_IDENTIFIER = 8,    /* identifier: over 29 bits, a part over its width, EDP or DP not 0 */
     KOSPELNA_REFUSAL_GROUP = 9,         /* group: its code, the lent length or the filler */
     KOSPELNA_REFUSAL_VALUE = 10,        /* group: a value outside its range; version message: CAN type or result */
     KOSPELNA_REFUSAL_VERSIONS = 11,     /* version list, making a talker: not 1 to 8 strictly rising versions */
     KOSPELNA_REFUSAL_PACK = 12,         /* the player's run pack: no function here answers it */
-    KOSPELNA_REFUSAL_HOLD = 13          /* hold: no connection, frame 1 expected, or held already; resume: not held */
+    KOSPELNA_REFUSAL_HOLD = 13,         /* hold: no connection, frame 1 expected, or held already; resume: not held */
+    KOSPELNA_REFUSAL_FILLER = 14        /* receiver hears: the last frame, expected, has not 0xFF behind the message */
 };
 
 /* Outcomes: what a call of an end or of a talker came to. */
@@ -256,7 +257,13 @@ kospelna_receiver_answer kospelna_receiver_resume(kospelna_receiver receiver);
 /* A frame is heard: kind 1, 3, 5 or 7. Message bytes go to their place in the buffer, the rest of it stays: lend the same
  * buffer until the delivery. It always has 1785 bytes, the longest message, whatever the capacity, so that every frame's
  * place is inside it. A short message is delivered in the answer, in any phase: an SM_RM emits its SM_ACK, an SM_URM
- * nothing. Refused 5, then 6, then 7. */
+ * nothing.
+ *
+ * Refused 5, then 6, then 7, then 14: frame N comes where it is expected and the transfer is not held, and a byte behind
+ * the message in it is not 0xFF. The connection waits on as if nothing had come: its timeouts ask for frame N, which still
+ * ends it once it comes filled with 0xFF, and the third in a row fails as ever. A last frame that is full of the message has
+ * nothing to judge, and nothing is judged of frame N in any other state: before it is expected, while held, after the
+ * delivery. */
 kospelna_receiver_answer kospelna_receiver_hear(kospelna_receiver receiver, kospelna_frame frame, uint8_t *buffer,
                                                 size_t length);
 

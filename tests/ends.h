@@ -1,4 +1,5 @@
-/* What the tests of both ends share: a check that ends the program, comparisons of frames and states, frames, a buffer. */
+/* What the tests of both ends share: a check that ends the program, comparisons of frames and states, frames, a buffer, and
+ * what a call of the receiver came to. */
 #ifndef ENDS_H
 #define ENDS_H
 
@@ -44,6 +45,11 @@ static const kospelna_frame endofack = {.kind = KOSPELNA_KIND_LM_ENDOFACK, .byte
 static const kospelna_frame sm_rm = {.kind = KOSPELNA_KIND_SM_RM, .bytes = {1, 2, 3, 255, 255, 255, 255, 255}};
 static const kospelna_frame sm_ack = {.kind = KOSPELNA_KIND_SM_ACK, .bytes = {1, 255, 255, 255, 255, 255, 255, 255}};
 
+static inline kospelna_frame ack(uint8_t start, uint8_t count)
+{
+    return (kospelna_frame){.kind = KOSPELNA_KIND_LM_ACK, .bytes = {start, count, 255, 255, 255, 255, 255, 255}};
+}
+
 static inline kospelna_frame nack(uint8_t cause)
 {
     return (kospelna_frame){.kind = KOSPELNA_KIND_LM_NACK, .bytes = {cause, 255, 255, 255, 255, 255, 255, 255}};
@@ -54,6 +60,31 @@ static uint8_t buffer[KOSPELNA_BUFFER_LENGTH];
 static inline kospelna_receiver_answer hears(kospelna_receiver end, kospelna_frame frame)
 {
     return kospelna_receiver_hear(end, frame, buffer, sizeof buffer);
+}
+
+/* Nothing but a frame and a next state. */
+static inline bool asks(kospelna_receiver_answer b, kospelna_frame due, kospelna_receiver next)
+{
+    return b.outcome == KOSPELNA_QUIET && b.refusal == 0 && goes_out(b.emits, b.frame, due) && same_receiver(b.next, next);
+}
+
+/* No frame, no report, and the state as it was. */
+static inline bool leaves(kospelna_receiver_answer b, kospelna_receiver left)
+{
+    static const kospelna_frame no_frame;
+    static const uint8_t no_bytes[8];
+    return !b.emits && memcmp(&b.frame, &no_frame, sizeof no_frame) == 0 && b.cause == 0 && b.length == 0
+        && memcmp(b.bytes, no_bytes, sizeof no_bytes) == 0 && same_receiver(b.next, left);
+}
+
+static inline bool ignores(kospelna_receiver_answer b, kospelna_receiver left)
+{
+    return b.outcome == KOSPELNA_QUIET && b.refusal == 0 && leaves(b, left);
+}
+
+static inline bool refuses(kospelna_receiver_answer b, int number, kospelna_receiver left)
+{
+    return b.outcome == KOSPELNA_REFUSED && b.refusal == number && leaves(b, left);
 }
 
 static inline bool receiver_failed(kospelna_receiver_answer b, int cause)

@@ -7,25 +7,14 @@ static const kospelna_frame three = {.kind = KOSPELNA_KIND_INFORMATION, .bytes =
 static const kospelna_frame second_part = {.kind = KOSPELNA_KIND_INFORMATION, .bytes = {2, 8, 9, 10, 11, 12, 13, 14}};
 static const kospelna_frame third_part = {.kind = KOSPELNA_KIND_INFORMATION, .bytes = {3, 15, 16, 17, 18, 19, 20, 255}};
 
-static kospelna_frame ack(uint8_t start, uint8_t count)
-{
-    return (kospelna_frame){.kind = KOSPELNA_KIND_LM_ACK, .bytes = {start, count, 255, 255, 255, 255, 255, 255}};
-}
-
 /* A receiver of T 3 and C 2 that has accepted frame 1, so e 2 and w 2, and then waited a tick. */
 static const kospelna_receiver begun = {
     .timeout = 3, .window = 2, .capacity = 20, .phase = KOSPELNA_RECEIVER_OPEN, .frames = 3, .length = 20, .expected = 2,
     .last = 2, .wait = 1};
 
-/* A call of the receiver that came to nothing but a frame and a next state. */
-static bool asks(kospelna_receiver_answer b, kospelna_frame due, kospelna_receiver next)
-{
-    return b.outcome == KOSPELNA_QUIET && b.refusal == 0 && goes_out(b.emits, b.frame, due) && same_receiver(b.next, next);
-}
-
 static bool refused_13(kospelna_receiver_answer b, kospelna_receiver left)
 {
-    return b.outcome == KOSPELNA_REFUSED && b.refusal == KOSPELNA_REFUSAL_HOLD && !b.emits && same_receiver(b.next, left);
+    return refuses(b, KOSPELNA_REFUSAL_HOLD, left);
 }
 
 /* Hold and resume where they are refused: with no connection open, e 1, held, not held. */
@@ -92,10 +81,8 @@ static void heard_while_held(void)
     kospelna_receiver held = begun;
     held.held = true;
     memset(buffer, 0xAA, sizeof buffer);
-    for (size_t i = 0; i < sizeof ignored / sizeof ignored[0]; i++) {
-        const kospelna_receiver_answer b = hears(held, ignored[i]);
-        must(b.outcome == KOSPELNA_QUIET && !b.emits && same_receiver(b.next, held), "an information frame while held");
-    }
+    for (size_t i = 0; i < sizeof ignored / sizeof ignored[0]; i++)
+        must(ignores(hears(held, ignored[i]), held), "an information frame while held");
     untouched();
     kospelna_receiver_answer b = hears(held, sm_rm);
     must(b.outcome == KOSPELNA_DELIVERED_SHORT && goes_out(b.emits, b.frame, sm_ack) && same_receiver(b.next, held),
