@@ -9,6 +9,7 @@ use mathlib.Core.Path.{_≡_, refl, subst}
 use lib.ListN.{replicate}
 use Rattle.delivery.proofs.Runs.{capped-demand-3}
 use Rattle.delivery.specs.Demand3.{LentMessage, Condition, Conditions, Promise}
+use Rattle.delivery.proofs.Filler.{never-unclean}
 use Rattle.delivery.proofs.Unmet.{never-met}
 use Rattle.delivery.specs.Clean.{CallsMeet}
 use Rattle.delivery.specs.Unmet.{NoHoldBy, NoHold}
@@ -17,7 +18,7 @@ use Rattle.delivery.specs.Run.{Past, fresh, next, runOf}
 use Rattle.delivery.specs.Seen.{Sort, begins, ticksSender, ticksReceiver, holdsReceiver, other, sortOf, taken, Begun, further, begunBy, begunIn, begunAfter, openedIn}
 use Rattle.frame.proofs.Choice.{pick-elim}
 use Rattle.player.proofs.Opened.{opened}
-use Rattle.player.specs.Claim.{PlayerMeets, newestFirst, PlayerKeeps, PlayerUnmet, PackKeeps}
+use Rattle.player.specs.Claim.{PlayerMeets, newestFirst, PlayerKeeps, PlayerUnmet, PlayerClean, PackKeeps}
 use Rattle.player.specs.Events.{callFor, turnFor, eventsFrom, worldAfter, runFrom, callsFor, callsFrom}
 use Rattle.player.specs.Played as played
 use Rattle.transport.proofs.Events.{call-of}
@@ -157,3 +158,11 @@ player-unmet gap timeout limit patience window capacity ends e buffer m events =
     let meets = player-meets ends buffer m events in
     never-met .capped gap timeout limit (ends .sender) (made .sender) patience window capacity (ends .receiver) (made .receiver) buffer
     (callsFrom (p .world) m events) (meets .0, tt, unheld-events m events (next cappedStep p (begin m)) (meets .1))
+
+pub player-clean : PlayerClean
+unfolding callsFrom
+player-clean gap timeout limit patience window capacity ends e buffer m events =
+    let made = make-answers gap timeout limit patience window capacity ends e in
+    let p = fresh (ends .sender) (ends .receiver) buffer in
+    never-unclean .capped gap timeout limit (ends .sender) (made .sender) patience window capacity (ends .receiver) (made .receiver) buffer
+    (callsFrom (p .world) m events) (player-meets ends buffer m events)

@@ -6,6 +6,7 @@ use mathlib.Core.List.{List, [], _∷_}
 use mathlib.Core.Path.{_≡_}
 use lib.ListN.{length}
 use Rattle.delivery.specs.Demand3.{Conditions, Promise, NeverHeld}
+use Rattle.delivery.specs.Filler.{AllClean}
 use Rattle.delivery.specs.Run.{fresh, runOf}
 use Rattle.delivery.specs.Seen.{openedIn}
 use Rattle.delivery.specs.Unmet.{AllUnmet}
@@ -60,3 +61,14 @@ PlayerUnmet =
     let calls = callsFrom (startOf s r buffer) message events in
     AllUnmet cappedStep (fresh s r buffer) calls
     × NeverHeld (openedIn (runOf cappedStep (fresh s r buffer) calls .events)))
+
+-- Document 02, E3: nor does the receiver refuse a frame by 14, so that no pack can show it and what is printed stays
+abbrev pub PlayerClean : Type 0
+PlayerClean =
+    (gap timeout limit patience window capacity : ℕ) (ends : Ends)
+    → makeOf gap timeout limit patience window capacity ≡ accepted ends
+    → (buffer message events : List ℕ)
+    → (let s = ends .sender in
+    let r = ends .receiver in
+    let calls = callsFrom (startOf s r buffer) message events in
+    AllClean (runOf cappedStep (fresh s r buffer) calls .events))
