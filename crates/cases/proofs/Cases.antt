@@ -8,8 +8,8 @@ use lib.Dec.{T, lit<}
 use lib.ListN.{length}
 use Rattle.frame.specs.Choice.{pick}
 use Rattle.frame.specs.Count.{frameCountOf, incrementOf}
-use Rattle.frame.specs.Frames.{announcementOf, smRmOf, lmAckOf, lmNackOf}
-use Rattle.frame.specs.Reading.{namedOf, allFiller, readOf}
+use Rattle.frame.specs.Frames.{fillTo, announcementOf, informationOf, smRmOf, lmAckOf, lmNackOf, endOfAckOf}
+use Rattle.frame.specs.Reading.{namedOf, allFiller, cleanFor, readOf}
 use Rattle.sender.specs.Begin as sender-begin
 use Rattle.sender.specs.Hear as sender-hear
 use Rattle.sender.specs.Make as sender-make
@@ -21,7 +21,7 @@ use Rattle.receiver.specs.Make as receiver-making
 use Rattle.receiver.specs.Tick as receiver-tick
 use Rattle.identifier.specs.Answer.{joinOf}
 use Rattle.identifier.specs.Identifier.{fitsOf, numberOf}
-use Rattle.cases.specs.Answer.{shownBegin, beginFrame, unlessRefused, senderTicks, senderInSilence, receiverTicks, receiverInSilence, ofSender, ofReceiver, shownJoined, answerOf}
+use Rattle.cases.specs.Answer.{shownBegin, beginFrame, unlessRefused, senderTicks, senderInSilence, receiverTicks, receiverInSilence, ofSender, ofReceiver, shownJoined, withReport, answerOf}
 use Rattle.cases.specs.Claim.{Claim}
 use Rattle.cases.specs.Row.{Row, begun, short, announces}
 use Rattle.cases.specs.Table.{table, row, rowAt}
@@ -36,15 +36,16 @@ right r = same (answerOf (r .question)) (r .answer)
 -- the whole table passes: antt computes it
 all-right : T (every right table)
 unfolding
-    table answerOf ofSender ofReceiver beginFrame unlessRefused senderTicks senderInSilence receiverTicks receiverInSilence
+    table answerOf ofSender ofReceiver beginFrame unlessRefused withReport senderTicks senderInSilence receiverTicks receiverInSilence
     pick frameCountOf incrementOf
-    announcementOf smRmOf lmAckOf lmNackOf
-    namedOf allFiller readOf
+    fillTo announcementOf informationOf smRmOf lmAckOf lmNackOf endOfAckOf
+    namedOf allFiller cleanFor readOf
     sender-make.makeOf sender-begin.beginOf sender-begin.beginPhase sender-begin.beginIdle sender-begin.beginShort sender-begin.beginLong
     sender-hear.hearOf sender-hear.hearRead sender-hear.hearKind sender-hear.hearAck sender-hear.ackOpening
     sender-tick.tickOf sender-tick.lentTo sender-tick.tickPhase sender-tick.tickOpening sender-tick.unlessOver sender-tick.atLimit sender-tick.unlessThird
     receiver-hear.hearOf receiver-hear.hearRead receiver-hear.hearKind receiver-hear.hearUnlessHeld receiver-hear.hearNumbered
     receiver-hear.hearAnnouncement receiver-hear.announceIdle
+    receiver-hear.hearInformation receiver-hear.informationOpen receiver-hear.informationExpected receiver-hear.stored
     receiver-making.makeOf receiver-tick.tickOf receiver-tick.tickPhase receiver-tick.tickOpen receiver-tick.timeoutFree
     shownJoined joinOf fitsOf numberOf
 all-right = tt
