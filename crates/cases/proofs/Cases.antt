@@ -4,7 +4,8 @@ use mathlib.Core.Path.{_≡_, subst}
 use mathlib.Core.Bool.{Bool}
 use mathlib.Core.List.{List}
 use Prim.Native.Nat.{ℕ, _<_}
-use lib.Dec.{T, lit<}
+use native.Mathlib.Omega.{arith}
+use lib.Dec.{T, lit<, lit≤}
 use lib.ListN.{length}
 use Rattle.frame.specs.Choice.{pick}
 use Rattle.frame.specs.Count.{frameCountOf, incrementOf}
@@ -19,11 +20,12 @@ use Rattle.sender.specs.declared.Sender.{Sender}
 use Rattle.receiver.specs.Hear as receiver-hear
 use Rattle.receiver.specs.Make as receiver-making
 use Rattle.receiver.specs.Tick as receiver-tick
+use Rattle.receiver.specs.declared.Receiver.{Receiver}
 use Rattle.identifier.specs.Answer.{joinOf}
 use Rattle.identifier.specs.Identifier.{fitsOf, numberOf}
-use Rattle.cases.specs.Answer.{shownBegin, beginFrame, unlessRefused, senderTicks, senderInSilence, receiverTicks, receiverInSilence, ofSender, ofReceiver, shownJoined, withReport, answerOf}
-use Rattle.cases.specs.Claim.{Claim}
-use Rattle.cases.specs.Row.{Row, begun, short, announces}
+use Rattle.cases.specs.Answer.{shownBegin, beginFrame, unlessRefused, senderTicks, senderInSilence, receiverTicks, receiverInSilence, ofSender, ofReceiver, shownJoined, withReport, shownHeard, lastOf, withByte, answerOf}
+use Rattle.cases.specs.Claim.{Claim, ExpectsLast}
+use Rattle.cases.specs.Row.{Row, begun, short, announces, delivered}
 use Rattle.cases.specs.Table.{table, row, rowAt}
 use Rattle.cases.proofs.General.{every-answer}
 use Rattle.cases.proofs.Numbers.{same, same→eq}
@@ -36,7 +38,8 @@ right r = same (answerOf (r .question)) (r .answer)
 -- the whole table passes: antt computes it
 all-right : T (every right table)
 unfolding
-    table answerOf ofSender ofReceiver beginFrame unlessRefused withReport senderTicks senderInSilence receiverTicks receiverInSilence
+    table answerOf ofSender ofReceiver beginFrame unlessRefused withReport
+    senderTicks senderInSilence receiverTicks receiverInSilence
     pick frameCountOf incrementOf
     fillTo announcementOf informationOf smRmOf lmAckOf lmNackOf endOfAckOf
     namedOf allFiller cleanFor readOf
@@ -65,3 +68,14 @@ begin-1785 : (s : Sender) (message : List ℕ)
     → shownBegin (sender-begin.beginOf s message) ≡ announces 0x00 0xFF 0xF9 0x06
 unfolding table
 begin-1785 = cases-hold-of-all 4 (lit< tt)
+
+-- and of E3: a last frame of 14 bytes has no filler, whatever its last byte is
+last-14 : (r : Receiver) (message buffer : List ℕ) (byte : ℕ)
+    → length message ≡ 14
+    → ExpectsLast (r .phase) (length message)
+    → length buffer ≡ 1785
+    → (byte ≡ 255 → ⊥)
+    → shownHeard (receiver-hear.hearOf r (withByte (lastOf message) 7 byte) buffer .told) ≡ delivered 2 14
+unfolding table
+last-14 r message buffer byte long expects lent other =
+    cases-hold-of-all 17 (lit< tt) r message buffer byte long (omega arith) expects lent (lit≤ tt) (lit≤ tt) other

@@ -70,7 +70,8 @@ module _ (l : ℕ) (long : 9 ≤ l) where
       → answerOf (lastFrameWith l place) ≡ lastNumbers l (isCarried place l)
   unfolding answerOf ofReceiver receiver-making.makeOf pick
   last-with-computed place one top =
-      last-with-shows _ (zeros l) (zeros 1785) (omega (arith, zeros-long)) expects refl place 1 one top (λ e. absurd (omega arith))
+      last-with-shows _ (zeros l) (zeros 1785) (omega (arith, zeros-long)) expects refl place 1 one top
+      (λ e. absurd (omega arith))
       ∙ ap (λ (n : ℕ). lastNumbers n (isCarried place n)) zeros-long
 
 -- parts are told by their fields

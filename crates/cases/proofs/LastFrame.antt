@@ -1,7 +1,7 @@
--- What a receiver shows at the last frame, where it expects it, depends on L and on whether the frame is clean; and a frame with
--- another byte than the written one is clean just if this byte is one of the message.
+-- What a receiver that expects the last frame shows at it depends on L and on whether the frame is clean; and with one byte
+-- replaced it is clean just if that byte is one of the message.
 -- Assumes nothing.
-use mathlib.Core.Path.{_≡_, refl, sym, ap, _∙_, subst}
+use mathlib.Core.Path.{_≡_, refl, ap, _∙_}
 use mathlib.Core.Bool.{Bool, true, false, and-false}
 use mathlib.Core.List.{List, [], _∷_}
 use Prim.Native.Nat.{ℕ, zero, suc, _-_, _*_, _≤_, _<_}
@@ -14,7 +14,7 @@ use Rattle.frame.proofs.Inverse.{written-clean}
 use Rattle.frame.proofs.Laws.{frame-count-bounds, length-fill, fill-behind, read-information}
 use Rattle.frame.specs.Choice.{pick}
 use Rattle.frame.specs.Count.{frameCountOf}
-use Rattle.frame.specs.Frames.{byteOf, fillTo, partFrom, carried, informationOf, endOfAckOf}
+use Rattle.frame.specs.Frames.{fillTo, partFrom, carried, informationOf, endOfAckOf}
 use Rattle.frame.specs.Reading.{allFiller, cleanFor}
 use Rattle.frame.specs.declared.Frame.{Frame}
 use Rattle.receiver.specs.Hear.{stored, informationExpected, informationOpen, hearInformation, hearNumbered, hearUnlessHeld, hearKind, hearRead, hearOf}
@@ -32,7 +32,7 @@ use Rattle.cases.specs.Row.{delivered, refusal}
 pub lastNumbers : ℕ → Bool → List ℕ
 lastNumbers l clean = pick clean (delivered (frameCountOf l) l) (refusal 14)
 
--- the byte at this place of frame N is one of the message
+-- frame N carries a byte of the message at this place
 abbrev pub isCarried : ℕ → ℕ → Bool
 isCarried place l = leb place (carried (frameCountOf l) l)
 
@@ -91,7 +91,7 @@ unfilled zero (suc i) byte (b ∷ s) h inside other =
 unfilled (suc k) zero byte (b ∷ s) h inside other = absurd (omega arith)
 unfilled (suc k) (suc i) byte (b ∷ s) h inside other = unfilled k i byte s (omega arith) (omega arith) other
 
--- so a frame of a message with another byte than the written one is clean just if the byte is one that the frame carries
+-- so a frame in which a byte of d1 to d7 is replaced is clean just if it carries a byte of the message there
 clean-with : (number place byte : ℕ) (m : List ℕ) → 1 ≤ number → 1 ≤ place → place ≤ 7 → (byte ≡ 255 → ⊥)
     → cleanFor (withByte (informationOf number (partFrom number m)) place byte) (length m) ≡ leb place (carried number (length m))
 unfolding cleanFor informationOf pick

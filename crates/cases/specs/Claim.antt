@@ -32,7 +32,7 @@ pub data Long : Phase → Transfer → Type 0 where
   sending : (x : Streamed) → Long (Sending x) (x .transfer)
   waiting : (x : Awaited) → Long (Waiting x) (x .transfer)
 
--- a connection of this length and its N, whatever else it holds, in which frame N is expected and no hold stands
+-- a connection of this length and its N, in which frame N is expected and no hold stands; its other numbers are any
 abbrev pub ExpectsLast : receiver-phase.Phase → ℕ → Type 0
 ExpectsLast receiver-phases.Idle l = ⊥
 ExpectsLast (receiver-phases.Done x) l = ⊥
@@ -44,8 +44,8 @@ ExpectsLast (receiver-phases.Open x) l =
 -- A sender in silence: any gap G, any long message.
 -- A receiver in silence: any window C, any L from 9 that N fits, any capacity K from L to 1785, any buffer of 1785 bytes.
 -- An identifier: any parts of which P, PF, PS and SA are these and EDP and DP are 0.
--- A last frame: any receiver that expects it, any message of the length, which goes long, any buffer of 1785 bytes; where a
--- byte is another than the written one, at any of d1 to d7, any but 0xFF.
+-- A last frame: any receiver that expects it, any message of the length, which goes long, any buffer of 1785 bytes; for the
+-- byte replaced, any number but 255.
 abbrev pub Claim : Question → List ℕ → Type 0
 Claim (begun l) answer =
     (s : Sender) (message : List ℕ)

@@ -15,9 +15,9 @@ pub data Question : Type 0 where
   receiverSilence : (timeout frames ticks : ℕ) → Question
   -- the parts of an identifier are joined, EDP and DP 0
   joined : (p pf ps sa : ℕ) → Question
-  -- a receiver that expects the last frame of a message of this length, not held, hears it as a sender writes it
+  -- a receiver that expects the last frame of a message of this length, and is not held, hears it as the sender writes it
   lastFrame : (length : ℕ) → Question
-  -- the same with d1 to d7 as written but for the byte at this place, which is another than 0xFF
+  -- the same, but in that frame the byte at this place, one of d1 to d7, is replaced by one that is not 0xFF
   lastFrameWith : (length place : ℕ) → Question
 
 pub record Row : Type 0 where
