@@ -78,4 +78,4 @@ last-14 : (r : Receiver) (message buffer : List ℕ) (byte : ℕ)
     → shownHeard (receiver-hear.hearOf r (withByte (lastOf message) 7 byte) buffer .told) ≡ delivered 2 14
 unfolding table
 last-14 r message buffer byte long expects lent other =
-    cases-hold-of-all 17 (lit< tt) r message buffer byte long (omega arith) expects lent (lit≤ tt) (lit≤ tt) other
+    cases-hold-of-all 15 (lit< tt) r message buffer byte long (omega arith) expects lent (lit≤ tt) (lit≤ tt) other

