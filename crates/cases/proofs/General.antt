@@ -1,6 +1,7 @@
 -- What is computed with one end and one message is the answer of every end and every message that a question leaves open.
 -- Assumes nothing.
 use mathlib.Core.Path.{_≡_, refl, sym, ap, _∙_}
+use mathlib.Core.Bool.{true}
 use Prim.Native.Nat.{ℕ, _*_, _≤_}
 use native.Mathlib.Omega.{arith}
 use native.Mathlib.Nat.{le-trans}
@@ -13,13 +14,15 @@ use Rattle.sender.specs.Begin.{beginLong}
 use Rattle.sender.specs.Hear.{hearOf}
 use Rattle.sender.specs.Make.{makeOf}
 use Rattle.sender.specs.Told.{Told}
+use Rattle.receiver.specs.Make as receiver-making
 use Rattle.identifier.specs.Answer.{joinOf}
 use Rattle.identifier.specs.declared.Parts.{Parts}
-use Rattle.cases.specs.Answer.{answerOf, ofSender, shownHearing, shownJoined, zeros}
-use Rattle.cases.specs.Claim.{Claim, opening}
-use Rattle.cases.specs.Row.{Question, begun, acknowledged, senderSilence, receiverSilence, joined}
+use Rattle.cases.specs.Answer.{answerOf, ofSender, ofReceiver, shownHearing, shownJoined, beforeLast, zeros}
+use Rattle.cases.specs.Claim.{Claim, ExpectsLast, opening}
+use Rattle.cases.specs.Row.{Question, begun, acknowledged, senderSilence, receiverSilence, joined, lastFrame, lastFrameWith}
 use Rattle.cases.proofs.Acknowledge.{ackNumbers, ack-shows}
 use Rattle.cases.proofs.Begin.{beginNumbers, begin-shows, begins-long}
+use Rattle.cases.proofs.LastFrame.{lastNumbers, isCarried, last-shows, last-with-shows}
 use Rattle.cases.proofs.ReceiverSilence.{receiver-shows}
 use Rattle.cases.proofs.SenderSilence.{sender-shows}
 
@@ -48,6 +51,28 @@ acknowledged-computed frames start count low high =
     (begins-long _ (zeros (7 * frames)) refl (omega arith) (omega arith))
     ∙ ack-shows _ _ (opening _) start count
     ∙ ap (λ (n : ℕ). ackNumbers n start count) (ap frameCountOf long ∙ count-back frames)
+
+-- the connection with which a last frame is computed expects it
+module _ (l : ℕ) (long : 9 ≤ l) where
+  zeros-long : length (zeros l) ≡ l
+  zeros-long = length-replicate l 0
+
+  expects : ExpectsLast (beforeLast l) (length (zeros l))
+  expects = (sym zeros-long, ap frameCountOf (sym zeros-long), refl, refl)
+
+  last-computed : answerOf (lastFrame l) ≡ lastNumbers l true
+  unfolding answerOf ofReceiver receiver-making.makeOf pick
+  last-computed =
+      last-shows _ (zeros l) (zeros 1785) (omega (arith, zeros-long)) expects refl
+      ∙ ap (λ (n : ℕ). lastNumbers n true) zeros-long
+
+  last-with-computed : (place : ℕ) → 1 ≤ place → place ≤ 7
+      → answerOf (lastFrameWith l place) ≡ lastNumbers l (isCarried place l)
+  unfolding answerOf ofReceiver receiver-making.makeOf pick
+  last-with-computed place one top =
+      last-with-shows _ (zeros l) (zeros 1785) (omega (arith, zeros-long)) expects refl place 1 one top
+      (λ e. absurd (omega arith))
+      ∙ ap (λ (n : ℕ). lastNumbers n (isCarried place n)) zeros-long
 
 -- parts are told by their fields
 parts-are : (x : Parts) {p edp dp pf ps sa : ℕ}
@@ -81,3 +106,12 @@ every-answer (receiverSilence timeout frames ticks) =
     (lit≤ tt) (lit≤ tt) (omega arith) (omega arith) (lit≤ tt) (sym (count-back frames)) refl)
 every-answer (joined p pf ps sa) =
     λ x hp hedp hdp hpf hps hsa. ap (λ (y : Parts). shownJoined (joinOf y)) (parts-are x hp hedp hdp hpf hps hsa)
+every-answer (lastFrame l) =
+    λ r message buffer same long expected lent. last-shows r message buffer long expected lent
+    ∙ ap (λ (n : ℕ). lastNumbers n true) same
+    ∙ sym (last-computed l (omega arith))
+every-answer (lastFrameWith l place) =
+    λ r message buffer byte same long expected lent one top other.
+    last-with-shows r message buffer long expected lent place byte one top other
+    ∙ ap (λ (n : ℕ). lastNumbers n (isCarried place n)) same
+    ∙ sym (last-with-computed l (omega arith) place one top)

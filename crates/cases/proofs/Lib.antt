@@ -4,5 +4,6 @@ pub mod Begin
 pub mod Acknowledge
 pub mod SenderSilence
 pub mod ReceiverSilence
+pub mod LastFrame
 pub mod General
 pub mod Cases

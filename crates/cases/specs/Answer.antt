@@ -3,9 +3,10 @@ use Prim.Native.Nat.{ℕ, zero, suc, _*_}
 use mathlib.Core.Bool.{Bool}
 use mathlib.Core.List.{List, [], _∷_, _++_}
 use lib.Dec.{eqb}
-use lib.ListN.{replicate}
+use lib.ListN.{length, set, replicate}
 use Rattle.frame.specs.Result.{Result, accepted, refused}
 use Rattle.frame.specs.Choice.{pick}
+use Rattle.frame.specs.Count.{frameCountOf}
 use Rattle.frame.specs.Frames.{byteOf, announcementOf, lmAckOf}
 use Rattle.frame.specs.declared.Frame.{Frame}
 use Rattle.sender.specs.Begin as sender-begin
@@ -16,10 +17,14 @@ use Rattle.sender.specs.Told as sender
 use Rattle.sender.specs.declared.Sender.{Sender}
 use Rattle.receiver.specs.Hear as receiver-hear
 use Rattle.receiver.specs.Make as receiver-making
+use Rattle.receiver.specs.State.{opened, moved, inPhase}
 use Rattle.receiver.specs.Tick as receiver-tick
+use Rattle.receiver.specs.Told as receiver
+use Rattle.receiver.specs.declared.Phase.{Phase}
+use Rattle.receiver.specs.declared.Phase.the-variants.{Open}
 use Rattle.receiver.specs.declared.Receiver.{Receiver}
 use Rattle.identifier.specs.Answer as parts
-use Rattle.cases.specs.Row.{Question, begun, acknowledged, senderSilence, receiverSilence, joined, refusal, identifier, short, announces, at}
+use Rattle.cases.specs.Row.{Question, begun, acknowledged, senderSilence, receiverSilence, joined, lastFrame, lastFrameWith, refusal, identifier, short, announces, at}
 
 -- a frame by its kind and its d0: an information frame's number, LM_ACK's start, LM_NACK's cause
 abbrev pub brief : Frame → List ℕ
@@ -90,12 +95,41 @@ unfoldable pub shownJoined : Result ℕ → List ℕ
 shownJoined (accepted number) = identifier number
 shownJoined (refused number) = refusal number
 
+-- the number of a refusal, else what the call shows, and behind it the length of a long delivery
+unfoldable pub withReport : receiver.Outcome → List ℕ → List ℕ
+withReport receiver.quiet shown = shown
+withReport (receiver.refused number) shown = refusal number
+withReport (receiver.delivered length) shown = shown ++ length ∷ []
+withReport (receiver.failed cause) shown = shown
+withReport receiver.short shown = shown
+
+-- what a hearing of the receiver shows: a refusal, or its frame and a delivery
+abbrev pub shownHeard : receiver.Told → List ℕ
+shownHeard t = withReport (t .outcome) (ifEmitted (t .emits) (brief (t .frame)))
+
+-- a message's last frame, as the sender writes it
+abbrev pub lastOf : List ℕ → Frame
+lastOf message = sender-tick.informationAt (frameCountOf (length message)) message
+
+-- a frame with another byte at this place, counted from d0
+abbrev pub withByte : Frame → ℕ → ℕ → Frame
+withByte f place byte = record { kind = f .kind; bytes = set (f .bytes) place byte }
+
+-- a connection of this length as the hearings of all frames but the last leave it, where one window holds them all
+abbrev pub beforeLast : ℕ → Phase
+beforeLast length = let frames = frameCountOf length in Open (moved (opened frames length frames) frames frames 0 0)
+
+-- and what a receiver shows with it at a frame, lent a buffer
+abbrev pub shownBeforeLast : Receiver → ℕ → Frame → List ℕ → List ℕ
+shownBeforeLast r length f buffer = shownHeard (receiver-hear.hearOf (inPhase r (beforeLast length)) f buffer .told)
+
 -- a message or a buffer of this length: zeros
 abbrev pub zeros : ℕ → List ℕ
 zeros length = replicate length 0
 
 -- The answer to a question, computed with one end and one message. What the question leaves open is here: G 1, T 10 and
--- M 100 at the sender, C 255 and K 1785 at the receiver, L 9 or, where N is asked for, 7 N, and every byte 0.
+-- M 100 at the sender, T 10, C 255 and K 1785 at the receiver, L 9 or, where N is asked for, 7 N, every byte 0, and 1 for
+-- the one that is replaced.
 -- `Claim` says the same of all that a question leaves open; proofs/General.antt shows that it makes no difference.
 unfoldable pub answerOf : Question → List ℕ
 answerOf (begun length) =
@@ -109,3 +143,9 @@ answerOf (receiverSilence timeout frames ticks) =
     ofReceiver (receiver-making.makeOf timeout 255 1785) (λ r. receiverInSilence r frames (7 * frames) (zeros 1785) ticks)
 answerOf (joined p pf ps sa) =
     shownJoined (parts.joinOf (record { p = p; edp = 0; dp = 0; pf = pf; ps = ps; sa = sa }))
+answerOf (lastFrame length) =
+    ofReceiver (receiver-making.makeOf 10 255 1785)
+    (λ r. shownBeforeLast r length (lastOf (zeros length)) (zeros 1785))
+answerOf (lastFrameWith length place) =
+    ofReceiver (receiver-making.makeOf 10 255 1785)
+    (λ r. shownBeforeLast r length (withByte (lastOf (zeros length)) place 1) (zeros 1785))

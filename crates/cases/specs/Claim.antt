@@ -1,6 +1,7 @@
 -- What a row claims, of every end and every message that its question leaves open.
 use Prim.Native.Nat.{ℕ, _≤_}
 use mathlib.Core.Path.{_≡_}
+use mathlib.Core.Bool.{false}
 use mathlib.Core.List.{List}
 use lib.ListN.{length}
 use Rattle.frame.specs.Count.{frameCountOf}
@@ -15,11 +16,15 @@ use Rattle.sender.specs.declared.Phase.the-variants.{Idle, Opening, Sending, Wa
 use Rattle.sender.specs.declared.Sender.{Sender}
 use Rattle.sender.specs.declared.Streamed.{Streamed}
 use Rattle.sender.specs.declared.Transfer.{Transfer}
+use Rattle.receiver.specs.Hear as receiver-hear
 use Rattle.receiver.specs.Make as receiver-making
+use Rattle.receiver.specs.declared.Phase as receiver-phase
+use Rattle.receiver.specs.declared.Phase.the-variants as receiver-phases
+use Rattle.receiver.specs.declared.Receiver.{Receiver}
 use Rattle.identifier.specs.Answer.{joinOf}
 use Rattle.identifier.specs.declared.Parts.{Parts}
-use Rattle.cases.specs.Answer.{shownBegin, shownHearing, senderInSilence, receiverInSilence, ofSender, ofReceiver, shownJoined}
-use Rattle.cases.specs.Row.{Question, begun, acknowledged, senderSilence, receiverSilence, joined}
+use Rattle.cases.specs.Answer.{shownBegin, shownHearing, senderInSilence, receiverInSilence, ofSender, ofReceiver, shownJoined, shownHeard, lastOf, withByte}
+use Rattle.cases.specs.Row.{Question, begun, acknowledged, senderSilence, receiverSilence, joined, lastFrame, lastFrameWith}
 
 -- the phases of a long transfer, in which an LM_ACK is judged
 pub data Long : Phase → Transfer → Type 0 where
@@ -27,11 +32,20 @@ pub data Long : Phase → Transfer → Type 0 where
   sending : (x : Streamed) → Long (Sending x) (x .transfer)
   waiting : (x : Awaited) → Long (Waiting x) (x .transfer)
 
+-- a connection of this length and its N, in which frame N is expected and no hold stands; its other numbers are any
+abbrev pub ExpectsLast : receiver-phase.Phase → ℕ → Type 0
+ExpectsLast receiver-phases.Idle l = ⊥
+ExpectsLast (receiver-phases.Done x) l = ⊥
+ExpectsLast (receiver-phases.Open x) l =
+    (x .length ≡ l) × (x .frames ≡ frameCountOf l) × (x .expected ≡ x .frames) × (x .held ≡ false)
+
 -- A begin: any Idle sender and any message of the length.
 -- LM_ACK: any sender in a long transfer of N frames; by the lengths that go long, N is 2 to 255.
 -- A sender in silence: any gap G, any long message.
 -- A receiver in silence: any window C, any L from 9 that N fits, any capacity K from L to 1785, any buffer of 1785 bytes.
 -- An identifier: any parts of which P, PF, PS and SA are these and EDP and DP are 0.
+-- A last frame: any receiver that expects it, any message of the length, which goes long, any buffer of 1785 bytes; for the
+-- byte replaced, any number but 255.
 abbrev pub Claim : Question → List ℕ → Type 0
 Claim (begun l) answer =
     (s : Sender) (message : List ℕ)
@@ -71,3 +85,20 @@ Claim (joined p pf ps sa) answer =
     → x .ps ≡ ps
     → x .sa ≡ sa
     → shownJoined (joinOf x) ≡ answer
+Claim (lastFrame l) answer =
+    (r : Receiver) (message buffer : List ℕ)
+    → length message ≡ l
+    → 9 ≤ length message
+    → ExpectsLast (r .phase) (length message)
+    → length buffer ≡ 1785
+    → shownHeard (receiver-hear.hearOf r (lastOf message) buffer .told) ≡ answer
+Claim (lastFrameWith l place) answer =
+    (r : Receiver) (message buffer : List ℕ) (byte : ℕ)
+    → length message ≡ l
+    → 9 ≤ length message
+    → ExpectsLast (r .phase) (length message)
+    → length buffer ≡ 1785
+    → 1 ≤ place
+    → place ≤ 7
+    → (byte ≡ 255 → ⊥)
+    → shownHeard (receiver-hear.hearOf r (withByte (lastOf message) place byte) buffer .told) ≡ answer

@@ -1,9 +1,9 @@
--- A row of the table of cases: a question to an end, or to the identifier, and the numbers that document 01, Edge cases,
--- gives as its answer.
+-- A row of the table of cases: a question to an end, or to the identifier, and the numbers that document 01, Edge cases, or
+-- document 02 gives as its answer.
 use Prim.Native.Nat.{ℕ}
 use mathlib.Core.List.{List, [], _∷_}
 
--- what the cases marked * ask, each with its numbers
+-- what the cases ask, each with its numbers
 pub data Question : Type 0 where
   -- an Idle sender begins a message of this length
   begun : (length : ℕ) → Question
@@ -15,6 +15,10 @@ pub data Question : Type 0 where
   receiverSilence : (timeout frames ticks : ℕ) → Question
   -- the parts of an identifier are joined, EDP and DP 0
   joined : (p pf ps sa : ℕ) → Question
+  -- a receiver that expects the last frame of a message of this length, and is not held, hears it as the sender writes it
+  lastFrame : (length : ℕ) → Question
+  -- the same, but in that frame the byte at this place, one of d1 to d7, is replaced by one that is not 0xFF
+  lastFrameWith : (length place : ℕ) → Question
 
 pub record Row : Type 0 where
   pub question : Question
@@ -47,6 +51,10 @@ lmAck = 2 ∷ 1 ∷ []
 -- an LM_NACK: its kind, and its cause
 abbrev pub nack : ℕ → List ℕ
 nack cause = 3 ∷ cause ∷ []
+
+-- a long delivery: the kind of EndofACK, its d0, which is N, and the length reported
+abbrev pub delivered : ℕ → ℕ → List ℕ
+delivered frames length = 4 ∷ frames ∷ length ∷ []
 
 -- a tick, and what goes out at it; tick 0 is the begin
 abbrev pub at : ℕ → List ℕ → List ℕ
