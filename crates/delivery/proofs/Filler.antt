@@ -17,14 +17,13 @@ use Rattle.frame.specs.Choice.{pick}
 use Rattle.frame.specs.Frames.{byteOf, wordAt, announcementOf, informationOf, lmNackOf, smRmOf}
 use Rattle.frame.specs.Reading.{cleanFor}
 use Rattle.frame.specs.declared.Frame.{Frame}
-use Rattle.receiver.proofs.Refusals.{unclean}
+use Rattle.receiver.proofs.Refusals.{refused-so}
 use Rattle.receiver.proofs.View as view
 use Rattle.receiver.proofs.View.{Shut, Ticks, Pauses, Hears}
 use Rattle.receiver.specs.Refusals.{Unclean}
 use Rattle.receiver.specs.Told as receiver
 use Rattle.receiver.specs.declared.Phase as receiver-phase
 use Rattle.receiver.specs.declared.Phase.the-variants as at
-use Rattle.receiver.specs.declared.Receiver.{Receiver}
 use Rattle.receiver.specs.declared.Settings as receiver-settings
 use Rattle.sender.proofs.Choices.{limit-elim, begin-elim, lent-elim, over-elim, timeout-elim, bad-elim, hear-elim}
 use Rattle.sender.specs.Begin.{beginOf, beginShort, beginLong}
@@ -38,17 +37,15 @@ use Rattle.sender.specs.declared.Settings.{Settings}
 use Rattle.sender.specs.declared.Streamed.{Streamed}
 use Rattle.sender.specs.declared.Transfer.{Transfer}
 use Rattle.delivery.proofs.Climbs.{cut-line, drop-line}
-use Rattle.delivery.proofs.Keeps.{AfterSender, AfterReceiver, Keeps, Asks, Holds, Steps, kept-step, capped-step}
+use Rattle.delivery.proofs.Keeps.{AfterSender, AfterReceiver, Keeps, Asks, Holds, Steps, kept-step, capped-step, from-fresh}
 use Rattle.delivery.proofs.Lines.{Line, none, more, joins}
 use Rattle.delivery.proofs.Moves.{left-line}
 use Rattle.delivery.proofs.Stages.{senderIn}
-use Rattle.delivery.proofs.Theorem.{limits-of, SenderMade, ReceiverMade, fits, sender-made, receiver-made}
-use Rattle.delivery.proofs.Timing.{before}
 use Rattle.delivery.specs.Demand3.{Conditions}
-use Rattle.delivery.specs.Filler.{HeardClean, AllClean, NeverUncleanOn, NeverUnclean}
+use Rattle.delivery.specs.Filler.{HeardClean, AllClean, CleanAfter, NeverUncleanOn, NeverUnclean}
 use Rattle.delivery.specs.Run as runs
 use Rattle.delivery.specs.Run.{Past, fresh, next, runOf}
-use Rattle.delivery.specs.Seen.{taken, Sort, begins, ticksSender, ticksReceiver, holdsReceiver, other, sortOf, openedIn}
+use Rattle.delivery.specs.Seen.{taken, Sort, begins, ticksSender, ticksReceiver, holdsReceiver, other, sortOf}
 use Rattle.transport.specs.Capped.{cappedStep}
 use Rattle.transport.specs.Step.{emission, Rest, leaving, dropped, stepOf}
 use Rattle.transport.specs.World.{Call, Given, nobody, toSender, toReceiver}
@@ -298,7 +295,7 @@ fills =
       cut = λ n k. record { l = k .l; small = k .small; sends = k .sends; awaits = k .awaits; line = cut-line n (k .line) };
       says-nobody = λ s o. tt;
       says-sender = λ s o k. tt;
-      says-receiver = λ {q} {f} s k v e. never (k .l) f q (first (k .line)) (k .awaits) (unclean v e);
+      says-receiver = λ {q} {f} s k v e. never (k .l) f q (first (k .line)) (k .awaits) (refused-so v e .1 refl);
     }
 
 free : (s : Sort) (o : receiver.Outcome) → Asks Any s o
@@ -320,25 +317,11 @@ module _ (rs : receiver-settings.Settings) (pos : 1 ≤ rs .timeout) (small : rs
       let a = k (p .world) (p .events) h call (d .0) (free (sortOf call) (line (p .world) call .event .receiver)) in
       run line k calls (next line p call) (a .0 .holds) (a .0 .says, c) (d .1)
 
--- ---- from the ends that making answers
-
-made : (line : runs.Line) → ((rs : receiver-settings.Settings) (pos : 1 ≤ rs .timeout) (small : rs .timeout ≤ 10000) → Steps fills rs pos small line)
-    → (gap timeout limit patience window capacity : ℕ) {s : Sender} {r : Receiver}
-    → SenderMade gap timeout limit s
-    → ReceiverMade patience window capacity r
-    → (buffer : List ℕ) (calls : List Call)
-    → Conditions line (fresh s r buffer) calls
-    → AllClean (runOf line (fresh s r buffer) calls .events)
-unfolding openedIn
-made line k gap timeout limit patience window capacity {s} {r} (fits e) (fits d) buffer calls c =
-    let t = limits-of gap timeout limit patience window capacity e d in
-    run _ (t .pos) (t .small) line (k _ (t .pos) (t .small)) calls (fresh s r buffer)
-    (record { kept = record { l = 0; small = omega arith; sends = tt; awaits = tt; line = none }; timed = before tt }) tt c
-
 never-unclean-on : (line : runs.Line) → ((rs : receiver-settings.Settings) (pos : 1 ≤ rs .timeout) (small : rs .timeout ≤ 10000) → Steps fills rs pos small line)
     → NeverUncleanOn line
-never-unclean-on line k gap timeout limit s e patience window capacity r d buffer calls c =
-    made line k gap timeout limit patience window capacity (sender-made gap timeout limit s e) (receiver-made patience window capacity r d) buffer calls c
+never-unclean-on line k =
+    from-fresh fills (record { l = 0; small = omega arith; sends = tt; awaits = tt; line = none }) (CleanAfter line)
+    (λ rs pos small s r buffer calls h c. run rs pos small line (k rs pos small) calls (fresh s r buffer) h tt c)
 
 pub never-unclean : NeverUnclean
 never-unclean =

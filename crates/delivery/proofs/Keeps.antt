@@ -13,6 +13,7 @@ use Rattle.receiver.proofs.View as view
 use Rattle.receiver.proofs.View.{Shut, Ticks, Pauses, Hears, tick-does, pause-does, hear-does}
 use Rattle.receiver.specs.Told as receiver
 use Rattle.receiver.specs.declared.Phase as receiver-phase
+use Rattle.receiver.specs.declared.Phase.the-variants as at
 use Rattle.receiver.specs.declared.Receiver.{Receiver}
 use Rattle.receiver.specs.declared.Settings as receiver-settings
 use Rattle.sender.specs.Begin.{beginOf}
@@ -20,13 +21,14 @@ use Rattle.sender.specs.Hear.{hearOf}
 use Rattle.sender.specs.Tick.{tickOf}
 use Rattle.sender.specs.Told.{Told}
 use Rattle.sender.specs.declared.Phase.{Phase}
+use Rattle.sender.specs.declared.Phase.the-variants.{Idle}
 use Rattle.sender.specs.declared.Sender.{Sender}
 use Rattle.sender.specs.declared.Settings.{Settings}
 use Rattle.delivery.proofs.Stages.{senderIn}
-use Rattle.delivery.proofs.Theorem.{resume-no-hold}
+use Rattle.delivery.proofs.Theorem.{resume-no-hold, limits-of, SenderMade, ReceiverMade, fits, sender-made, receiver-made}
 use Rattle.delivery.proofs.Timing.{Timed, before, between, during, timed-later, tick-timed, pause-timed, hear-timed}
 use Rattle.delivery.specs.Demand3.{Condition}
-use Rattle.delivery.specs.Run.{Line}
+use Rattle.delivery.specs.Run.{Line, Past, fresh, FromFresh}
 use Rattle.delivery.specs.Seen.{taken, Sort, begins, ticksSender, ticksReceiver, holdsReceiver, other, sortOf, Opened, openedIn, openedAfter, idle}
 use Rattle.transport.proofs.Events.{call-of}
 use Rattle.transport.specs.Capped.{capped, cappedStep}
@@ -234,3 +236,31 @@ module _ {K : Kept} {Holding : receiver.Outcome → Type 0} {Says : Sender → G
         },
         call-of w c,
       )
+
+-- ---- from the ends that making answers
+
+module _ {K : Kept} {Holding : receiver.Outcome → Type 0} {Said : Sender → Given → receiver.Outcome → Type 0}
+    (all : Keeps K Holding Said) (start : K Idle at.Idle [] []) (Says : Past → List Call → Type 0) where
+  made : (gap timeout limit patience window capacity : ℕ) {s : Sender} {r : Receiver}
+      → ((rs : receiver-settings.Settings) (pos : 1 ≤ rs .timeout) (small : rs .timeout ≤ 10000) (buffer : List ℕ) (calls : List Call)
+      → Holds all rs pos small (fresh s r buffer .world) []
+      → Says (fresh s r buffer) calls)
+      → SenderMade gap timeout limit s
+      → ReceiverMade patience window capacity r
+      → (buffer : List ℕ) (calls : List Call)
+      → Says (fresh s r buffer) calls
+  unfolding openedIn
+  made gap timeout limit patience window capacity k (fits e) (fits d) buffer calls =
+      let t = limits-of gap timeout limit patience window capacity e d in
+      k _ (t .pos) (t .small) buffer calls (record { kept = start; timed = before tt })
+
+  -- what is said where it holds at the start is said of them
+  pub from-fresh :
+      ((rs : receiver-settings.Settings) (pos : 1 ≤ rs .timeout) (small : rs .timeout ≤ 10000) (s : Sender) (r : Receiver)
+      (buffer : List ℕ) (calls : List Call)
+      → Holds all rs pos small (fresh s r buffer .world) []
+      → Says (fresh s r buffer) calls)
+      → FromFresh Says
+  from-fresh k gap timeout limit s e patience window capacity r d =
+      made gap timeout limit patience window capacity (λ rs pos small. k rs pos small s r)
+      (sender-made gap timeout limit s e) (receiver-made patience window capacity r d)

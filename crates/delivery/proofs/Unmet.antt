@@ -16,14 +16,14 @@ use Rattle.receiver.specs.declared.Settings as receiver-settings
 use Rattle.sender.specs.Hear.{ackBelow}
 use Rattle.sender.specs.declared.Sender.{Sender}
 use Rattle.delivery.proofs.Climbs.{Climb, off, sender-ticks, sender-hears, sender-begins, receiver-ticks, receiver-pauses, receiver-hears, cut, loses-forward, loses-back, unmet}
-use Rattle.delivery.proofs.Keeps.{Keeps, Asks, Holds, Steps, kept-step, capped-step}
-use Rattle.delivery.proofs.Theorem.{unheld-after, limits-of, SenderMade, ReceiverMade, fits, sender-made, receiver-made}
+use Rattle.delivery.proofs.Keeps.{Keeps, Asks, Holds, Steps, kept-step, capped-step, from-fresh}
+use Rattle.delivery.proofs.Theorem.{unheld-after}
 use Rattle.delivery.proofs.Timing.{Timed, before, between, during}
 use Rattle.delivery.specs.Clean.{CallsMeet}
 use Rattle.delivery.specs.Demand3.{NeverHeld}
 use Rattle.delivery.specs.Run.{Line, Past, fresh, next, runOf}
 use Rattle.delivery.specs.Seen.{Sort, begins, ticksSender, ticksReceiver, holdsReceiver, other, sortOf, Opened, openedIn, pausesBy}
-use Rattle.delivery.specs.Unmet.{NoHoldBy, NoHold, Unmet, AllUnmet, NeverMetOn, NeverMet}
+use Rattle.delivery.specs.Unmet.{NoHoldBy, NoHold, Unmet, AllUnmet, UnmetAfter, NeverMetOn, NeverMet}
 use Rattle.transport.specs.Capped.{cappedStep}
 use Rattle.transport.specs.Step.{wasRefused, stepOf}
 use Rattle.transport.specs.World.{Call, Given}
@@ -92,25 +92,12 @@ module _ (rs : receiver-settings.Settings) (pos : 1 ≤ rs .timeout) (small : rs
       let rest = run line k calls (next line p c) (a .0 .holds) (unheld-after e (openedIn (p .events)) none u) (d .2) in
       ((a .0 .says, unheld (h .timed) u, rest .0), rest .1)
 
--- ---- from the ends that making answers
-
-made : (line : Line) → ((rs : receiver-settings.Settings) (pos : 1 ≤ rs .timeout) (small : rs .timeout ≤ 10000) → Steps climbs rs pos small line)
-    → (gap timeout limit patience window capacity : ℕ) {s : Sender} {r : Receiver}
-    → SenderMade gap timeout limit s
-    → ReceiverMade patience window capacity r
-    → (buffer : List ℕ) (calls : List Call)
-    → CallsMeet NoHold line (fresh s r buffer) calls
-    → AllUnmet line (fresh s r buffer) calls × NeverHeld (openedIn (runOf line (fresh s r buffer) calls .events))
-unfolding openedIn
-made line k gap timeout limit patience window capacity {s} {r} (fits e) (fits d) buffer calls c =
-    let l = limits-of gap timeout limit patience window capacity e d in
-    run _ (l .pos) (l .small) line (k _ (l .pos) (l .small)) calls (fresh s r buffer)
-    (record { kept = off tt; timed = before tt }) tt c
-
 never-met-on : (line : Line) → ((rs : receiver-settings.Settings) (pos : 1 ≤ rs .timeout) (small : rs .timeout ≤ 10000) → Steps climbs rs pos small line)
     → NeverMetOn line
-never-met-on line k gap timeout limit s e patience window capacity r d buffer calls c =
-    made line k gap timeout limit patience window capacity (sender-made gap timeout limit s e) (receiver-made patience window capacity r d) buffer calls c
+unfolding openedIn
+never-met-on line k =
+    from-fresh climbs (off tt) (UnmetAfter line)
+    (λ rs pos small s r buffer calls h c. run rs pos small line (k rs pos small) calls (fresh s r buffer) h tt c)
 
 pub never-met : NeverMet
 unfolding ackBelow pick

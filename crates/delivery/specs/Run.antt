@@ -1,7 +1,11 @@
 -- Document 01, The line: a whole list of calls, on a line that keeps every frame or on one that drops some.
 use mathlib.Core.List.{List, [], _∷_}
 use Prim.Native.Nat.{ℕ}
+use mathlib.Core.Path.{_≡_}
+use Rattle.frame.specs.Result.{accepted}
+use Rattle.receiver.specs.Make as receiver-making
 use Rattle.receiver.specs.declared.Receiver.{Receiver}
+use Rattle.sender.specs.Make as sender-making
 use Rattle.sender.specs.declared.Sender.{Sender}
 use Rattle.transport.specs.Step.{Stepped}
 use Rattle.transport.specs.World.{World, Call, Event, startOf}
@@ -18,6 +22,16 @@ pub record Past : Type 0 where
 -- ends just made, and no event yet
 abbrev pub fresh : Sender → Receiver → List ℕ → Past
 fresh s r buffer = record { world = startOf s r buffer; events = [] }
+
+-- what is said of every list of calls, by the ends that making answers and with every buffer
+abbrev pub FromFresh : (Past → List Call → Type 0) → Type 0
+FromFresh Says =
+    (gap timeout limit : ℕ) (s : Sender)
+    → sender-making.makeOf gap timeout limit ≡ accepted s
+    → (patience window capacity : ℕ) (r : Receiver)
+    → receiver-making.makeOf patience window capacity ≡ accepted r
+    → (buffer : List ℕ) (calls : List Call)
+    → Says (fresh s r buffer) calls
 
 abbrev pub next : Line → Past → Call → Past
 next line p c =

@@ -8,14 +8,10 @@ use mathlib.Core.List.{List, [], _∷_}
 use mathlib.Core.Path.{_≡_}
 use lib.Dec.{eqb}
 use Rattle.frame.specs.Frames.{byteOf}
-use Rattle.frame.specs.Result.{accepted}
 use Rattle.frame.specs.declared.Frame.{Frame}
 use Rattle.receiver.specs.Hear.{isHeld}
-use Rattle.receiver.specs.Make as receiver-making
 use Rattle.receiver.specs.Told as receiver
-use Rattle.receiver.specs.declared.Receiver.{Receiver}
 use Rattle.sender.specs.Hear.{asksToHold, ackBelow}
-use Rattle.sender.specs.Make as sender-making
 use Rattle.sender.specs.Told.{silently}
 use Rattle.sender.specs.declared.Phase.{Phase}
 use Rattle.sender.specs.declared.Phase.the-variants.{Idle, Opening, Sending, Waiting, Short}
@@ -23,7 +19,7 @@ use Rattle.sender.specs.declared.Sender.{Sender}
 use Rattle.sender.specs.declared.Transfer.{Transfer}
 use Rattle.delivery.specs.Clean.{CallsMeet}
 use Rattle.delivery.specs.Demand3.{NeverHeld}
-use Rattle.delivery.specs.Run.{Line, Past, fresh, next, runOf}
+use Rattle.delivery.specs.Run.{Line, Past, FromFresh, next, runOf}
 use Rattle.delivery.specs.Seen.{Sort, begins, ticksSender, ticksReceiver, holdsReceiver, other, sortOf, openedIn}
 use Rattle.transport.specs.Capped.{cappedStep}
 use Rattle.transport.specs.Step.{wasRefused, stepOf}
@@ -63,16 +59,15 @@ AllUnmet line p (c ∷ calls) =
     × (isHeld (p .world .receiver .phase) ≡ false)
     × AllUnmet line (next line p c) calls
 
--- for the ends that making answers, every buffer and every such list of calls
+-- so it is where no hold is accepted, and no connection has had one
+abbrev pub UnmetAfter : Line → Past → List Call → Type 0
+UnmetAfter line p calls =
+    CallsMeet NoHold line p calls
+    → AllUnmet line p calls × NeverHeld (openedIn (runOf line p calls .events))
+
+-- from fresh ends on
 abbrev pub NeverMetOn : Line → Type 0
-NeverMetOn line =
-    (gap timeout limit : ℕ) (s : Sender)
-    → sender-making.makeOf gap timeout limit ≡ accepted s
-    → (patience window capacity : ℕ) (r : Receiver)
-    → receiver-making.makeOf patience window capacity ≡ accepted r
-    → (buffer : List ℕ) (calls : List Call)
-    → CallsMeet NoHold line (fresh s r buffer) calls
-    → AllUnmet line (fresh s r buffer) calls × NeverHeld (openedIn (runOf line (fresh s r buffer) calls .events))
+NeverMetOn line = FromFresh (UnmetAfter line)
 
 -- on the line that keeps every frame and at a line of 64; and what is not taken by the new rule is ignored, as before it
 pub record NeverMet : Type 0 where

@@ -12,19 +12,21 @@ use Rattle.delivery.specs.Demand3.{LentMessage, Condition, Conditions, Promise}
 use Rattle.delivery.proofs.Filler.{never-unclean}
 use Rattle.delivery.proofs.Unmet.{never-met}
 use Rattle.delivery.specs.Clean.{CallsMeet}
-use Rattle.delivery.specs.Unmet.{NoHoldBy, NoHold}
+use Rattle.delivery.specs.Filler.{CleanAfter}
+use Rattle.delivery.specs.Unmet.{NoHoldBy, NoHold, UnmetAfter}
 use Rattle.receiver.specs.Told as receiver
-use Rattle.delivery.specs.Run.{Past, fresh, next, runOf}
+use Rattle.delivery.specs.Run.{Past, fresh, FromFresh, next, runOf}
 use Rattle.delivery.specs.Seen.{Sort, begins, ticksSender, ticksReceiver, holdsReceiver, other, sortOf, taken, Begun, further, begunBy, begunIn, begunAfter, openedIn}
 use Rattle.frame.proofs.Choice.{pick-elim}
 use Rattle.player.proofs.Opened.{opened}
-use Rattle.player.specs.Claim.{PlayerMeets, newestFirst, PlayerKeeps, PlayerUnmet, PlayerClean, PackKeeps}
+use Rattle.player.specs.Claim.{PlayerMeets, newestFirst, PlayerKeeps, OfPlayer, PlayerUnmet, PlayerClean, PackKeeps}
 use Rattle.player.specs.Events.{callFor, turnFor, eventsFrom, worldAfter, runFrom, callsFor, callsFrom}
 use Rattle.player.specs.Played as played
 use Rattle.transport.proofs.Events.{call-of}
 use Rattle.transport.proofs.Making.{make-answers}
 use Rattle.transport.specs.Capped.{cappedStep}
 use Rattle.transport.specs.Step.{stepOf}
+use Rattle.transport.specs.declared.Ends.{Ends}
 use Rattle.transport.specs.World.{World, Call, begin, Event}
 
 -- ---- the conditions
@@ -150,19 +152,21 @@ unheld-events m (event ∷ events) p d =
       unheld-events m events (next cappedStep p c) (d .1),
     )
 
+-- what is said of every list of calls, from fresh ends on, is said of the player's
+of-player : (Says : Past → List Call → Type 0) → FromFresh Says → OfPlayer Says
+of-player Says from gap timeout limit patience window capacity ends e buffer m events =
+    let made = make-answers gap timeout limit patience window capacity ends e in
+    from gap timeout limit (ends .sender) (made .sender) patience window capacity (ends .receiver) (made .receiver) buffer _
+
 pub player-unmet : PlayerUnmet
 unfolding callsFrom
 player-unmet gap timeout limit patience window capacity ends e buffer m events =
-    let made = make-answers gap timeout limit patience window capacity ends e in
     let p = fresh (ends .sender) (ends .receiver) buffer in
     let meets = player-meets ends buffer m events in
-    never-met .capped gap timeout limit (ends .sender) (made .sender) patience window capacity (ends .receiver) (made .receiver) buffer
-    (callsFrom (p .world) m events) (meets .0, tt, unheld-events m events (next cappedStep p (begin m)) (meets .1))
+    of-player (UnmetAfter cappedStep) (never-met .capped) gap timeout limit patience window capacity ends e buffer m events
+    (meets .0, tt, unheld-events m events (next cappedStep p (begin m)) (meets .1))
 
 pub player-clean : PlayerClean
-unfolding callsFrom
 player-clean gap timeout limit patience window capacity ends e buffer m events =
-    let made = make-answers gap timeout limit patience window capacity ends e in
-    let p = fresh (ends .sender) (ends .receiver) buffer in
-    never-unclean .capped gap timeout limit (ends .sender) (made .sender) patience window capacity (ends .receiver) (made .receiver) buffer
-    (callsFrom (p .world) m events) (player-meets ends buffer m events)
+    of-player (CleanAfter cappedStep) (never-unclean .capped) gap timeout limit patience window capacity ends e buffer m events
+    (player-meets ends buffer m events)

@@ -7,7 +7,7 @@ use mathlib.Core.Path.{_≡_}
 use lib.ListN.{length}
 use Rattle.delivery.specs.Demand3.{Conditions, Promise, NeverHeld}
 use Rattle.delivery.specs.Filler.{AllClean}
-use Rattle.delivery.specs.Run.{fresh, runOf}
+use Rattle.delivery.specs.Run.{Past, fresh, runOf}
 use Rattle.delivery.specs.Seen.{openedIn}
 use Rattle.delivery.specs.Unmet.{AllUnmet}
 use Rattle.frame.specs.Result.{accepted}
@@ -16,7 +16,7 @@ use Rattle.player.specs.Played as played
 use Rattle.player.specs.declared.Player.{Player}
 use Rattle.transport.specs.Capped.{cappedStep}
 use Rattle.transport.specs.Make.{makeOf}
-use Rattle.transport.specs.World.{Event, startOf}
+use Rattle.transport.specs.World.{Call, Event, startOf}
 use Rattle.transport.specs.declared.Ends.{Ends}
 
 -- whatever the ends, the buffer, the message and the events
@@ -49,26 +49,24 @@ PackKeeps =
     → played.openOf bytes ≡ accepted q
     → Promise (q .bodies .settings .limit) (q .bodies .settings .patience) (newestFirst [] (played.runOf bytes q))
 
--- Document 02, E2: whatever the message and the events, the sender hears no LM_ACK that the rule for holds takes, the
--- receiver is never held, and no connection has had a hold
+-- what is said of the calls that a pack's events make, by the ends that making answers, whatever the buffer, the message and
+-- the events
+abbrev pub OfPlayer : (Past → List Call → Type 0) → Type 0
+OfPlayer Says =
+    (gap timeout limit patience window capacity : ℕ) (ends : Ends)
+    → makeOf gap timeout limit patience window capacity ≡ accepted ends
+    → (buffer message events : List ℕ)
+    → (let s = ends .sender in
+    let r = ends .receiver in
+    Says (fresh s r buffer) (callsFrom (startOf s r buffer) message events))
+
+-- Document 02, E2: the sender hears no LM_ACK that the rule for holds takes, the receiver is never held, and no connection
+-- has had a hold
 abbrev pub PlayerUnmet : Type 0
 PlayerUnmet =
-    (gap timeout limit patience window capacity : ℕ) (ends : Ends)
-    → makeOf gap timeout limit patience window capacity ≡ accepted ends
-    → (buffer message events : List ℕ)
-    → (let s = ends .sender in
-    let r = ends .receiver in
-    let calls = callsFrom (startOf s r buffer) message events in
-    AllUnmet cappedStep (fresh s r buffer) calls
-    × NeverHeld (openedIn (runOf cappedStep (fresh s r buffer) calls .events)))
+    OfPlayer
+    (λ p calls. AllUnmet cappedStep p calls × NeverHeld (openedIn (runOf cappedStep p calls .events)))
 
--- Document 02, E3: nor does the receiver refuse a frame by 14, so that no pack can show it and what is printed stays
+-- Document 02, E3: no frame that the receiver hears is refused 14, so that no pack can show it and what is printed stays
 abbrev pub PlayerClean : Type 0
-PlayerClean =
-    (gap timeout limit patience window capacity : ℕ) (ends : Ends)
-    → makeOf gap timeout limit patience window capacity ≡ accepted ends
-    → (buffer message events : List ℕ)
-    → (let s = ends .sender in
-    let r = ends .receiver in
-    let calls = callsFrom (startOf s r buffer) message events in
-    AllClean (runOf cappedStep (fresh s r buffer) calls .events))
+PlayerClean = OfPlayer (λ p calls. AllClean (runOf cappedStep p calls .events))

@@ -89,29 +89,23 @@ module _ {s : Settings} {buffer : List ℕ} where
   informed-taken (asks _ _ _) = tt
   informed-taken (goes-on _ _ _) = tt
 
-  unchanged : {f : Frame} {p : Phase} {h : told.Heard} {number : ℕ} → Hears s f buffer p h
+  -- one case is a refusal; by 14 it is one of an unclean frame
+  pub refused-so : {f : Frame} {p : Phase} {h : told.Heard} {number : ℕ} → Hears s f buffer p h
       → h .told .outcome ≡ told.refused number
-      → Unchanged (receiverIn s p) buffer h
-  unchanged (refuses _ _) e = record { receiver = refl; lent = refl; emits = refl; frame = refl; bytes = refl }
-  unchanged ignores e = absurd (not-refused tt e)
-  unchanged (announced _ _ a) e = absurd (not-refused (announced-taken a) e)
-  unchanged (informed _ _ _ i) e = absurd (not-refused (informed-taken i) e)
-  unchanged (closes _) e = absurd (not-refused tt e)
-  unchanged (short _) e = absurd (not-refused tt e)
-  unchanged (short-only _) e = absurd (not-refused tt e)
-
-  -- by 14 only an unclean frame
-  pub unclean : {f : Frame} {p : Phase} {h : told.Heard} → Hears s f buffer p h → h .told .outcome ≡ told.refused 14 → Unclean f p
+      → Unchanged (receiverIn s p) buffer h × (number ≡ 14 → Unclean f p)
   unfolding number-of
-  unclean (refuses number why) e = why (ap number-of e)
-  unclean ignores e = absurd (not-refused tt e)
-  unclean (announced _ _ a) e = absurd (not-refused (announced-taken a) e)
-  unclean (informed _ _ _ i) e = absurd (not-refused (informed-taken i) e)
-  unclean (closes _) e = absurd (not-refused tt e)
-  unclean (short _) e = absurd (not-refused tt e)
-  unclean (short-only _) e = absurd (not-refused tt e)
+  refused-so (refuses _ why) e = (
+    record { receiver = refl; lent = refl; emits = refl; frame = refl; bytes = refl },
+    λ is. why (ap number-of e ∙ is),
+  )
+  refused-so ignores e = absurd (not-refused tt e)
+  refused-so (announced _ _ a) e = absurd (not-refused (announced-taken a) e)
+  refused-so (informed _ _ _ i) e = absurd (not-refused (informed-taken i) e)
+  refused-so (closes _) e = absurd (not-refused tt e)
+  refused-so (short _) e = absurd (not-refused tt e)
+  refused-so (short-only _) e = absurd (not-refused tt e)
 
--- and every one: no test before it holds it back
+-- every unclean frame is refused by 14: no test before it holds it back
 judged : (s : Settings) (p : Phase) (f : Frame) (buffer : List ℕ) → length (f .bytes) ≡ 8 → length buffer ≡ 1785 → Unclean f p
     → hearOf (receiverIn s p) f buffer .told .outcome ≡ told.refused 14
 unfolding hearOf hearRead hearKind hearUnlessHeld hearNumbered hearInformation informationOpen informationExpected pick
@@ -137,7 +131,7 @@ refusals =
       tick = λ r number e. not-refused (tick-taken (tick-does r)) e;
       hold = λ r number e. pause-unchanged (pause-does hold r) e;
       resume = λ r number e. pause-unchanged (pause-does resume r) e;
-      hear = λ r f buffer number e. unchanged (hear-does r f buffer) e;
-      unclean = λ r f buffer e. unclean (hear-does r f buffer) e;
+      hear = λ r f buffer number e. refused-so (hear-does r f buffer) e .0;
+      unclean = λ r f buffer e. refused-so (hear-does r f buffer) e .1 refl;
       judged = λ r f buffer eight whole u. judged (r .settings) (r .phase) f buffer eight whole u;
     }
