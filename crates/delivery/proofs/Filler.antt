@@ -3,13 +3,12 @@
 -- Assumes nothing.
 use Prim.Native.Nat.{ℕ, _≤_, _<_}
 use mathlib.Core.Bool.{true, false, false≢true}
-use mathlib.Core.List.{List, [], _∷_, _++_, append-nil}
+use mathlib.Core.List.{List, [], _∷_, append-nil}
 use mathlib.Core.Path.{_≡_, refl, sym, ap, _∙_, subst}
 use native.Mathlib.Nat.{le-refl}
 use native.Mathlib.Omega.{arith}
 use borrow.Author.Tests.{leb-false, eqb-true}
-use lib.Dec.{eqb}
-use lib.ListN.{length, take}
+use lib.ListN.{length}
 use Rattle.frame.proofs.Choice.{pick-elim}
 use Rattle.frame.proofs.Inverse.{written-clean}
 use Rattle.frame.proofs.Laws.{word-whole}
@@ -29,7 +28,7 @@ use Rattle.sender.proofs.Choices.{limit-elim, begin-elim, lent-elim, over-elim,
 use Rattle.sender.specs.Begin.{beginOf, beginShort, beginLong}
 use Rattle.sender.specs.Hear.{hearOf, hearAck, hearNack, hearEnd, hearShortAck, ackOpening, ackWindow, ackBelow, taking, takingHold, ifWhole, ifFirst}
 use Rattle.sender.specs.Tick.{informationAt, tickOf, lentTo, tickPhase, tickOpening, tickSending, tickWaiting, tickShort, afterFrame}
-use Rattle.sender.specs.Told.{Told, silently}
+use Rattle.sender.specs.Told.{Told}
 use Rattle.sender.specs.declared.Phase.{Phase}
 use Rattle.sender.specs.declared.Phase.the-variants.{Idle, Opening, Sending, Waiting, Short}
 use Rattle.sender.specs.declared.Sender.{Sender}
@@ -37,7 +36,7 @@ use Rattle.sender.specs.declared.Settings.{Settings}
 use Rattle.sender.specs.declared.Streamed.{Streamed}
 use Rattle.sender.specs.declared.Transfer.{Transfer}
 use Rattle.delivery.proofs.Climbs.{cut-line, drop-line}
-use Rattle.delivery.proofs.Keeps.{AfterSender, AfterReceiver, Keeps, Asks, Holds, Steps, kept-step, capped-step, from-fresh}
+use Rattle.delivery.proofs.Keeps.{AfterSender, Keeps, Holds, Steps, kept-step, capped-step, from-fresh}
 use Rattle.delivery.proofs.Lines.{Line, none, more, joins}
 use Rattle.delivery.proofs.Moves.{left-line}
 use Rattle.delivery.proofs.Stages.{senderIn}
@@ -45,10 +44,10 @@ use Rattle.delivery.specs.Demand3.{Conditions}
 use Rattle.delivery.specs.Filler.{HeardClean, AllClean, CleanAfter, NeverUncleanOn, NeverUnclean}
 use Rattle.delivery.specs.Run as runs
 use Rattle.delivery.specs.Run.{Past, fresh, next, runOf}
-use Rattle.delivery.specs.Seen.{taken, Sort, begins, ticksSender, ticksReceiver, holdsReceiver, other, sortOf}
+use Rattle.delivery.specs.Seen.{taken}
 use Rattle.transport.specs.Capped.{cappedStep}
-use Rattle.transport.specs.Step.{emission, Rest, leaving, dropped, stepOf}
-use Rattle.transport.specs.World.{Call, Given, nobody, toSender, toReceiver}
+use Rattle.transport.specs.Step.{stepOf}
+use Rattle.transport.specs.World.{Call, Given}
 
 -- ---- one length
 
@@ -71,7 +70,7 @@ record Of (l : ℕ) (f : Frame) : Type 0 where
   announces : f .kind ≡ 1 → byteOf f 0 ≡ 0 → wordAt f 2 3 ≡ l
   clean : cleanFor f l ≡ true
 
-record Filled (p : Phase) (q : receiver-phase.Phase) (forward back : List Frame) : Type 0 where
+record OneLength (p : Phase) (q : receiver-phase.Phase) (forward back : List Frame) : Type 0 where
   l : ℕ
   small : l < 65536
   sends : Sends l p
@@ -87,7 +86,10 @@ announcement-of l frames n same small = record { announces = λ _ _. word-whole 
 information-of : (l number : ℕ) (m : List ℕ) → length m ≡ l → 1 ≤ number → Of l (informationAt number m)
 unfolding informationOf
 information-of l number m same low =
-    record { announces = λ _ zero. absurd (omega arith); clean = subst (λ (n : ℕ). cleanFor (informationAt number m) n ≡ true) same (written-clean number m) }
+    record {
+      announces = λ _ zero. absurd (omega arith);
+      clean = subst (λ (n : ℕ). cleanFor (informationAt number m) n ≡ true) same (written-clean number m);
+    }
 
 nack-of : (l cause : ℕ) → Of l (lmNackOf cause)
 unfolding lmNackOf cleanFor pick
@@ -185,9 +187,9 @@ module _ (st : Settings) (l : ℕ) (small : l < 65536) where
       (pick-elim P _ (λ _. goes tt refl) (λ _. goes tt refl))
 
 -- after such a call
-after-does : {q : receiver-phase.Phase} {forward back left : List Frame} {p : Phase} {a : Told} (k : Filled p q forward back)
+after-does : {q : receiver-phase.Phase} {forward back left : List Frame} {p : Phase} {a : Told} (k : OneLength p q forward back)
     → Does (k .l) a
-    → AfterSender Filled q forward left a
+    → AfterSender OneLength q forward left a
 after-does k (goes s e) =
     record { l = k .l; small = k .small; sends = s; awaits = k .awaits; line = rw (e, append-nil) (k .line) }
 after-does k (adds s e o) =
@@ -201,14 +203,16 @@ shut-awaits l (at.Open x) s = absurd s
 
 sender-begins : {p : Phase} {q : receiver-phase.Phase} {forward back : List Frame} (st : Settings) (m : List ℕ)
     → (taken (beginOf (senderIn st p) m .outcome) ≡ true → Shut q × (forward ≡ []) × (back ≡ []))
-    → Filled p q forward back
-    → AfterSender Filled q forward back (beginOf (senderIn st p) m)
+    → OneLength p q forward back
+    → AfterSender OneLength q forward back (beginOf (senderIn st p) m)
 unfolding beginShort beginLong
 sender-begins {p} {q} {forward} {back} st m found k =
-    begin-elim (λ (a : Told). (taken (a .outcome) ≡ true → Shut q × (forward ≡ []) × (back ≡ [])) → AfterSender Filled q forward back a)
+    begin-elim
+    (λ (a : Told). (taken (a .outcome) ≡ true → Shut q × (forward ≡ []) × (back ≡ [])) → AfterSender OneLength q forward back a)
     (senderIn st p) m
     (λ number _. rw append-nil k)
-    (λ _ few clear. record { l = k .l; small = k .small; sends = tt; awaits = k .awaits; line = joins (k .line) (short-of (k .l) m) })
+    (λ _ few clear.
+    record { l = k .l; small = k .small; sends = tt; awaits = k .awaits; line = joins (k .line) (short-of (k .l) m) })
     (λ _ high clear.
     let empty = clear refl in
     let short : length m < 65536 = omega arith in
@@ -231,7 +235,8 @@ ticked l (view.retries _ _) a = a
 ticked l (view.repeats _ _ _) a = a
 ticked l view.expires a = tt
 
-paused : (l : ℕ) {rs : receiver-settings.Settings} {q : receiver-phase.Phase} {k : view.Pause} {t : receiver.Told} → Pauses rs k q t
+paused : (l : ℕ) {rs : receiver-settings.Settings} {q : receiver-phase.Phase} {k : view.Pause} {t : receiver.Told}
+    → Pauses rs k q t
     → Awaits l q
     → Awaits l (t .next .phase)
 paused l view.denied a = a
@@ -275,35 +280,29 @@ Any o = Unit
 abbrev Says : Sender → Given → receiver.Outcome → Type 0
 Says s g o = HeardClean g o
 
-fills : Keeps Filled Any Says
+-- the sender's transfer goes on
+beside : {p : Phase} {q r : receiver-phase.Phase} {forward back left after : List Frame} (k : OneLength p q forward back)
+    → Awaits (k .l) r
+    → Line (Of (k .l)) left
+    → OneLength p r left after
+beside k a l = record { l = k .l; small = k .small; sends = k .sends; awaits = a; line = l }
+
+fills : Keeps OneLength Any Says
 fills =
     record {
       sender-begins = λ st m. sender-begins st m;
       sender-ticks = λ {p} st m k. after-does k (ticks st (k .l) (k .small) p (k .sends) m);
       sender-hears = λ {p} {f = f} st r k. after-does k (hears st (k .l) (k .small) p (k .sends) f);
-      receiver-ticks = λ k v. record { l = k .l; small = k .small; sends = k .sends; awaits = ticked (k .l) v (k .awaits); line = k .line };
-      receiver-pauses = λ _ k v. record { l = k .l; small = k .small; sends = k .sends; awaits = paused (k .l) v (k .awaits); line = k .line };
-      receiver-hears = λ r k v. record {
-        l = k .l;
-        small = k .small;
-        sends = k .sends;
-        awaits = heard v (first (k .line)) (k .awaits);
-        line = left-line r (k .line);
-      };
-      loses-forward = λ {forward = forward} k. record { l = k .l; small = k .small; sends = k .sends; awaits = k .awaits; line = drop-line forward (k .line) };
-      loses-back = λ k. record { l = k .l; small = k .small; sends = k .sends; awaits = k .awaits; line = k .line };
-      cut = λ n k. record { l = k .l; small = k .small; sends = k .sends; awaits = k .awaits; line = cut-line n (k .line) };
+      receiver-ticks = λ k v. beside k (ticked (k .l) v (k .awaits)) (k .line);
+      receiver-pauses = λ _ k v. beside k (paused (k .l) v (k .awaits)) (k .line);
+      receiver-hears = λ r k v. beside k (heard v (first (k .line)) (k .awaits)) (left-line r (k .line));
+      loses-forward = λ {forward = forward} k. beside k (k .awaits) (drop-line forward (k .line));
+      loses-back = λ k. beside k (k .awaits) (k .line);
+      cut = λ n k. beside k (k .awaits) (cut-line n (k .line));
       says-nobody = λ s o. tt;
       says-sender = λ s o k. tt;
       says-receiver = λ {q} {f} s k v e. never (k .l) f q (first (k .line)) (k .awaits) (refused-so v e .1 refl);
     }
-
-free : (s : Sort) (o : receiver.Outcome) → Asks Any s o
-free (begins message) o = tt
-free ticksSender o = tt
-free ticksReceiver o = tt
-free holdsReceiver o = tt
-free other o = tt
 
 module _ (rs : receiver-settings.Settings) (pos : 1 ≤ rs .timeout) (small : rs .timeout ≤ 10000) where
   run : (line : runs.Line) → Steps fills rs pos small line → (calls : List Call) (p : Past)
@@ -314,10 +313,11 @@ module _ (rs : receiver-settings.Settings) (pos : 1 ≤ rs .timeout) (small : rs
   unfolding Steps runOf
   run line k [] p h c d = c
   run line k (call ∷ calls) p h c d =
-      let a = k (p .world) (p .events) h call (d .0) (free (sortOf call) (line (p .world) call .event .receiver)) in
+      let a = k (p .world) (p .events) h call (d .0) (λ _. tt) in
       run line k calls (next line p call) (a .0 .holds) (a .0 .says, c) (d .1)
 
-never-unclean-on : (line : runs.Line) → ((rs : receiver-settings.Settings) (pos : 1 ≤ rs .timeout) (small : rs .timeout ≤ 10000) → Steps fills rs pos small line)
+never-unclean-on : (line : runs.Line)
+    → ((rs : receiver-settings.Settings) (pos : 1 ≤ rs .timeout) (small : rs .timeout ≤ 10000) → Steps fills rs pos small line)
     → NeverUncleanOn line
 never-unclean-on line k =
     from-fresh fills (record { l = 0; small = omega arith; sends = tt; awaits = tt; line = none }) (CleanAfter line)

@@ -29,7 +29,7 @@ use Rattle.delivery.proofs.Theorem.{resume-no-hold, limits-of, SenderMa
 use Rattle.delivery.proofs.Timing.{Timed, before, between, during, timed-later, tick-timed, pause-timed, hear-timed}
 use Rattle.delivery.specs.Demand3.{Condition}
 use Rattle.delivery.specs.Run.{Line, Past, fresh, FromFresh}
-use Rattle.delivery.specs.Seen.{taken, Sort, begins, ticksSender, ticksReceiver, holdsReceiver, other, sortOf, Opened, openedIn, openedAfter, idle}
+use Rattle.delivery.specs.Seen.{taken, holdsReceiver, other, sortOf, Opened, openedIn, openedAfter, idle}
 use Rattle.transport.proofs.Events.{call-of}
 use Rattle.transport.specs.Capped.{capped, cappedStep}
 use Rattle.transport.specs.Step.{Stepped, emission, unheard, Rest, gone, still, leaving, dropped, givenForward, givenBack, stepOf}
@@ -55,7 +55,8 @@ AfterReceiver K p forward back t = K p (t .next .phase) forward (back ++ emissio
 
 -- Every call keeps it. Holding is what is asked of a hold; Says is what is said of a hearing, by the sender that it found, the
 -- frame that was given and the receiver's outcome.
-pub record Keeps (K : Kept) (Holding : receiver.Outcome → Type 0) (Says : Sender → Given → receiver.Outcome → Type 0) : Type 0 where
+pub record Keeps (K : Kept) (Holding : receiver.Outcome → Type 0)
+    (Says : Sender → Given → receiver.Outcome → Type 0) : Type 0 where
   pub sender-begins : {p : Phase} {q : receiver-phase.Phase} {forward back : List Frame} (st : Settings) (m : List ℕ)
       → (taken (beginOf (senderIn st p) m .outcome) ≡ true → Shut q × (forward ≡ []) × (back ≡ []))
       → K p q forward back
@@ -77,8 +78,8 @@ pub record Keeps (K : Kept) (Holding : receiver.Outcome → Type 0) (Says : Send
       → K p q forward back
       → Pauses rs k q t
       → AfterReceiver K p forward back t
-  pub receiver-hears : {p : Phase} {q : receiver-phase.Phase} {f : Frame} {rest back : List Frame} {rs : receiver-settings.Settings}
-      {lent : List ℕ} {h : receiver.Heard} (k : Rest)
+  pub receiver-hears : {p : Phase} {q : receiver-phase.Phase} {f : Frame} {rest back : List Frame}
+      {rs : receiver-settings.Settings} {lent : List ℕ} {h : receiver.Heard} (k : Rest)
       → K p q (f ∷ rest) back
       → Hears rs f lent q h
       → AfterReceiver K p (leaving k f rest) back (h .told)
@@ -97,14 +98,6 @@ pub record Keeps (K : Kept) (Holding : receiver.Outcome → Type 0) (Says : Send
       → K (s .phase) q (f ∷ rest) back
       → Hears rs f lent q h
       → Says s (toReceiver f) (h .told .outcome)
-
--- what is asked of a call: of a hold
-abbrev pub Asks : (receiver.Outcome → Type 0) → Sort → receiver.Outcome → Type 0
-Asks Holding (begins message) o = Unit
-Asks Holding ticksSender o = Unit
-Asks Holding ticksReceiver o = Unit
-Asks Holding holdsReceiver o = Holding o
-Asks Holding other o = Unit
 
 module _ {K : Kept} {Holding : receiver.Outcome → Type 0} {Says : Sender → Given → receiver.Outcome → Type 0}
     (all : Keeps K Holding Says)
@@ -159,7 +152,7 @@ module _ {K : Kept} {Holding : receiver.Outcome → Type 0} {Says : Sender → G
 
   step : (w : World) (events : List Event) → Holds w events → (c : Call)
       → Condition (record { world = w; events = events }) c (stepOf w c .event)
-      → Asks Holding (sortOf c) (stepOf w c .event .receiver)
+      → (sortOf c ≡ holdsReceiver → Holding (stepOf w c .event .receiver))
       → After events w (stepOf w c)
   unfolding stepOf openedIn openedAfter pick
   step w events h (begin m) d n =
@@ -191,7 +184,7 @@ module _ {K : Kept} {Holding : receiver.Outcome → Type 0} {Says : Sender → G
       record {
         holds =
             record {
-              kept = all .receiver-pauses (λ _. n) (h .kept) (pause-does view.hold (w .receiver));
+              kept = all .receiver-pauses (λ _. n refl) (h .kept) (pause-does view.hold (w .receiver));
               timed = pause-timed rs pos small view.hold (h .timed);
             };
         says = all .says-nobody (w .sender) _;
@@ -219,7 +212,7 @@ module _ {K : Kept} {Holding : receiver.Outcome → Type 0} {Says : Sender → G
   Steps line =
       (w : World) (events : List Event) → Holds w events → (c : Call)
       → Condition (record { world = w; events = events }) c (line w c .event)
-      → Asks Holding (sortOf c) (line w c .event .receiver)
+      → (sortOf c ≡ holdsReceiver → Holding (line w c .event .receiver))
       → After events w (line w c) × (line w c .event .call ≡ c)
 
   pub kept-step : Steps stepOf
@@ -242,7 +235,8 @@ module _ {K : Kept} {Holding : receiver.Outcome → Type 0} {Says : Sender → G
 module _ {K : Kept} {Holding : receiver.Outcome → Type 0} {Said : Sender → Given → receiver.Outcome → Type 0}
     (all : Keeps K Holding Said) (start : K Idle at.Idle [] []) (Says : Past → List Call → Type 0) where
   made : (gap timeout limit patience window capacity : ℕ) {s : Sender} {r : Receiver}
-      → ((rs : receiver-settings.Settings) (pos : 1 ≤ rs .timeout) (small : rs .timeout ≤ 10000) (buffer : List ℕ) (calls : List Call)
+      → ((rs : receiver-settings.Settings) (pos : 1 ≤ rs .timeout) (small : rs .timeout ≤ 10000)
+      (buffer : List ℕ) (calls : List Call)
       → Holds all rs pos small (fresh s r buffer .world) []
       → Says (fresh s r buffer) calls)
       → SenderMade gap timeout limit s

@@ -1,7 +1,7 @@
--- The rule of a hold is never met where none is accepted. What `Climbs` keeps, and the receiver's time, hold from the start
--- on along every such list of calls, on either line: a frame that the line drops only shortens a list.
+-- The rule of a hold is never met where none is accepted: what `Climbs` says is kept by every call, and so (`Keeps`) along
+-- every such list.
 -- Assumes nothing.
-use Prim.Native.Nat.{ℕ, _≤_}
+use Prim.Native.Nat.{_≤_}
 use mathlib.Core.Bool.{true, false}
 use mathlib.Core.List.{List, [], _∷_}
 use mathlib.Core.Path.{_≡_, refl}
@@ -16,7 +16,7 @@ use Rattle.receiver.specs.declared.Settings as receiver-settings
 use Rattle.sender.specs.Hear.{ackBelow}
 use Rattle.sender.specs.declared.Sender.{Sender}
 use Rattle.delivery.proofs.Climbs.{Climb, off, sender-ticks, sender-hears, sender-begins, receiver-ticks, receiver-pauses, receiver-hears, cut, loses-forward, loses-back, unmet}
-use Rattle.delivery.proofs.Keeps.{Keeps, Asks, Holds, Steps, kept-step, capped-step, from-fresh}
+use Rattle.delivery.proofs.Keeps.{Keeps, Holds, Steps, kept-step, capped-step, from-fresh}
 use Rattle.delivery.proofs.Theorem.{unheld-after}
 use Rattle.delivery.proofs.Timing.{Timed, before, between, during}
 use Rattle.delivery.specs.Clean.{CallsMeet}
@@ -70,13 +70,6 @@ climbs =
       says-receiver = λ s c v. tt;
     }
 
-asked : (s : Sort) (o : receiver.Outcome) → NoHoldBy s o → Asks Refused s o
-asked (begins message) o n = n
-asked ticksSender o n = n
-asked ticksReceiver o n = n
-asked holdsReceiver o n = n
-asked other o n = n
-
 module _ (rs : receiver-settings.Settings) (pos : 1 ≤ rs .timeout) (small : rs .timeout ≤ 10000) where
   run : (line : Line) → Steps climbs rs pos small line → (calls : List Call) (p : Past)
       → Holds climbs rs pos small (p .world) (p .events)
@@ -87,12 +80,13 @@ module _ (rs : receiver-settings.Settings) (pos : 1 ≤ rs .timeout) (small : rs
   run line k [] p h u d = (tt, u)
   run line k (c ∷ calls) p h u d =
       let e = line (p .world) c .event in
-      let a = k (p .world) (p .events) h c (d .0) (asked (sortOf c) (e .receiver) (d .1)) in
+      let a = k (p .world) (p .events) h c (d .0) (λ is. rw is at (d .1)) in
       let none : pausesBy (sortOf (e .call)) (e .receiver) ≡ 0 = rw (a .1) (no-pause (sortOf c) (e .receiver) (d .1)) in
       let rest = run line k calls (next line p c) (a .0 .holds) (unheld-after e (openedIn (p .events)) none u) (d .2) in
       ((a .0 .says, unheld (h .timed) u, rest .0), rest .1)
 
-never-met-on : (line : Line) → ((rs : receiver-settings.Settings) (pos : 1 ≤ rs .timeout) (small : rs .timeout ≤ 10000) → Steps climbs rs pos small line)
+never-met-on : (line : Line)
+    → ((rs : receiver-settings.Settings) (pos : 1 ≤ rs .timeout) (small : rs .timeout ≤ 10000) → Steps climbs rs pos small line)
     → NeverMetOn line
 unfolding openedIn
 never-met-on line k =

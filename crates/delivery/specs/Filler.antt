@@ -1,7 +1,7 @@
 -- Document 02, E3: what is promised of sent messages stays for a sender that fills as document 01 says. Ours does, so that in a
 -- list of calls that meets the conditions of demand 3 no hearing is refused 14, and demand 3 speaks of the same hearings as
--- before. Of these conditions one is needed: where a begin may find a connection open, or frames of an earlier message on the
--- line, that connection can hear the full last frame of a longer message.
+-- before. Of these conditions it needs what is asked of an accepted begin, that the receiver is idle and forward empty: else a
+-- connection may hear frame N of another message, a longer one, with bytes of it where filler is due.
 use mathlib.Core.List.{List, [], _∷_}
 use mathlib.Core.Path.{_≡_}
 use Rattle.receiver.specs.Told as receiver

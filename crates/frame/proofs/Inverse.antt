@@ -4,7 +4,7 @@
 -- Assumes nothing.
 use Prim.Native.Nat.{ℕ, zero, suc, _-_, _*_, _<_, _≤_}
 use mathlib.Core.Path.{_≡_, refl, sym, ap, _∙_, subst}
-use mathlib.Core.Bool.{Bool, true, false, _&&_, and-eq-true-iff}
+use mathlib.Core.Bool.{Bool, true, _&&_, and-eq-true-iff}
 use mathlib.Core.List.{List, [], _∷_}
 use native.Mathlib.Omega.{arith}
 use borrow.Author.Tests.{ne-eqb, le-leb, leb-true, eqb-true}
@@ -13,7 +13,8 @@ use lib.ListN.{length, getD, take, drop, replicate, length-drop}
 use Rattle.frame.specs.Choice.{pick}
 use Rattle.frame.specs.Content.{Content, announcement, information, lmAck, lmNack, endOfAck, smRm, smAck, smUrm, Fits, kindOf, written, contentOf}
 use Rattle.frame.specs.Frames.{byteOf, fillTo, partFrom, carried, announcementOf, informationOf, lmAckOf, lmNackOf, endOfAckOf, smRmOf, smUrmOf, smAckOf}
-use Rattle.frame.specs.Reading.{toldReading, namedOf, allFiller, hasPart, cleanFor, parsedOf, readOf}
+use Rattle.frame.specs.Reading.{toldReading, namedOf, allFiller, hasPart, cleanFor, noLength, readOf}
+use Rattle.frame.specs.RoundTrips.{ReadBack, RoundTrips}
 use Rattle.frame.specs.Result.{Result, accepted, refused}
 use Rattle.frame.specs.declared.Frame.{Frame}
 use Rattle.frame.specs.declared.Parsed.{Parsed}
@@ -31,31 +32,25 @@ pub told-injective : (r : Reading) → untoldReading (toldReading r) ≡ r
 told-injective (Read parsed) = refl
 told-injective (Refused number) = refl
 
--- What is written has its kind, is not refused, whatever the length that it is read for, and is read with its fields.
-pub record ReadBack (c : Content) : Type 0 where
-  pub kind : written c .kind ≡ kindOf c
-  pub read : (l : ℕ) → readOf (written c) l ≡ accepted (parsedOf (written c) l)
-  pub content : contentOf (written c) ≡ c
-
 pub read-written : (c : Content) → Fits c → ReadBack c
 unfolding readOf contentOf namedOf allFiller pick announcementOf informationOf lmAckOf lmNackOf endOfAckOf smRmOf smUrmOf smAckOf
 read-written (announcement frames l) fits =
-    record { kind = refl; read = λ l. refl; content = ap (λ (w : ℕ). announcement frames w) (word-whole l fits) }
+    record { kind = refl; read = λ _. refl; content = ap (λ (w : ℕ). announcement frames w) (word-whole l fits) }
 read-written (information number bytes) fits =
     record {
       kind = refl;
-      read = λ l. rw (ne-eqb number 0 (omega arith), fill 7);
+      read = λ _. rw (ne-eqb number 0 (omega arith), fill 7);
       content = rw (ne-eqb number 0 (omega arith)) (ap (λ (s : List ℕ). information number s) (fill-whole 7 bytes (fits .1)));
     }
-read-written (lmAck start count) fits = record { kind = refl; read = λ l. refl; content = refl }
-read-written (lmNack cause) fits = record { kind = refl; read = λ l. refl; content = refl }
+read-written (lmAck start count) fits = record { kind = refl; read = λ _. refl; content = refl }
+read-written (lmNack cause) fits = record { kind = refl; read = λ _. refl; content = refl }
 read-written (endOfAck frames l) fits =
-    record { kind = refl; read = λ l. refl; content = ap (λ (w : ℕ). endOfAck frames w) (word-whole l fits) }
+    record { kind = refl; read = λ _. refl; content = ap (λ (w : ℕ). endOfAck frames w) (word-whole l fits) }
 read-written (smRm bytes) fits =
-    record { kind = refl; read = λ l. rw (fill 8); content = ap (λ (s : List ℕ). smRm s) (fill-whole 8 bytes fits) }
-read-written (smAck first) fits = record { kind = refl; read = λ l. refl; content = refl }
+    record { kind = refl; read = λ _. rw (fill 8); content = ap (λ (s : List ℕ). smRm s) (fill-whole 8 bytes fits) }
+read-written (smAck first) fits = record { kind = refl; read = λ _. refl; content = refl }
 read-written (smUrm bytes) fits =
-    record { kind = refl; read = λ l. rw (fill 8); content = ap (λ (s : List ℕ). smUrm s) (fill-whole 8 bytes fits) }
+    record { kind = refl; read = λ _. rw (fill 8); content = ap (λ (s : List ℕ). smUrm s) (fill-whole 8 bytes fits) }
 
 -- Bytes that passed as filler are 0xFF.
 pub filled : (s : List ℕ) → allFiller s ≡ true → s ≡ replicate (length s) 255
@@ -140,8 +135,7 @@ read-part number m low =
     let clean = written-clean number m in
     cc
 
--- A frame that the message fills has nothing behind it: every frame before the last, the last where L is a multiple of seven,
--- and for the longest message of 1785 bytes every frame, since a number is a byte.
+-- A frame that the message fills has nothing behind it.
 pub full-clean : (f : Frame) (l : ℕ) → length (f .bytes) ≡ 8 → 7 * byteOf f 0 ≤ l → cleanFor f l ≡ true
 unfolding cleanFor
 full-clean f l eight fits =
@@ -170,3 +164,14 @@ clean-written f l eight part clean = go (f .bytes) eight part clean
         let seven : length rest ≡ 7 = omega arith in
         let same = fill-restores (carried b l) rest filled in
         cc
+
+pub round-trips : RoundTrips
+round-trips =
+    record {
+      read-written = read-written;
+      written-read = λ f is. written-read f (is .eight) (is .bytes);
+      read-part = read-part;
+      clean-written = λ f is l. clean-written f l (is .eight);
+      full-clean = λ f is l. full-clean f l (is .eight);
+      none-awaited = λ f is. let small = is .bytes 0 in full-clean f noLength (is .eight) (omega arith);
+    }

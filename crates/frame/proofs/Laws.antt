@@ -159,7 +159,7 @@ module _ (f : Frame) (l : ℕ) where
     unfolding readOf pick
     read-unfilled t = rw (le-leb 1 (f .kind) low, le-leb (f .kind) 7 (omega arith), sym e, t)
 
-  -- of an information frame from number 1 on no byte is judged
+  -- of an information frame from number 1 on, 6 judges no byte
   pub read-information : f .kind ≡ 1 → 1 ≤ byteOf f 0 → length (f .bytes) ≡ 8 → readOf f l ≡ accepted (parsedOf f l)
   unfolding namedOf pick
   read-information one low eight =

@@ -37,7 +37,8 @@ informationOf number part = record { kind = 1; bytes = number ∷ fillTo 7 part 
 abbrev pub partFrom : ℕ → List ℕ → List ℕ
 partFrom number message = drop (7 * (number - 1)) message
 
--- how many bytes of a message of this length frame i carries: seven, in the last frame what is left of the length
+-- Frames, kind 1: how many bytes of a message of this length frame i carries: seven, in the last frame what is left of the
+-- length, past it none
 abbrev pub carried : ℕ → ℕ → ℕ
 carried number length = min 7 (length - 7 * (number - 1))
 

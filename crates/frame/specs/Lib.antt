@@ -4,3 +4,4 @@ pub mod Count
 pub mod Frames
 pub mod Reading
 pub mod Content
+pub mod RoundTrips

@@ -32,7 +32,7 @@ unfoldable pub allFiller : List ℕ → Bool
 allFiller [] = true
 allFiller (b ∷ bytes) = eqb b 255 && allFiller bytes
 
--- an information frame from number 1 on: it has message bytes in d1 to d7
+-- an information frame from number 1 on: its d1 to d7 are for message bytes
 abbrev pub hasPart : Frame → Bool
 hasPart f = eqb (f .kind) 1 && leb 1 (byteOf f 0)
 

@@ -55,8 +55,8 @@ fn clean(f: Frame, length: u16) -> bool
     true
 }
 
-// What a frame is, if its kind is one of the seven and its filler is as it must be; of its last frame's filler what there is
-// to tell for a message of this length.
+// What a frame is, if its kind is one of the seven and its filler is as it must be, and whether it is clean for a message of
+// this length.
 pub fn read(f: Frame, length: u16) -> Reading
     ensures { λ r. ⌜ toldReading r ≡ readOf f length ⌝ }
 {

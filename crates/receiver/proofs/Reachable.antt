@@ -215,6 +215,7 @@ within-exact r x w p =
       some = omega arith;
       part = omega arith;
       whole = omega arith;
+      full = λ more. omega arith;
     }
 
 pub reachable-exact : (r : Receiver) (x : Connection) → Reachable r → r .phase ≡ Open x → Exact r x

@@ -1,16 +1,20 @@
--- A refused call of the receiver changes nothing. By the view of its calls: one case of a hearing, and one of a hold or a resume, is a refusal, and it
--- answers the receiver and the buffer as they were; the outcome of every other case is none.
+-- A refused call of the receiver changes nothing, and by 14 it is refused where `Unclean` says. By the view of its calls: one case
+-- of a hearing, and one of a hold or a resume, is a refusal, and it answers the receiver and the buffer as they were; the
+-- outcome of every other case is none. That an unclean frame is refused is computed.
 -- Assumes nothing.
-use Prim.Native.Nat.{ℕ, _≤_}
+use Prim.Native.Nat.{ℕ}
 use mathlib.Core.Path.{_≡_, refl, sym, ap, _∙_, subst}
+use mathlib.Core.Bool.{false≢true}
 use mathlib.Core.List.{List, []}
 use native.Mathlib.Omega.{arith}
 use borrow.Author.Tests.{eq-eqb, ne-eqb, le-ltb}
 use lib.ListN.{length}
 use Rattle.frame.proofs.Choice.{pick-elim}
+use Rattle.frame.proofs.Inverse.{written-clean}
 use Rattle.frame.proofs.Laws.{read-information}
 use Rattle.frame.specs.Choice.{pick}
-use Rattle.frame.specs.Frames.{byteOf}
+use Rattle.frame.specs.Frames.{byteOf, partFrom, informationOf}
+use Rattle.frame.specs.Reading.{cleanFor}
 use Rattle.frame.specs.Result as result
 use Rattle.frame.specs.declared.Frame.{Frame}
 use Rattle.receiver.proofs.View.{receiverIn, Ticks, rests, waits, retries, repeats, expires, tick-does, Pause, hold, resume, Pauses, denied, holds, resumes, pause-does, Announced, nacks, opens, again, Informed, ended, above, delivers, asks, goes-on, Hears, refuses, ignores, announced, informed, closes, short, short-only, hear-does}
@@ -18,6 +22,7 @@ use Rattle.receiver.specs.Hear.{informationExpected, informationOpen, he
 use Rattle.receiver.specs.Make.{makeOf}
 use Rattle.receiver.specs.Refusals.{Unchanged, Unclean, Refusals}
 use Rattle.receiver.specs.Told as told
+use Rattle.receiver.specs.declared.Connection.{Connection}
 use Rattle.receiver.specs.declared.Phase.{Phase}
 use Rattle.receiver.specs.declared.Phase.the-variants.{Idle, Done, Open}
 use Rattle.receiver.specs.declared.Receiver.{Receiver}
@@ -124,6 +129,13 @@ judged s (Open x) f buffer eight whole (one, low, last, at, free, dirty) =
       dirty,
     )
 
+-- what is filled for the connection's length is clean for it
+filled : (x : Connection) (number : ℕ) (m : List ℕ) → x .length ≡ length m
+    → Unclean (informationOf number (partFrom number m)) (Open x)
+    → ⊥
+filled x number m same (_, _, _, _, _, dirty) =
+    false≢true (sym dirty ∙ ap (cleanFor (informationOf number (partFrom number m))) same ∙ written-clean number m)
+
 pub refusals : Refusals
 refusals =
     record {
@@ -134,4 +146,6 @@ refusals =
       hear = λ r f buffer number e. refused-so (hear-does r f buffer) e .0;
       unclean = λ r f buffer e. refused-so (hear-does r f buffer) e .1 refl;
       judged = λ r f buffer eight whole u. judged (r .settings) (r .phase) f buffer eight whole u;
+      filled = λ r x number m buffer is same e.
+          filled x number m same (rw is at (refused-so (hear-does r _ buffer) e .1 refl));
     }

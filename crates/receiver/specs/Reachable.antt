@@ -87,6 +87,8 @@ pub record Exact (r : Receiver) (x : Connection) : Type 0 where
   pub some : 1 ≤ carried (x .expected) (x .length)
   pub part : 7 * (x .expected - 1) + carried (x .expected) (x .length) ≤ x .length
   pub whole : 7 * (x .frames - 1) + carried (x .frames) (x .length) ≡ x .length
+  -- document 02, E3: every frame before the last is full, so that nothing in it could be unclean
+  pub full : x .expected < x .frames → carried (x .expected) (x .length) ≡ 7
 
 -- the claim: every receiver that making and calls bring about is within, and where it has an open connection, exact
 abbrev pub EveryReachable : Type 0
