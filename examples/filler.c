@@ -23,7 +23,8 @@ static void show(const char *end, kospelna_frame frame)
     printf("\n");
 }
 
-/* The card at the receiver. The wire carries the bytes up to the filler. */
+/* The card at the receiver. The wire carries the bytes up to the filler (so this card would spoil a message that ends in
+ * 0xFF). */
 static uint8_t card[8];
 
 static kospelna_frame through_card(kospelna_frame frame)

@@ -41,7 +41,7 @@ enum {
     KOSPELNA_REFUSAL_VERSIONS = 11,     /* version list, making a talker: not 1 to 8 strictly rising versions */
     KOSPELNA_REFUSAL_PACK = 12,         /* the player's run pack: no function here answers it */
     KOSPELNA_REFUSAL_HOLD = 13,         /* hold: no connection, frame 1 expected, or held already; resume: not held */
-    KOSPELNA_REFUSAL_FILLER = 14        /* receiver hears: the last frame, expected, has not 0xFF behind the message */
+    KOSPELNA_REFUSAL_FILLER = 14        /* receiver hears: the last frame, expected, has another byte than 0xFF behind the message */
 };
 
 /* Outcomes: what a call of an end or of a talker came to. */
@@ -259,7 +259,7 @@ kospelna_receiver_answer kospelna_receiver_resume(kospelna_receiver receiver);
  * place is inside it. A short message is delivered in the answer, in any phase: an SM_RM emits its SM_ACK, an SM_URM
  * nothing.
  *
- * Refused 5, then 6, then 7, then 14: frame N comes where it is expected and the transfer is not held, and a byte behind
+ * Refused 5, then 6, then 7, then 14. 14 is for frame N, where it is expected and the transfer is not held: a byte behind
  * the message in it is not 0xFF. The connection waits on as if nothing had come: its timeouts ask for frame N, which still
  * ends it once it comes filled with 0xFF, and the third in a row fails as ever. A last frame that is full of the message has
  * nothing to judge, and nothing is judged of frame N in any other state: before it is expected, while held, after the

@@ -182,19 +182,19 @@ static void other_refusals(void)
 {
     const kospelna_receiver open = expecting(nine, 2);
     const kospelna_frame dirty = from_card(nine);
-    kospelna_frame kind = dirty;
+    kospelna_frame other = dirty;
     must(refuses(kospelna_receiver_hear(open, dirty, buffer, sizeof buffer - 1), KOSPELNA_REFUSAL_BUFFER, open),
          "another buffer before old bytes");
-    kind.kind = 0;
-    must(refuses(hears(open, kind), KOSPELNA_REFUSAL_FRAME, open), "kind 0");
-    kind.kind = 8;
-    must(refuses(hears(open, kind), KOSPELNA_REFUSAL_FRAME, open), "kind 8");
-    kind.kind = KOSPELNA_KIND_LM_ENDOFACK;
-    must(refuses(hears(open, kind), KOSPELNA_REFUSAL_FRAME, open), "an EndofACK with old bytes");
+    other.kind = 0;
+    must(refuses(hears(open, other), KOSPELNA_REFUSAL_FRAME, open), "kind 0");
+    other.kind = 8;
+    must(refuses(hears(open, other), KOSPELNA_REFUSAL_FRAME, open), "kind 8");
+    other.kind = KOSPELNA_KIND_LM_ENDOFACK;
+    must(refuses(hears(open, other), KOSPELNA_REFUSAL_FRAME, open), "an EndofACK with old bytes");
     must(refuses(hears(open, endofack), KOSPELNA_REFUSAL_OTHER_END, open), "an EndofACK");
     must(refuses(hears(open, with(announcement, 7, 0)), KOSPELNA_REFUSAL_FRAME, open), "an announcement with old bytes");
-    kind.kind = KOSPELNA_KIND_SM_RM;
-    const kospelna_receiver_answer b = hears(open, kind);
+    other.kind = KOSPELNA_KIND_SM_RM;
+    const kospelna_receiver_answer b = hears(open, other);
     must(b.outcome == KOSPELNA_DELIVERED_SHORT && memcmp(b.bytes, dirty.bytes, 8) == 0 && same_receiver(b.next, open),
          "a short message with old bytes");
     must(stored(7), "the buffer over other refusals");

@@ -40,7 +40,7 @@ pub enum Content {
     /// Kind 1 with number 0: a transfer of l bytes in n frames is announced.
     Announcement { n: u8, l: u16 },
     /// Kind 1 with another number: the i-th seven bytes of the message; clean where only filler stands
-    /// behind its last byte. Of every other content the filler has been judged by reading.
+    /// behind its last byte. Of the other contents reading has judged the filler, or nobody does (5, 7).
     Information { i: u8, bytes: [u8; 7], clean: bool },
     /// Kind 2: c frames are asked for, from s on.
     LmAck { s: u8, c: u8 },

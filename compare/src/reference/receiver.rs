@@ -135,8 +135,8 @@ impl Receiver {
     }
 
     /// "hearing: 5 buffer not 1785 (receiver); 6 ...; 7 kind for the other end (... receiver 1, 3,
-    /// 5, 7)", in this order and before any look at the state; then 14, of a last frame that would be
-    /// taken.
+    /// 5, 7)", in this order, and of the state only the length looked at; then 14, of a last frame that
+    /// would be taken.
     pub fn hear(&mut self, heard: Frame, buffer: &mut [u8]) -> Result<Answer, Refused> {
         if buffer.len() != frame::BUFFER_LENGTH {
             return Err(refusal::BUFFER);

@@ -69,7 +69,7 @@ begin-1785 : (s : Sender) (message : List ℕ)
 unfolding table
 begin-1785 = cases-hold-of-all 4 (lit< tt)
 
--- and of E3: a last frame of 14 bytes has no filler, whatever its last byte is
+-- and of E3: the last frame of 14 bytes is full, so that a byte other than 0xFF in d7 is delivered
 last-14 : (r : Receiver) (message buffer : List ℕ) (byte : ℕ)
     → length message ≡ 14
     → ExpectsLast (r .phase) (length message)

@@ -32,7 +32,7 @@ pub data Long : Phase → Transfer → Type 0 where
   sending : (x : Streamed) → Long (Sending x) (x .transfer)
   waiting : (x : Awaited) → Long (Waiting x) (x .transfer)
 
--- a connection of this length and its N, in which frame N is expected and no hold stands; its other numbers are any
+-- a connection of this length and its N that expects its last frame and is not held; its other numbers are any
 abbrev pub ExpectsLast : receiver-phase.Phase → ℕ → Type 0
 ExpectsLast receiver-phases.Idle l = ⊥
 ExpectsLast (receiver-phases.Done x) l = ⊥

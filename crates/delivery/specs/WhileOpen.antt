@@ -1,7 +1,7 @@
 -- Where no hold is accepted, demand 3 asks more of its caller than its promise needs: a begin may find a connection open, so
 -- long as both lists are empty. The promise then holds all the same. An Opening sender goes on with LM_ACK 1 alone, so the
 -- open connection stands at its first frame if it gets any of the new message; and its EndofACK names its own N and L, so
--- that it says sent only where these are the new message's.
+-- that it says sent only where these are the new message's. (Where they are not, it may refuse the last frame by 14.)
 -- No hold is accepted, so that a connection's bound is that of `Unheld`.
 -- With a hold it does not hold: of an open connection that expects frame 2, a hold emits LM_ACK 1, 1. The Opening sender takes
 -- it, and after a resume the new message's frames from 2 on are delivered behind the old one's frame 1.

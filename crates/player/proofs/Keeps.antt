@@ -1,6 +1,6 @@
 -- The player's events are calls that meet the conditions of demand 3: one begin comes, at empty lines and to an idle
 -- receiver, and every call is lent the one message and the one buffer. So demand 3's promise holds of what is printed. None of
--- them is a hold, so that the rules for holds are never met.
+-- them is a hold, so that the rules for holds are never met; and no frame is refused 14.
 -- Assumes nothing.
 use Prim.Native.Nat.{ℕ}
 use mathlib.Core.Bool.{Bool, true, false}

@@ -1,6 +1,6 @@
 -- Demand 3 of what the player prints: its events are calls at a line of 64 that meet the conditions, so the promise holds of
 -- the events that it prints. And none of them is a hold: what document 02's E2 adds is never met, and each connection has its
--- report within the bound of one that was never held.
+-- report within the bound of one that was never held. Nor is any frame refused by E3's 14.
 use Prim.Native.Nat.{ℕ}
 use mathlib.Core.List.{List, [], _∷_}
 use mathlib.Core.Path.{_≡_}

@@ -1,5 +1,5 @@
--- What each call of the receiver does, one constructor for each effect, with what its tests found. A proof about every
--- call matches on these and unfolds no definition.
+-- What each call of the receiver does, one constructor for each effect, with what its tests found where a proof needs it. A
+-- proof about every call matches on these and unfolds no definition.
 -- Assumes nothing.
 use Prim.Native.Nat.{ℕ, _+_, _≤_, _<_}
 use mathlib.Core.Path.{_≡_, sym, _∙_}
