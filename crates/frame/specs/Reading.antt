@@ -1,6 +1,6 @@
 -- Document 01, Refusals, hearing, number 6: frames that cannot be read. Document 02, E3: whether the filler behind a message
 -- of a given length is clean.
-use Prim.Native.Nat.{ℕ}
+use Prim.Native.Nat.{ℕ, _+_}
 use mathlib.Core.Bool.{Bool, true, _&&_}
 use mathlib.Core.List.{List, [], _∷_}
 use lib.Dec.{eqb, leb}
@@ -45,6 +45,12 @@ cleanFor f length = pick (hasPart f) (allFiller (drop (carried (byteOf f 0) leng
 -- that every frame is clean
 abbrev pub noLength : ℕ
 noLength = 1785
+
+-- the bytes of a frame that are not filler, from d0 on: those that its kind names; of an information frame from number 1 on its
+-- number and what it carries of a message of this length
+unfoldable pub usedOf : Frame → ℕ → ℕ
+usedOf f length =
+    pick (hasPart f) (1 + carried (byteOf f 0) length) (namedOf (f .kind) (byteOf f 0))
 
 -- what reading tells of a frame: its kind; d0, which is the number of an information frame; and whether it is clean
 abbrev pub parsedOf : Frame → ℕ → Parsed

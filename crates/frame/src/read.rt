@@ -1,7 +1,7 @@
 // Reading a frame: what is told of it for a message of a given length, or refusal 6.
 ghost use mathlib.Core.Path.{_≡_};
 ghost use lib.ListN.{drop};
-ghost use Rattle.frame.specs.Reading.{toldReading, namedOf, allFiller, hasPart, cleanFor, readOf};
+ghost use Rattle.frame.specs.Reading.{toldReading, namedOf, allFiller, hasPart, usedOf, readOf};
 ghost use Rattle.frame.specs.Result.{refusalOf};
 use crate::FILLER;
 use crate::Frame;
@@ -43,20 +43,19 @@ fn has_part(f: Frame) -> bool
     (f.kind == 1) & (1 <= f.bytes[0])
 }
 
-// Behind the message's last byte an information frame has nothing but filler, for a message of this length.
-fn clean(f: Frame, length: u16) -> bool
-    ensures { λ r. ⌜ r ≡ cleanFor f length ⌝ }
+// How many bytes of a frame are not filler, from d0 on, for a message of this length.
+fn used(f: Frame, length: u16) -> usize
+    ensures { λ r. ⌜ r ≡ usedOf f length ⌝ }
 {
-    let bytes = f.bytes;
+    let number = f.bytes[0];
     if has_part(f) {
-        let from = 1 + carried(bytes[0], length);
-        return all_filler(&bytes, from);
+        return 1 + carried(number, length);
     }
-    true
+    named(f.kind, number)
 }
 
-// What a frame is, if its kind is one of the seven and its filler is as it must be, and whether it is clean for a message of
-// this length.
+// What a frame is, if its kind is one of the seven and its filler is as it must be; of an information frame from number 1 on,
+// whose filler is not a reason to refuse it here, whether it is clean for a message of this length.
 pub fn read(f: Frame, length: u16) -> Reading
     ensures { λ r. ⌜ toldReading r ≡ readOf f length ⌝ }
 {
@@ -65,9 +64,9 @@ pub fn read(f: Frame, length: u16) -> Reading
     match kind {
         1..=7 => {
             let number = bytes[0];
-            let from = named(kind, number);
-            if all_filler(&bytes, from) {
-                let clean = clean(f, length);
+            let from = used(f, length);
+            let clean = all_filler(&bytes, from);
+            if clean | has_part(f) {
                 Reading::Read(Parsed {
                     kind,
                     number,
