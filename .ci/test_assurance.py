@@ -1,5 +1,5 @@
 #!/usr/bin/env python3
-"""Holds .ci/assurance to its word: the page as it is passes, and one with a mistake is told of it."""
+"""Holds .ci/assurance to its word: the page and the tree as they are pass, and what is wrong in one of them is told."""
 import os
 import re
 import shutil
@@ -11,14 +11,16 @@ import unittest
 ROOT = os.path.dirname(os.path.dirname(os.path.abspath(__file__)))
 
 
-def told_of(change):
-    """Status and lines for the tree with its page changed."""
+def told_of(change, without=None):
+    """Status and lines for the tree with its page changed, and without a file."""
     with tempfile.TemporaryDirectory() as folder:
         for part in os.listdir(ROOT):
-            if part in (".ci", "docs"):
+            if part in (".ci", "docs") or without and without.startswith(f"{part}/"):
                 shutil.copytree(f"{ROOT}/{part}", f"{folder}/{part}")
             elif not part.startswith("."):
                 os.symlink(f"{ROOT}/{part}", f"{folder}/{part}")
+        if without:
+            os.remove(f"{folder}/{without}")
         page = f"{folder}/docs/ASSURANCE.md"
         with open(page, encoding="utf-8") as file:
             text = file.read()
@@ -36,8 +38,8 @@ def swap(old, new):
 
 
 class Page(unittest.TestCase):
-    def wrong(self, change, said):
-        status, lines = told_of(change)
+    def wrong(self, change, said, without=None):
+        status, lines = told_of(change, without)
         self.assertEqual(status, 1, lines)
         self.assertIn(said, lines)
 
@@ -71,6 +73,15 @@ class Page(unittest.TestCase):
 
     def test_a_part_of_the_vectors_that_is_not_there(self):
         self.wrong(lambda text: text.replace("vectors: Group 71", "vectors: Group 81"), "no sample or test vectors: Group 81")
+
+    def test_a_counterexample_that_is_not_there(self):
+        for name in ("long_twice", "filler_buffer_refused", "filler_sent_unfilled"):
+            proof = f"crates/delivery/counterexamples/{name}.proof"
+            self.wrong(lambda text: text, f"{proof}: missing", proof)
+
+    def test_a_counterexample_without_its_edit(self):
+        said = "crates/delivery/counterexamples/filler_buffer_refused.proof: there is no such edit"
+        self.wrong(lambda text: text, said, "crates/delivery/edits/filler_buffer_refused.edit")
 
 
 if __name__ == "__main__":
