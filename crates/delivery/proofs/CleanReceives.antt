@@ -13,7 +13,7 @@ use Rattle.frame.proofs.Inverse.{written-clean}
 use Rattle.frame.proofs.Laws.{increment-is, word-whole, length-fill, read-information}
 use Rattle.frame.specs.Choice.{pick}
 use Rattle.frame.specs.Frames.{fillTo, partFrom, announcementOf, informationOf, lmAckOf, endOfAckOf}
-use Rattle.frame.specs.Reading.{noLength, parsedOf, readOf, namedOf, allFiller}
+use Rattle.frame.specs.Reading.{longest, parsedOf, readOf, namedOf, allFiller}
 use Rattle.frame.specs.Result.{accepted}
 use Rattle.receiver.proofs.View.{receiverIn}
 use Rattle.receiver.specs.Hear.{announceIdle, announceOpen, hearAnnouncement, stored, storing, informationExpected, informationOpen, informationDone, hearInformation, hearNumbered, hearUnlessHeld, hearKind, hearRead, hearOf}
@@ -116,7 +116,7 @@ module _ (rs : Settings) (m : List ℕ) where
       ≡ heard (emitting (receiverIn rs (donePhase m)) (endOfAckOf (framesOf m) (length m))) buffer
   unfolding hearOf hearRead hearKind hearUnlessHeld hearNumbered hearInformation informationDone informationOf pick
   hears-delivered buffer held some =
-      rw (held, reads (framesOf m) noLength some, ne-eqb (framesOf m) 0 (omega arith), eq-eqb (framesOf m) (framesOf m) refl)
+      rw (held, reads (framesOf m) longest some, ne-eqb (framesOf m) 0 (omega arith), eq-eqb (framesOf m) (framesOf m) refl)
 
   -- the frame that is expected is stored
   hears-frame : (number last wait : ℕ) (buffer : List ℕ) → length buffer ≡ 1785 → 1 ≤ number → number ≤ framesOf m

@@ -41,7 +41,7 @@ use Rattle.delivery.proofs.Lines.{Line, none, more, joins}
 use Rattle.delivery.proofs.Moves.{left-line}
 use Rattle.delivery.proofs.Stages.{senderIn}
 use Rattle.delivery.specs.Demand3.{Conditions}
-use Rattle.delivery.specs.Filler.{HeardClean, AllClean, CleanAfter, NeverUncleanOn, NeverUnclean}
+use Rattle.delivery.specs.Filler.{HeardFilled, AllFilled, FilledAfter, NeverUncleanOn, NeverUnclean}
 use Rattle.delivery.specs.Run as runs
 use Rattle.delivery.specs.Run.{Past, fresh, next, runOf}
 use Rattle.delivery.specs.Seen.{taken}
@@ -278,7 +278,7 @@ abbrev Any : receiver.Outcome → Type 0
 Any o = Unit
 
 abbrev Says : Sender → Given → receiver.Outcome → Type 0
-Says s g o = HeardClean g o
+Says s g o = HeardFilled g o
 
 -- the sender's transfer goes on
 beside : {p : Phase} {q r : receiver-phase.Phase} {forward back left after : List Frame} (k : OneLength p q forward back)
@@ -307,9 +307,9 @@ fills =
 module _ (rs : receiver-settings.Settings) (pos : 1 ≤ rs .timeout) (small : rs .timeout ≤ 10000) where
   run : (line : runs.Line) → Steps fills rs pos small line → (calls : List Call) (p : Past)
       → Holds fills rs pos small (p .world) (p .events)
-      → AllClean (p .events)
+      → AllFilled (p .events)
       → Conditions line p calls
-      → AllClean (runOf line p calls .events)
+      → AllFilled (runOf line p calls .events)
   unfolding Steps runOf
   run line k [] p h c d = c
   run line k (call ∷ calls) p h c d =
@@ -320,7 +320,7 @@ never-unclean-on : (line : runs.Line)
     → ((rs : receiver-settings.Settings) (pos : 1 ≤ rs .timeout) (small : rs .timeout ≤ 10000) → Steps fills rs pos small line)
     → NeverUncleanOn line
 never-unclean-on line k =
-    from-fresh fills (record { l = 0; small = omega arith; sends = tt; awaits = tt; line = none }) (CleanAfter line)
+    from-fresh fills (record { l = 0; small = omega arith; sends = tt; awaits = tt; line = none }) (FilledAfter line)
     (λ rs pos small s r buffer calls h c. run rs pos small line (k rs pos small) calls (fresh s r buffer) h tt c)
 
 pub never-unclean : NeverUnclean

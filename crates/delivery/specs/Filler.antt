@@ -12,23 +12,23 @@ use Rattle.transport.specs.Step.{stepOf}
 use Rattle.transport.specs.World.{Call, Event, Given, nobody, toSender, toReceiver}
 
 -- if the receiver was given a frame, it did not refuse it by 14
-abbrev pub HeardClean : Given → receiver.Outcome → Type 0
-HeardClean nobody o = Unit
-HeardClean (toSender f) o = Unit
-HeardClean (toReceiver f) o = o ≡ receiver.refused 14 → ⊥
+abbrev pub HeardFilled : Given → receiver.Outcome → Type 0
+HeardFilled nobody o = Unit
+HeardFilled (toSender f) o = Unit
+HeardFilled (toReceiver f) o = o ≡ receiver.refused 14 → ⊥
 
 -- so at every event
-abbrev pub AllClean : List Event → Type 0
-AllClean [] = Unit
-AllClean (e ∷ past) = HeardClean (e .given) (e .receiver) × AllClean past
+abbrev pub AllFilled : List Event → Type 0
+AllFilled [] = Unit
+AllFilled (e ∷ past) = HeardFilled (e .given) (e .receiver) × AllFilled past
 
 -- of a list of calls, on a line, that meets the conditions of demand 3
-abbrev pub CleanAfter : Line → Past → List Call → Type 0
-CleanAfter line p calls = Conditions line p calls → AllClean (runOf line p calls .events)
+abbrev pub FilledAfter : Line → Past → List Call → Type 0
+FilledAfter line p calls = Conditions line p calls → AllFilled (runOf line p calls .events)
 
 -- from fresh ends on
 abbrev pub NeverUncleanOn : Line → Type 0
-NeverUncleanOn line = FromFresh (CleanAfter line)
+NeverUncleanOn line = FromFresh (FilledAfter line)
 
 -- on the line that keeps every frame, and at a line of 64
 pub record NeverUnclean : Type 0 where

@@ -13,7 +13,7 @@ use lib.ListN.{length, getD, take, drop, replicate, length-drop}
 use Rattle.frame.specs.Choice.{pick}
 use Rattle.frame.specs.Content.{Content, announcement, information, lmAck, lmNack, endOfAck, smRm, smAck, smUrm, Fits, kindOf, written, contentOf}
 use Rattle.frame.specs.Frames.{byteOf, fillTo, partFrom, carried, announcementOf, informationOf, lmAckOf, lmNackOf, endOfAckOf, smRmOf, smUrmOf, smAckOf}
-use Rattle.frame.specs.Reading.{toldReading, namedOf, allFiller, hasPart, cleanFor, noLength, readOf}
+use Rattle.frame.specs.Reading.{toldReading, namedOf, allFiller, hasPart, cleanFor, longest, readOf}
 use Rattle.frame.specs.RoundTrips.{ReadBack, RoundTrips}
 use Rattle.frame.specs.Result.{Result, accepted, refused}
 use Rattle.frame.specs.declared.Frame.{Frame}
@@ -173,5 +173,5 @@ round-trips =
       read-part = read-part;
       clean-written = λ f is l. clean-written f l (is .eight);
       full-clean = λ f is l. full-clean f l (is .eight);
-      none-awaited = λ f is. let small = is .bytes 0 in full-clean f noLength (is .eight) (omega arith);
+      none-awaited = λ f is. let small = is .bytes 0 in full-clean f longest (is .eight) (omega arith);
     }

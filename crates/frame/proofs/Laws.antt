@@ -2,13 +2,13 @@
 -- Assumes nothing.
 use Prim.Native.Nat.{ℕ, zero, suc, _+_, _*_, _<_, _≤_, min}
 use mathlib.Core.Path.{_≡_, refl, sym, ap, _∙_}
-use mathlib.Core.Bool.{Bool, true, false, _||_, or-false, and-eq-true-iff}
+use mathlib.Core.Bool.{Bool, true, false, and-false, and-eq-true-iff}
 use mathlib.Core.List.{List, [], _∷_, map}
 use native.Mathlib.Nat.{le-of-suc-le-suc, not-suc-le-zero}
 use native.Mathlib.Omega.{arith}
 use native.Mathlib.Numerals.{add-one}
 use borrow.Author.Needs.{length-unmapped}
-use borrow.Author.Tests.{le-leb, lt-leb, leb-true, ne-eqb, eqb-true}
+use borrow.Author.Tests.{le-leb, lt-leb, leb-true, eq-eqb, ne-eqb, eqb-true}
 use lib.Dec.{eqb}
 use lib.ListN.{length, getD, take, drop, drop-of-length-le, List·getD-eq-default}
 use lib.Seq.{drop-cons, drop-drop}
@@ -18,7 +18,7 @@ use Rattle.frame.specs.Frames.{byteOf, fillTo, carried}
 use Rattle.frame.specs.Reading.{namedOf, allFiller, hasPart, cleanFor, usedOf, parsedOf, readOf}
 use Rattle.frame.specs.Result.{accepted, refused}
 use Rattle.frame.specs.declared.Frame.{Frame}
-use Rattle.frame.proofs.Choice.{pick-true, pick-false, both-left, both-right, neither-left, neither-right}
+use Rattle.frame.proofs.Choice.{both-left, both-right}
 
 -- What N is: the least number of sevens that hold l.
 pub frame-count-bounds : (l : ℕ) → (l ≤ 7 * frameCountOf l) × (7 * frameCountOf l < l + 7)
@@ -128,17 +128,22 @@ pub filler-ends : (s : List ℕ) (i : ℕ) → length s ≤ i → allFiller (dro
 unfolding allFiller
 filler-ends s i h = rw (drop-of-length-le s h)
 
--- What a frame uses, by whether it has a part of a message.
-module _ (f : Frame) (l : ℕ) {part : Bool} (p : part ≡ hasPart f) where
-  pub used-part : {r count : ℕ} → r ≡ 1 + count → count ≡ carried (byteOf f 0) l → part ≡ true → r ≡ usedOf f l
-  unfolding usedOf
-  used-part e c t = pick-true _ (sym p ∙ t) (cc)
+-- What a frame uses, by its kind and its number.
+module _ (f : Frame) (l : ℕ) {r : ℕ} where
+  pub used-other : r ≡ namedOf (f .kind) (byteOf f 0) → (f .kind ≡ 1 → ⊥) → r ≡ usedOf f l
+  unfolding usedOf pick
+  used-other e other = rw (ne-eqb _ _ other) e
 
-  pub used-named : {r : ℕ} → r ≡ namedOf (f .kind) (byteOf f 0) → part ≡ false → r ≡ usedOf f l
-  unfolding usedOf
-  used-named e t = pick-false _ (sym p ∙ t) e
+  pub used-zero : r ≡ namedOf (f .kind) (byteOf f 0) → byteOf f 0 ≡ 0 → r ≡ usedOf f l
+  unfolding usedOf pick
+  used-zero e none = rw (lt-leb 1 (byteOf f 0) (omega arith), and-false (eqb (f .kind) 1)) e
 
-pub ruleset uses = (used-part, used-named)
+  pub used-part : {count : ℕ} → r ≡ 1 + count → count ≡ carried (byteOf f 0) l → f .kind ≡ 1 → (byteOf f 0 ≡ 0 → ⊥)
+      → r ≡ usedOf f l
+  unfolding usedOf pick
+  used-part e c one more = rw (eq-eqb _ _ one, le-leb 1 (byteOf f 0) (omega (arith, more))) (e ∙ ap (λ (n : ℕ). 1 + n) c)
+
+pub ruleset uses = (used-other, used-zero, used-part)
 
 -- Reading goes by the range of the kind, then by the filler.
 module _ (f : Frame) (l : ℕ) where
@@ -169,39 +174,39 @@ module _ (f : Frame) (l : ℕ) where
       sym (read-filled (omega arith) (omega arith) (sym (filler-ends (f .bytes) (namedOf (f .kind) (byteOf f 0)) (omega arith))) refl refl)
 
   -- One judgement serves both: of a frame with a part whether it is clean, of every other whether it is refused.
-  module _ {used : ℕ} {part : Bool} (low : 1 ≤ f .kind) (high : f .kind < 8) (p : part ≡ hasPart f) (u : used ≡ usedOf f l) where
-    told-part : {clean : Bool} → clean ≡ allFiller (drop used (f .bytes)) → length (f .bytes) ≡ 8 → hasPart f ≡ true
-        → accepted (record { kind = f .kind; number = byteOf f 0; clean = clean }) ≡ readOf f l
+  module _ {used : ℕ} {filled : Bool} (low : 1 ≤ f .kind) (high : f .kind < 8) (u : used ≡ usedOf f l)
+      (e : filled ≡ allFiller (drop used (f .bytes))) where
+    -- with a part: the bytes behind the message were judged
+    of-part : length (f .bytes) ≡ 8 → hasPart f ≡ true
+        → accepted (record { kind = f .kind; number = byteOf f 0; clean = filled }) ≡ readOf f l
     unfolding cleanFor usedOf pick
-    told-part {clean} e eight has =
+    of-part eight has =
         let one = eqb-true (f .kind) 1 (both-left _ _ has) in
         let from = leb-true 1 (byteOf f 0) (both-right (eqb (f .kind) 1) _ has) in
-        let behind : clean ≡ cleanFor f l = rw has (e ∙ rw (u, has, drop-drop)) in
+        let behind : filled ≡ cleanFor f l = rw has (e ∙ rw (u, has, drop-drop)) in
         ap (λ (c : Bool). accepted (record { kind = f .kind; number = byteOf f 0; clean = c })) behind
         ∙ sym (read-information one from eight)
 
-    told-other : {clean : Bool} → clean ≡ allFiller (drop used (f .bytes)) → clean ≡ true → hasPart f ≡ false
-        → accepted (record { kind = f .kind; number = byteOf f 0; clean = clean }) ≡ readOf f l
-    unfolding cleanFor usedOf pick
-    told-other {clean} e t none =
-        let named : clean ≡ allFiller (drop (namedOf (f .kind) (byteOf f 0)) (f .bytes)) = e ∙ rw (u, none) in
-        let whole : clean ≡ cleanFor f l = rw none t in
-        read-filled low high named whole t
-
-    pub read-told : {clean : Bool} → clean ≡ allFiller (drop used (f .bytes)) → length (map (λ (v : ℕ). v) (f .bytes)) ≡ 8
-        → (clean || part) ≡ true
-        → accepted (record { kind = f .kind; number = byteOf f 0; clean = clean }) ≡ readOf f l
-    read-told {clean} e eight t = go (hasPart f) refl
-      where
-        go : (b : Bool) → hasPart f ≡ b → accepted (record { kind = f .kind; number = byteOf f 0; clean = clean }) ≡ readOf f l
-        go true has = told-part e (length-unmapped ℕ (f .bytes) 8 eight) has
-        go false none = told-other e (sym (or-false clean) ∙ ap (λ (b : Bool). clean || b) (sym (p ∙ none)) ∙ t) none
-
-    pub read-dirty : {clean : Bool} → clean ≡ allFiller (drop used (f .bytes)) → (clean || part) ≡ false → refused 6 ≡ readOf f l
+    -- without one: those behind what the kind names
+    named-judged : hasPart f ≡ false → filled ≡ allFiller (drop (namedOf (f .kind) (byteOf f 0)) (f .bytes))
     unfolding usedOf pick
-    read-dirty {clean} e t =
-        let none : hasPart f ≡ false = sym p ∙ neither-right clean part t in
-        let named : clean ≡ allFiller (drop (namedOf (f .kind) (byteOf f 0)) (f .bytes)) = e ∙ rw (u, none) in
-        read-unfilled low high named (neither-left clean part t)
+    named-judged none = e ∙ rw (u, none)
 
-pub ruleset reads = (read-low, read-high, read-told, read-dirty)
+    pub read-clean : length (map (λ (v : ℕ). v) (f .bytes)) ≡ 8 → filled ≡ true
+        → accepted (record { kind = f .kind; number = byteOf f 0; clean = true }) ≡ readOf f l
+    unfolding cleanFor pick
+    read-clean eight t = go (hasPart f) refl
+      where
+        go : (b : Bool) → hasPart f ≡ b → accepted (record { kind = f .kind; number = byteOf f 0; clean = true }) ≡ readOf f l
+        go true has = rw t at (of-part (length-unmapped ℕ (f .bytes) 8 eight) has)
+        go false none = let whole : true ≡ cleanFor f l = rw none refl in read-filled low high (named-judged none) whole t
+
+    module _ {part : Bool} (p : part ≡ hasPart f) (d : filled ≡ false) where
+      pub read-unclean : length (map (λ (v : ℕ). v) (f .bytes)) ≡ 8 → part ≡ true
+          → accepted (record { kind = f .kind; number = byteOf f 0; clean = false }) ≡ readOf f l
+      read-unclean eight t = rw d at (of-part (length-unmapped ℕ (f .bytes) 8 eight) (sym p ∙ t))
+
+      pub read-dirty : part ≡ false → refused 6 ≡ readOf f l
+      read-dirty t = read-unfilled low high (named-judged (sym p ∙ t)) d
+
+pub ruleset reads = (read-low, read-high, read-clean, read-unclean, read-dirty)

@@ -41,10 +41,10 @@ hasPart f = eqb (f .kind) 1 && leb 1 (byteOf f 0)
 unfoldable pub cleanFor : Frame → ℕ → Bool
 cleanFor f length = pick (hasPart f) (allFiller (drop (carried (byteOf f 0) length) (drop 1 (f .bytes)))) true
 
--- the length that a frame is read for where no message is awaited, that of the longest message: no number goes past it, so
--- that every frame is clean
-abbrev pub noLength : ℕ
-noLength = 1785
+-- Frames, Lengths: that of the longest message. A frame is read for it where no message is awaited: no number goes past it,
+-- so that every frame is clean.
+abbrev pub longest : ℕ
+longest = 1785
 
 -- the bytes of a frame that are not filler, from d0 on: those that its kind names; of an information frame from number 1 on its
 -- number and what it carries of a message of this length

@@ -7,7 +7,7 @@ use mathlib.Core.Path.{_≡_}
 use lib.ListN.{length, getD, take, drop}
 use Rattle.frame.specs.Content.{Content, Fits, kindOf, written, contentOf}
 use Rattle.frame.specs.Frames.{byteOf, partFrom, carried, informationOf}
-use Rattle.frame.specs.Reading.{hasPart, cleanFor, noLength, parsedOf, readOf}
+use Rattle.frame.specs.Reading.{hasPart, cleanFor, longest, parsedOf, readOf}
 use Rattle.frame.specs.Result.{accepted}
 use Rattle.frame.specs.declared.Frame.{Frame}
 use Rattle.frame.specs.declared.Parsed.{Parsed}
@@ -37,4 +37,4 @@ pub record RoundTrips : Type 0 where
   -- a frame that the message fills has nothing behind it: each before the last, and the last where L is a multiple of seven
   pub full-clean : (f : Frame) → IsFrame f → (l : ℕ) → 7 * byteOf f 0 ≤ l → cleanFor f l ≡ true
   -- so that, where no message is awaited, every frame is clean
-  pub none-awaited : (f : Frame) → IsFrame f → cleanFor f noLength ≡ true
+  pub none-awaited : (f : Frame) → IsFrame f → cleanFor f longest ≡ true

@@ -6,8 +6,8 @@ pub mod read;
 // What stands in a byte that a kind does not name.
 const FILLER: u8 = 0xFF;
 
-// The length that a frame is read for where no message is awaited: the longest, behind which no frame has anything.
-pub const NO_LENGTH: u16 = 1785;
+// The length of the longest message. A frame is read for it where no message is awaited: no frame has anything behind it.
+pub const LONGEST: u16 = 1785;
 
 // A frame: its kind and its eight data bytes, d0 to d7. It is passed and returned by value.
 pub struct Frame {

@@ -47,15 +47,19 @@ fn has_part(f: Frame) -> bool
 fn used(f: Frame, length: u16) -> usize
     ensures { λ r. ⌜ r ≡ usedOf f length ⌝ }
 {
+    let kind = f.kind;
     let number = f.bytes[0];
-    if has_part(f) {
-        return 1 + carried(number, length);
+    if kind != 1 {
+        return named(kind, number);
     }
-    named(f.kind, number)
+    if number == 0 {
+        return named(kind, number);
+    }
+    1 + carried(number, length)
 }
 
-// What a frame is, if its kind is one of the seven and its filler is as it must be; of an information frame from number 1 on,
-// whose filler is not a reason to refuse it here, whether it is clean for a message of this length.
+// What a frame is, if its kind is one of the seven and its filler is as it must be. The filler of an information frame from
+// number 1 on is no reason to refuse it here; whether it is clean for a message of this length is told.
 pub fn read(f: Frame, length: u16) -> Reading
     ensures { λ r. ⌜ toldReading r ≡ readOf f length ⌝ }
 {
@@ -65,12 +69,18 @@ pub fn read(f: Frame, length: u16) -> Reading
         1..=7 => {
             let number = bytes[0];
             let from = used(f, length);
-            let clean = all_filler(&bytes, from);
-            if clean | has_part(f) {
+            if all_filler(&bytes, from) {
+                return Reading::Read(Parsed {
+                    kind,
+                    number,
+                    clean: true,
+                });
+            }
+            if has_part(f) {
                 Reading::Read(Parsed {
                     kind,
                     number,
-                    clean,
+                    clean: false,
                 })
             } else {
                 Reading::Refused(6)

@@ -12,14 +12,14 @@ use Rattle.delivery.specs.Demand3.{LentMessage, Condition, Conditions, Promise}
 use Rattle.delivery.proofs.Filler.{never-unclean}
 use Rattle.delivery.proofs.Unmet.{never-met}
 use Rattle.delivery.specs.Clean.{CallsMeet}
-use Rattle.delivery.specs.Filler.{CleanAfter}
+use Rattle.delivery.specs.Filler.{FilledAfter}
 use Rattle.delivery.specs.Unmet.{NoHoldBy, NoHold, UnmetAfter}
 use Rattle.receiver.specs.Told as receiver
 use Rattle.delivery.specs.Run.{Past, fresh, FromFresh, next, runOf}
 use Rattle.delivery.specs.Seen.{Sort, begins, ticksSender, ticksReceiver, holdsReceiver, other, sortOf, taken, Begun, further, begunBy, begunIn, begunAfter, openedIn}
 use Rattle.frame.proofs.Choice.{pick-elim}
 use Rattle.player.proofs.Opened.{opened}
-use Rattle.player.specs.Claim.{PlayerMeets, newestFirst, PlayerKeeps, OfPlayer, PlayerUnmet, PlayerClean, PackKeeps}
+use Rattle.player.specs.Claim.{PlayerMeets, newestFirst, PlayerKeeps, OfPlayer, PlayerUnmet, PlayerFilled, PackKeeps}
 use Rattle.player.specs.Events.{callFor, turnFor, eventsFrom, worldAfter, runFrom, callsFor, callsFrom}
 use Rattle.player.specs.Played as played
 use Rattle.transport.proofs.Events.{call-of}
@@ -166,7 +166,7 @@ player-unmet gap timeout limit patience window capacity ends e buffer m events =
     of-player (UnmetAfter cappedStep) (never-met .capped) gap timeout limit patience window capacity ends e buffer m events
     (meets .0, tt, unheld-events m events (next cappedStep p (begin m)) (meets .1))
 
-pub player-clean : PlayerClean
-player-clean gap timeout limit patience window capacity ends e buffer m events =
-    of-player (CleanAfter cappedStep) (never-unclean .capped) gap timeout limit patience window capacity ends e buffer m events
+pub player-filled : PlayerFilled
+player-filled gap timeout limit patience window capacity ends e buffer m events =
+    of-player (FilledAfter cappedStep) (never-unclean .capped) gap timeout limit patience window capacity ends e buffer m events
     (player-meets ends buffer m events)

@@ -6,7 +6,7 @@ use mathlib.Core.List.{List, [], _∷_}
 use mathlib.Core.Path.{_≡_}
 use lib.ListN.{length}
 use Rattle.delivery.specs.Demand3.{Conditions, Promise, NeverHeld}
-use Rattle.delivery.specs.Filler.{AllClean}
+use Rattle.delivery.specs.Filler.{AllFilled}
 use Rattle.delivery.specs.Run.{Past, fresh, runOf}
 use Rattle.delivery.specs.Seen.{openedIn}
 use Rattle.delivery.specs.Unmet.{AllUnmet}
@@ -68,5 +68,5 @@ PlayerUnmet =
     (λ p calls. AllUnmet cappedStep p calls × NeverHeld (openedIn (runOf cappedStep p calls .events)))
 
 -- Document 02, E3: no frame that the receiver hears is refused 14, so that no pack can show it and what is printed stays
-abbrev pub PlayerClean : Type 0
-PlayerClean = OfPlayer (λ p calls. AllClean (runOf cappedStep p calls .events))
+abbrev pub PlayerFilled : Type 0
+PlayerFilled = OfPlayer (λ p calls. AllFilled (runOf cappedStep p calls .events))

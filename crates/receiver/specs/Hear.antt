@@ -8,7 +8,7 @@ use lib.Seq.{paste}
 use Rattle.frame.specs.Choice.{pick}
 use Rattle.frame.specs.Count.{frameCountOf, within}
 use Rattle.frame.specs.Frames.{byteOf, wordAt, carried, lmAckOf, lmNackOf, endOfAckOf, smAckOf}
-use Rattle.frame.specs.Reading.{noLength, readOf}
+use Rattle.frame.specs.Reading.{longest, readOf}
 use Rattle.frame.specs.Result.{Result, accepted, refused}
 use Rattle.frame.specs.declared.Frame.{Frame}
 use Rattle.frame.specs.declared.Parsed.{Parsed}
@@ -164,8 +164,8 @@ hearRead r f buffer (refused number) = heard (refusing r number) buffer
 
 -- Document 02, E3: the length that a frame is read for, that of the open connection; elsewhere no message is awaited
 abbrev pub awaited : Phase → ℕ
-awaited Idle = noLength
-awaited (Done x) = noLength
+awaited Idle = longest
+awaited (Done x) = longest
 awaited (Open x) = x .length
 
 -- Refusals, hearing: 5, before all else, where the buffer lent is not one of 1785 bytes

@@ -7,7 +7,7 @@ use crate::Answer;
 use crate::Phase;
 use crate::Receiver;
 use frame::Frame;
-use frame::NO_LENGTH;
+use frame::LONGEST;
 use frame::Parsed;
 use frame::Reading;
 use frame::build::sm_ack;
@@ -92,8 +92,8 @@ impl Receiver {
     {
         let phase = self.phase;
         match phase {
-            Phase::Idle => NO_LENGTH,
-            Phase::Done(_) => NO_LENGTH,
+            Phase::Idle => LONGEST,
+            Phase::Done(_) => LONGEST,
             Phase::Open(x) => x.length,
         }
     }

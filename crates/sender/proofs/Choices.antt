@@ -10,7 +10,7 @@ use borrow.Author.Tests.{leb-true, leb-false, ltb-false, eqb-true, eqb-false}
 use lib.Dec.{eqb, leb}
 use lib.ListN.{length}
 use Rattle.frame.proofs.Choice.{pick-elim, read-elim, both-left, both-right, neither-left, neither-right}
-use Rattle.frame.specs.Reading.{noLength}
+use Rattle.frame.specs.Reading.{longest}
 use Rattle.frame.specs.Count.{incrementOf}
 use Rattle.frame.specs.Frames.{byteOf, wordAt}
 use Rattle.frame.specs.Result.{Result}
@@ -106,7 +106,7 @@ module _ (P : Told → Type 0) where
         → P (hearOf s f)
     unfolding hearOf hearRead hearKind
     hear-elim f refuses ack nack end short =
-        read-elim (λ (j : Result Parsed). P (hearRead s f j)) f noLength
+        read-elim (λ (j : Result Parsed). P (hearRead s f j)) f longest
         (pick-elim P _ (λ two. ack (eqb-true _ _ two))
         (λ _. pick-elim P _ (λ _. nack)
         (λ _. pick-elim P _ (λ _. end) (λ _. pick-elim P _ (λ _. short) (λ _. refuses 7)))))

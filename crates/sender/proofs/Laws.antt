@@ -18,7 +18,7 @@ use Rattle.frame.proofs.Choice.{pick-true, pick-false, both-right}
 use Rattle.frame.specs.Choice.{pick}
 use Rattle.frame.specs.Count.{incrementOf, frameCountOf}
 use Rattle.frame.specs.Frames.{announcementOf, informationOf, byteOf, wordAt, lmNackOf, smRmOf}
-use Rattle.frame.specs.Reading.{toldReading, noLength, readOf}
+use Rattle.frame.specs.Reading.{toldReading, longest, readOf}
 use Rattle.frame.specs.Result.{refusalOf}
 use Rattle.frame.specs.declared.Frame.{Frame}
 use Rattle.frame.specs.declared.Parsed.{Parsed}
@@ -278,7 +278,7 @@ takes-with s t start count same e = cc
 
 -- by the reading
 module _ (a : Told) (s : Sender) (f : Frame) (reading : Reading)
-    (read : toldReading reading ≡ readOf f noLength) where
+    (read : toldReading reading ≡ readOf f longest) where
   pub hear-read : (parsed : Parsed) → reading ≡ Read parsed → a ≡ hearKind s f parsed → a ≡ hearOf s f
   unfolding hearOf hearRead
   hear-read parsed is e = cc

@@ -4,7 +4,7 @@ use mathlib.Core.Bool.{Bool, _&&_, _||_}
 use lib.Dec.{eqb, ltb}
 use Rattle.frame.specs.Choice.{pick}
 use Rattle.frame.specs.Frames.{byteOf, wordAt}
-use Rattle.frame.specs.Reading.{noLength, readOf}
+use Rattle.frame.specs.Reading.{longest, readOf}
 use Rattle.frame.specs.Result.{Result, accepted, refused}
 use Rattle.frame.specs.declared.Parsed.{Parsed}
 use Rattle.frame.specs.declared.Frame.{Frame}
@@ -130,4 +130,4 @@ hearRead s f (refused number) = refusing s number
 
 -- a hearing of a frame; a sender takes no information frame, so that it awaits no message
 unfoldable pub hearOf : Sender → Frame → Told
-hearOf s f = hearRead s f (readOf f noLength)
+hearOf s f = hearRead s f (readOf f longest)

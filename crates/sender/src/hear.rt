@@ -5,7 +5,7 @@ ghost use Rattle.sender.specs.Told.{told};
 use crate::Answer;
 use crate::Sender;
 use frame::Frame;
-use frame::NO_LENGTH;
+use frame::LONGEST;
 use frame::Parsed;
 use frame::Reading;
 use frame::count::word;
@@ -36,7 +36,7 @@ impl Sender {
     pub fn hear(self, f: Frame) -> Answer
         ensures { λ r. ⌜ told r ≡ hearOf self f ⌝ }
     {
-        let reading = read(f, NO_LENGTH);
+        let reading = read(f, LONGEST);
         let Reading::Read(parsed) = reading else {
             return self.refusing(refusal(reading));
         };

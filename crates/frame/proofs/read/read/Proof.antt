@@ -18,11 +18,11 @@ slice-aggregate-all-filler c = search needs
 all-filler-requires : tie.Need-all-filler-requires
 all-filler-requires c κs = search needs
 
-has-part-requires : tie.Need-has-part-requires
-has-part-requires c κs = search needs
-
 returns : tie.Need-returns
 returns c = search reads
+
+has-part-requires : tie.Need-has-part-requires
+has-part-requires c κs = search needs
 
 returns-2 : tie.Need-returns-2
 returns-2 c = search reads
@@ -33,6 +33,9 @@ returns-3 c = search reads
 returns-4 : tie.Need-returns-4
 returns-4 c = search reads
 
+returns-5 : tie.Need-returns-5
+returns-5 c = search reads
+
 pub read-spec : {M : Type 1} → statement M
 read-spec =
     tie.close
@@ -41,8 +44,9 @@ read-spec =
     used-requires
     slice-aggregate-all-filler
     all-filler-requires
-    has-part-requires
     returns
+    has-part-requires
     returns-2
     returns-3
-    returns-4)
+    returns-4
+    returns-5)
