@@ -46,12 +46,17 @@ fn the_proved_code_answers_as_the_table_says() {
 /// in lists and places above 255, which none has either.
 #[test]
 fn the_table_catches_every_mistake() {
-    let missed: Vec<&str> = [clean::MISTAKES, hold::MISTAKES, filler::MISTAKES, around::MISTAKES]
-        .concat()
-        .into_iter()
-        .filter(|(_, mistake)| difference(&Broken(*mistake), TABLE).is_none())
-        .map(|(name, _)| name)
-        .collect();
+    let missed: Vec<&str> = [
+        clean::MISTAKES,
+        hold::MISTAKES,
+        filler::MISTAKES,
+        around::MISTAKES,
+    ]
+    .concat()
+    .into_iter()
+    .filter(|(_, mistake)| difference(&Broken(*mistake), TABLE).is_none())
+    .map(|(name, _)| name)
+    .collect();
     let beyond = [
         "an opening takes up an old mark",
         "an opening takes up an old count",

@@ -136,6 +136,24 @@ impl<'a, F: Ends> Transfer<'a, F> {
                 self.ticks(count, |transfer| drop(transfer.receiver_call(&["tick"])));
                 told_receiver(self.receiver)
             }
+            ["R", "zeros", first, last] => {
+                let [first, last] = small(&[first, last]);
+                for number in first..=last {
+                    drop(self.receiver_call(&[
+                        "hear",
+                        "1",
+                        &format!("{number:02X}"),
+                        "00",
+                        "00",
+                        "00",
+                        "00",
+                        "00",
+                        "00",
+                        "00",
+                    ]));
+                }
+                told_receiver(self.receiver)
+            }
             ["R", "buffer", count] => hex(&self.buffer[..count.parse().expect("a count")]),
             ["S", ref call @ ..] => self.sender_call(call),
             ["R", ref call @ ..] => self.receiver_call(call),
