@@ -16,7 +16,7 @@ use Rattle.frame.specs.Choice.{pick}
 use Rattle.frame.specs.Frames.{byteOf, wordAt, announcementOf, informationOf, lmNackOf, smRmOf}
 use Rattle.frame.specs.Reading.{cleanFor}
 use Rattle.frame.specs.declared.Frame.{Frame}
-use Rattle.receiver.proofs.Refusals.{refused-so}
+use Rattle.receiver.proofs.Refused.{refused-so}
 use Rattle.receiver.proofs.View as view
 use Rattle.receiver.proofs.View.{Shut, Ticks, Pauses, Hears}
 use Rattle.receiver.specs.Refusals.{Unclean}

@@ -1,6 +1,6 @@
 -- A refused call of the receiver changes nothing, and by 14 it is refused where `Unclean` says. By the view of its calls: one case
--- of a hearing, and one of a hold or a resume, is a refusal, and it answers the receiver and the buffer as they were; the
--- outcome of every other case is none. That an unclean frame is refused is computed.
+-- of a hearing (`Refused`), and one of a hold or a resume, is a refusal, and it answers the receiver and the buffer as they
+-- were. That an unclean frame is refused is computed.
 -- Assumes nothing.
 use Prim.Native.Nat.{ℕ}
 use mathlib.Core.Path.{_≡_, refl, sym, ap, _∙_, subst}
@@ -17,7 +17,8 @@ use Rattle.frame.specs.Frames.{byteOf, partFrom, informationOf}
 use Rattle.frame.specs.Reading.{cleanFor}
 use Rattle.frame.specs.Result as result
 use Rattle.frame.specs.declared.Frame.{Frame}
-use Rattle.receiver.proofs.View.{receiverIn, Ticks, rests, waits, retries, repeats, expires, tick-does, Pause, hold, resume, Pauses, denied, holds, resumes, pause-does, Announced, nacks, opens, again, Informed, ended, above, delivers, asks, goes-on, Hears, refuses, ignores, announced, informed, closes, short, short-only, hear-does}
+use Rattle.receiver.proofs.Refused.{Taken, not-refused, number-of, refused-so}
+use Rattle.receiver.proofs.View.{receiverIn, Ticks, rests, waits, retries, repeats, expires, tick-does, Pause, hold, resume, Pauses, denied, holds, resumes, pause-does, hear-does}
 use Rattle.receiver.specs.Hear.{informationExpected, informationOpen, hearInformation, hearNumbered, hearUnlessHeld, hearKind, hearRead, hearOf}
 use Rattle.receiver.specs.Make.{makeOf}
 use Rattle.receiver.specs.Refusals.{Unchanged, Unclean, Refusals}
@@ -27,17 +28,6 @@ use Rattle.receiver.specs.declared.Phase.{Phase}
 use Rattle.receiver.specs.declared.Phase.the-variants.{Idle, Done, Open}
 use Rattle.receiver.specs.declared.Receiver.{Receiver}
 use Rattle.receiver.specs.declared.Settings.{Settings}
-
--- the outcome is no refusal
-abbrev Taken : told.Outcome → Type 0
-Taken told.quiet = Unit
-Taken (told.refused number) = ⊥
-Taken (told.delivered length) = Unit
-Taken (told.failed cause) = Unit
-Taken told.short = Unit
-
-not-refused : {o : told.Outcome} {number : ℕ} → Taken o → o ≡ told.refused number → ⊥
-not-refused taken e = subst Taken e taken
 
 -- ---- making
 
@@ -62,53 +52,15 @@ tick-taken expires = tt
 
 -- ---- a hold or a resume
 
-number-of : told.Outcome → ℕ
-number-of told.quiet = 0
-number-of (told.refused number) = number
-number-of (told.delivered length) = 0
-number-of (told.failed cause) = 0
-number-of told.short = 0
-
 pause-unchanged : {s : Settings} {k : Pause} {p : Phase} {t : told.Told} {number : ℕ} → Pauses s k p t
     → t .outcome ≡ told.refused number
     → (number ≡ 13) × Unchanged (receiverIn s p) [] (told.heard t [])
-unfolding number-of
 pause-unchanged denied e =
     (sym (ap number-of e), record { receiver = refl; lent = refl; emits = refl; frame = refl; bytes = refl })
 pause-unchanged (holds _ _) e = absurd (not-refused tt e)
 pause-unchanged (resumes _) e = absurd (not-refused tt e)
 
 -- ---- a hearing
-
-module _ {s : Settings} {buffer : List ℕ} where
-  announced-taken : {frames l : ℕ} {p : Phase} {h : told.Heard} → Announced s frames l buffer p h → Taken (h .told .outcome)
-  announced-taken (nacks _ _) = tt
-  announced-taken (opens _ _ _ _ _) = tt
-  announced-taken again = tt
-
-  informed-taken : {number : ℕ} {bytes : List ℕ} {p : Phase} {h : told.Heard} → Informed s number bytes buffer p h
-      → Taken (h .told .outcome)
-  informed-taken (ended _) = tt
-  informed-taken (above _) = tt
-  informed-taken (delivers _ _) = tt
-  informed-taken (asks _ _ _) = tt
-  informed-taken (goes-on _ _ _) = tt
-
-  -- one case is a refusal; by 14 it is one of an unclean frame
-  pub refused-so : {f : Frame} {p : Phase} {h : told.Heard} {number : ℕ} → Hears s f buffer p h
-      → h .told .outcome ≡ told.refused number
-      → Unchanged (receiverIn s p) buffer h × (number ≡ 14 → Unclean f p)
-  unfolding number-of
-  refused-so (refuses _ why) e = (
-    record { receiver = refl; lent = refl; emits = refl; frame = refl; bytes = refl },
-    λ is. why (ap number-of e ∙ is),
-  )
-  refused-so ignores e = absurd (not-refused tt e)
-  refused-so (announced _ _ a) e = absurd (not-refused (announced-taken a) e)
-  refused-so (informed _ _ _ i) e = absurd (not-refused (informed-taken i) e)
-  refused-so (closes _) e = absurd (not-refused tt e)
-  refused-so (short _) e = absurd (not-refused tt e)
-  refused-so (short-only _) e = absurd (not-refused tt e)
 
 -- every unclean frame is refused by 14: no test before it holds it back
 judged : (s : Settings) (p : Phase) (f : Frame) (buffer : List ℕ) → length (f .bytes) ≡ 8 → length buffer ≡ 1785 → Unclean f p
