@@ -46,8 +46,9 @@ cleanFor f length = pick (hasPart f) (allFiller (drop (carried (byteOf f 0) leng
 abbrev pub longest : ℕ
 longest = 1785
 
--- the bytes of a frame that are not filler, from d0 on: those that its kind names; of an information frame from number 1 on its
--- number and what it carries of a message of this length
+-- How many bytes of a frame are not filler, from d0 on: those that its kind names; of an information frame from number 1 on its
+-- number and what it carries of a message of this length. `readOf` does not need it: the code judges the bytes behind these
+-- once, and has by that what 6 and `clean` ask.
 unfoldable pub usedOf : Frame → ℕ → ℕ
 usedOf f length =
     pick (hasPart f) (1 + carried (byteOf f 0) length) (namedOf (f .kind) (byteOf f 0))
