@@ -413,17 +413,20 @@ fn judged_by_the_open_connection() {
     }
 }
 
-/// Two begins over one line, both of 2 frames: 9 bytes, whose sender gives up with its NACK lost, and 14
-/// bytes. The LM_ACK of the first is taken for the second's, whose full frame 2 finds the connection of 9
-/// bytes. It is refused; where it was repeated it is still first, where it was heard it is gone.
-#[test]
-fn a_longer_message_meets_an_older_connection() {
+/// Calls that are all accepted.
+fn plays(bench: &mut Bench, message: &[u8], lent: &mut [u8], calls: &[Call]) {
+    for call in calls {
+        bench.call(*call, message, lent).unwrap();
+    }
+}
+
+/// A connection of 9 bytes, still open, whose sender gave up with its NACK lost; and 14 bytes begun after it,
+/// whose full frame 2 is on forward: they took the LM_ACK of the connection for their own.
+fn fourteen_bytes_after_nine(long: &[u8], lent: &mut [u8]) -> Bench {
     let sender = Sender::make(1, 50, 2).unwrap();
     let receiver = Receiver::make(3, 2, 1785).unwrap();
     let mut bench = Bench::new(sender, receiver);
-    let (short, long) = (message(9), message(14));
-    let mut lent = buffer();
-    for call in [
+    let given_up = [
         Call::Begin,
         Call::ForwardHear,
         Call::BackRepeat,
@@ -432,13 +435,12 @@ fn a_longer_message_meets_an_older_connection() {
         // The sending time is over.
         Call::SenderTick,
         Call::ForwardLose,
-    ] {
-        bench.call(call, &short, &mut lent).unwrap();
-    }
+    ];
+    plays(&mut bench, &message(9), lent, &given_up);
     assert_eq!(open(&bench.receiver).e, 2);
     // The second transfer has time enough.
     bench.sender.sending_time = 100;
-    for call in [
+    let begun = [
         Call::Begin,
         // Frame 0 finds the receiver open.
         Call::ForwardHear,
@@ -447,9 +449,18 @@ fn a_longer_message_meets_an_older_connection() {
         // Frame 1 is there already.
         Call::ForwardHear,
         Call::SenderTick,
-    ] {
-        bench.call(call, &long, &mut lent).unwrap();
-    }
+    ];
+    plays(&mut bench, long, lent, &begun);
+    bench
+}
+
+/// That frame 2 finds the connection of 9 bytes and is refused; where it was repeated it is still first, where
+/// it was heard it is gone.
+#[test]
+fn a_longer_message_meets_an_older_connection() {
+    let long = message(14);
+    let mut lent = buffer();
+    let mut bench = fourteen_bytes_after_nine(&long, &mut lent);
     let last = Frame {
         kind: 1,
         data: [2, 8, 9, 10, 11, 12, 13, 14],
@@ -465,8 +476,8 @@ fn a_longer_message_meets_an_older_connection() {
     assert_eq!(bench.receiver, before.0.receiver);
     assert_eq!(lent, before.1);
     // The connection waits on: its timeout asks for frame 2.
-    bench.call(Call::ReceiverTick, &long, &mut lent).unwrap();
-    bench.call(Call::ReceiverTick, &long, &mut lent).unwrap();
+    let waits = [Call::ReceiverTick, Call::ReceiverTick];
+    plays(&mut bench, &long, &mut lent, &waits);
     let late = bench.call(Call::ReceiverTick, &long, &mut lent).unwrap();
     assert_eq!(late, Outcome::Receiver(r_frame(frame::lm_ack(2, 1))));
 }
