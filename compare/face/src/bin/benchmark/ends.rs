@@ -332,20 +332,10 @@ fn receiver_hear(name: &str, receiver: FlatReceiver, frame: FlatFrame, lent: usi
     )
 }
 
-pub fn receiver_rows() -> Vec<Row> {
-    let announcement = frame(1, &[0, 255, 0xF9, 0x06]);
-    let information = |number: u8| frame(1, &[number, 1, 2, 3, 4, 5, 6, 7]);
-    let expecting = |expected: u8| FlatReceiver { expected, ..open() };
-    // Frame 255 of 1780 bytes carries two of them.
-    let filled = FlatReceiver {
-        length: 1780,
-        ..expecting(255)
-    };
-    let clean = frame(1, &[255, 1, 2]);
-    let dirty = frame(1, &[255, 1, 2, 0xFF, 0xFF, 0xFF, 0xFF, 7]);
+/// Everything but hearings.
+fn receiver_calls() -> Vec<Row> {
     let late = FlatReceiver { wait: 9, ..open() };
     let late_held = FlatReceiver { wait: 9, ..held() };
-    let hear = |name: &str, receiver, frame| receiver_hear(name, receiver, frame, 1785);
     vec![
         Row::new(
             "make",
@@ -363,6 +353,22 @@ pub fn receiver_rows() -> Vec<Row> {
         hold("hold, refused 13", held()),
         resume("resume", held()),
         resume("resume, refused 13", open()),
+    ]
+}
+
+fn receiver_hearings() -> Vec<Row> {
+    let announcement = frame(1, &[0, 255, 0xF9, 0x06]);
+    let information = |number: u8| frame(1, &[number, 1, 2, 3, 4, 5, 6, 7]);
+    let expecting = |expected: u8| FlatReceiver { expected, ..open() };
+    // Frame 255 of 1780 bytes carries two of them.
+    let filled = FlatReceiver {
+        length: 1780,
+        ..expecting(255)
+    };
+    let clean = frame(1, &[255, 1, 2]);
+    let dirty = frame(1, &[255, 1, 2, 0xFF, 0xFF, 0xFF, 0xFF, 7]);
+    let hear = |name: &str, receiver, frame| receiver_hear(name, receiver, frame, 1785);
+    vec![
         hear("hear frame 0, opens", idle_receiver(), announcement),
         hear("hear frame 0 again", expecting(1), announcement),
         hear("hear frame i, stored", open(), information(101)),
@@ -380,6 +386,12 @@ pub fn receiver_rows() -> Vec<Row> {
         hear("hear, refused 7", open(), frame(2, &[1, 1])),
         hear("hear, refused 14", filled, dirty),
     ]
+}
+
+pub fn receiver_rows() -> Vec<Row> {
+    let mut rows = receiver_calls();
+    rows.extend(receiver_hearings());
+    rows
 }
 
 /// Both ends behind a face from begin to sent, nothing lost; how many calls that took.
