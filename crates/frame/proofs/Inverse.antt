@@ -11,7 +11,7 @@ use borrow.Author.Tests.{ne-eqb, le-leb, leb-true, eqb-true}
 use lib.Dec.{eqb, leb, eqb·suc-zero}
 use lib.ListN.{length, getD, take, drop, replicate, length-drop}
 use Rattle.frame.specs.Choice.{pick}
-use Rattle.frame.specs.Content.{Content, announcement, information, lmAck, lmNack, endOfAck, smRm, smAck, smUrm, Fits, kindOf, written, contentOf}
+use Rattle.frame.specs.Content.{Content, announcement, information, lmAck, lmNack, endOfAck, smRm, smAck, smUrm, Fits, written, contentOf}
 use Rattle.frame.specs.Frames.{byteOf, fillTo, partFrom, carried, announcementOf, informationOf, lmAckOf, lmNackOf, endOfAckOf, smRmOf, smUrmOf, smAckOf}
 use Rattle.frame.specs.Reading.{toldReading, namedOf, allFiller, hasPart, cleanFor, longest, readOf}
 use Rattle.frame.specs.RoundTrips.{ReadBack, RoundTrips}

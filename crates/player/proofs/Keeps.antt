@@ -26,7 +26,6 @@ use Rattle.transport.proofs.Events.{call-of}
 use Rattle.transport.proofs.Making.{make-answers}
 use Rattle.transport.specs.Capped.{cappedStep}
 use Rattle.transport.specs.Step.{stepOf}
-use Rattle.transport.specs.declared.Ends.{Ends}
 use Rattle.transport.specs.World.{World, Call, begin, Event}
 
 -- ---- the conditions
