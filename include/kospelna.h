@@ -90,7 +90,7 @@ typedef struct kospelna_frame {
 /* The cause in an LM_NACK, its d0. */
 enum {
     KOSPELNA_NACK_NO_SPACE = 1,     /* the receiver: L is above its capacity */
-    KOSPELNA_NACK_TIMEOUTS = 2,     /* either: three timeouts; the receiver: one too many while held */
+    KOSPELNA_NACK_TIMEOUTS = 2,     /* the sender: three timeouts; the receiver: three of one type, or one too many while held */
     KOSPELNA_NACK_SENDING_TIME = 3, /* the sender: the sending time is over */
     KOSPELNA_NACK_FRAME_NUMBER = 4, /* either: a number above N */
     KOSPELNA_NACK_ANNOUNCEMENT = 5  /* the receiver: an announcement whose N and L do not fit */
@@ -202,6 +202,18 @@ enum {
     KOSPELNA_RECEIVER_OPEN = 2  /* a connection is open */
 };
 
+/* The timeouts in a row that an open connection counts, all of one type: the wait was one after an own LM_ACK, or one after an
+ * accepted frame that drew none. Of the two the later decides, and a timeout of another type than the one before starts the
+ * count at 1. The third of one type fails the connection, KOSPELNA_CAUSE_TIMEOUTS; every other timeout emits an LM_ACK, and so
+ * do a hold and a resume. Timeouts while held are not among them. Every other number is read as NONE_AFTER_ACK. */
+enum {
+    KOSPELNA_MISSES_NONE_AFTER_ACK = 0,   /* none; since the last accepted frame, or at it, an LM_ACK has gone out */
+    KOSPELNA_MISSES_ONE_AFTER_ACK = 1,    /* one after an LM_ACK */
+    KOSPELNA_MISSES_TWO_AFTER_ACK = 2,    /* two after an LM_ACK: the next one fails */
+    KOSPELNA_MISSES_NONE_AFTER_FRAME = 3, /* none; since the last accepted frame no LM_ACK has gone out */
+    KOSPELNA_MISSES_ONE_AFTER_FRAME = 4   /* one after a frame; its LM_ACK has gone out, so that the next is of the other type */
+};
+
 /* A receiver. Beside each field the phases that have it; in every other phase it is not read, and is written as 0. */
 typedef struct kospelna_receiver {
     uint16_t timeout;  /* timeout T in ticks, its own: every phase */
@@ -212,7 +224,7 @@ typedef struct kospelna_receiver {
     uint8_t frames;    /* N: Done, Open */
     uint8_t expected;  /* e, the number of the frame expected: Open */
     uint8_t last;      /* w, the number of the window's last frame: Open */
-    uint8_t misses;    /* timeouts in a row: Open */
+    uint8_t misses;    /* KOSPELNA_MISSES_..: Open */
     uint16_t wait;     /* ticks waited: Open */
     bool held;         /* the transfer is held: Open */
     uint8_t holds;     /* timeouts that this connection has had while held: Open */
@@ -261,7 +273,7 @@ kospelna_receiver_answer kospelna_receiver_resume(kospelna_receiver receiver);
  *
  * Refused 5, then 6, then 7, then 14. 14 is for frame N, where it is expected and the transfer is not held: a byte behind
  * the message in it is not 0xFF. The connection waits on as if nothing had come: its timeouts ask for frame N, which still
- * ends it once it comes filled with 0xFF, and the third in a row fails as ever. A last frame that is full of the message has
+ * ends it once it comes filled with 0xFF, and the third of one type fails as ever. A last frame that is full of the message has
  * nothing to judge, and nothing is judged of frame N in any other state: before it is expected, while held, after the
  * delivery. */
 kospelna_receiver_answer kospelna_receiver_hear(kospelna_receiver receiver, kospelna_frame frame, uint8_t *buffer,
