@@ -139,6 +139,7 @@ module _ (r : Receiver) (x : Connection) {wait : ℕ} (w : wait ≡ incrementOf 
   tick-free e due free = pick-true _ (late due) (pick-false _ free e)
 
 pub ruleset timeouts-free = (first-after-ack, second-after-ack, third-after-ack, first-after-frame, first-again)
+
 pub ruleset ticks-open = (held-fails, held-goes-on, tick-waits, tick-held, tick-free)
 
 module _ (r : Receiver) {a : Told} where

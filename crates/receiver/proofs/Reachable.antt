@@ -153,7 +153,7 @@ module _ (s : Settings) (w : SettingsWithin s) where
         };
       }
   ticks-within o (retries {x} {misses} _ counted) =
-      asked x _ misses (o .announced) (o .first) (omega arith) (o .heldTimeouts) (o .begun) 
+      asked x _ misses (o .announced) (o .first) (omega arith) (o .heldTimeouts) (o .begun)
       (counted-within counted (x .expected) (x .held) (x .held) (o .typed))
   ticks-within o (repeats {x} _ _ more) =
       paused x (x .held) (x .last) 0 (x .holds + 1) o (o .inside) (o .final) (o .window) (w .timeoutLow) (omega arith) (o .begun)
