@@ -106,9 +106,9 @@ module _ (m : List ℕ) (rs : Settings) where
   pub half-tick : {q : Phase} {t : Told} {left : List ℕ} → Ticks rs q t → Halfway m q left → Goes m rs (heard t left)
   half-tick (rests _) h = silent h
   half-tick (waits _) (opened many long low high before) = silent (opened many long low high before)
-  half-tick (retries _ _) (opened many long low high before) = replies (opened many long low high before) (grants _ _)
+  half-tick (retries _ _ _) (opened many long low high before) = replies (opened many long low high before) (grants _ _)
   half-tick (waits _) (stray other small) = silent (stray other small)
-  half-tick (retries _ _) (stray other small) = replies (stray other small) (grants _ _)
+  half-tick (retries _ _ _) (stray other small) = replies (stray other small) (grants _ _)
   half-tick (repeats _ _ _) (opened many long low high before) = replies (opened many long low high before) (grants _ _)
   half-tick (repeats _ _ _) (stray other small) = replies (stray other small) (grants _ _)
   half-tick expires h = fails 2

@@ -213,9 +213,9 @@ module _ (st : Settings) (pos : 1 ≤ st .timeout) (small : st .timeout ≤ 1000
   ticked (before shut) (waits _) = absurd shut
   ticked (between shut) (waits _) = absurd shut
   ticked (during {x} w) (waits early) = during (waited x w early)
-  ticked (before shut) (retries _ _) = absurd shut
-  ticked (between shut) (retries _ _) = absurd shut
-  ticked (during {x} w) (retries due counted) = during (timed-out x _ w due counted)
+  ticked (before shut) (retries _ _ _) = absurd shut
+  ticked (between shut) (retries _ _ _) = absurd shut
+  ticked (during {x} w) (retries due _ counted) = during (timed-out x _ w due counted)
   ticked (before shut) (repeats _ _ _) = absurd shut
   ticked (between shut) (repeats _ _ _) = absurd shut
   ticked (during {x} w) (repeats due held more) = during (held-on x w due held more)
