@@ -492,7 +492,7 @@ fn emitted(n: u8, heard: &[usize], held: [usize; 2]) -> Vec<(usize, Frame)> {
     let l = 7 * u16::from(n);
     let (mut receiver, mut buffer) = opened(3, 255, l);
     let mut frames = Vec::new();
-    for tick in 1.. {
+    for tick in 1..=150 {
         let answer = receiver.tick();
         frames.extend(answer.frame.map(|frame| (tick, frame)));
         if answer.report.is_some() {
@@ -594,6 +594,7 @@ fn latest(timeout: u16, window: u8, l: u16, holds: bool) -> usize {
     let mut receivers = vec![opened(timeout, window, l).0];
     let mut ticks = 0;
     while !receivers.is_empty() {
+        assert!(ticks < 150, "no end");
         spread(&mut receivers, l, holds);
         ticks += 1;
         let mut seen = HashSet::new();
