@@ -4,26 +4,9 @@ use crate::help::*;
 use compare::packs::random::Random;
 use compare::reference::frame::{self, Frame};
 use compare::reference::line::{Bench, Call, Outcome};
-use compare::reference::receiver::{self, Answer, Connection, Receiver, Report, State};
+use compare::reference::receiver::{self, After, Answer, Connection, Receiver, Report, State};
 use compare::reference::sender::{self, Phase, Sender};
 use compare::reference::Refused;
-
-/// A receiver that has opened for this length and taken so many frames.
-fn taken(timeout: u16, window: u8, l: u16, count: u8) -> (Receiver, Vec<u8>) {
-    let (mut receiver, mut buffer) = opened(timeout, window, l);
-    for i in 1..=count {
-        let frame = frame::information(i, &message(l.into()));
-        receiver.hear(frame, &mut buffer).unwrap();
-    }
-    (receiver, buffer)
-}
-
-fn open(receiver: &Receiver) -> Connection {
-    match receiver.state {
-        State::Open(open) => open,
-        State::Idle { .. } => panic!("no connection"),
-    }
-}
 
 fn closed(receiver: &Receiver) -> bool {
     receiver.state == State::Idle { delivered: None }
@@ -32,11 +15,6 @@ fn closed(receiver: &Receiver) -> bool {
 /// LM_ACK s, c as the answer of a call that can be refused.
 fn asks(s: u8, c: u8) -> Result<Answer, Refused> {
     Ok(r_frame(frame::lm_ack(s, c)))
-}
-
-/// NACK 2, failed 2.
-fn gives_up() -> Answer {
-    r_failed(2, Some(frame::lm_nack(2)))
 }
 
 /// So many timeouts of a held receiver with T 1, each with LM_ACK s, 1.
@@ -66,6 +44,8 @@ fn hold_from_the_second_frame_on() {
         w: 3,
         wait: 3,
         misses: 0,
+        after: After::Ack,
+        counted: None,
         held: true,
         holds: 0,
     };
@@ -83,9 +63,8 @@ fn hold_names_the_frame_before() {
     }
 }
 
-/// Neither call alters wait or misses, and a timeout while held is no miss: T 2, C 3, N 7.
-#[test]
-fn wait_and_misses_across_a_hold() {
+/// T 2, C 3, N 7: a timeout after frame 1, and one tick of the next wait.
+fn missed_once() -> (Receiver, Connection) {
     let (mut receiver, _) = taken(2, 3, 49, 1);
     receiver.tick();
     assert_eq!(receiver.tick(), r_frame(frame::lm_ack(2, 3)));
@@ -97,10 +76,19 @@ fn wait_and_misses_across_a_hold() {
         w: 4,
         wait: 1,
         misses: 1,
+        after: After::Ack,
+        counted: Some(After::Frame),
         held: false,
         holds: 0,
     };
     assert_eq!(open(&receiver), missed);
+    (receiver, missed)
+}
+
+/// Neither call alters wait or misses, and a timeout while held is no miss.
+#[test]
+fn wait_and_misses_across_a_hold() {
+    let (mut receiver, missed) = missed_once();
     assert_eq!(receiver.hold(), asks(1, 1));
     let held = Connection {
         held: true,
@@ -123,19 +111,30 @@ fn wait_and_misses_across_a_hold() {
         ..once
     };
     assert_eq!(open(&receiver), resumed);
-    // The second miss, and then the third.
+    // The miss that stands is one after frame 1, so the first after an LM_ACK begins the count (E4).
+    // Then the second, and then the third.
+    assert_eq!(receiver.tick(), r_frame(frame::lm_ack(2, 3)));
+    let begun = Connection {
+        wait: 0,
+        counted: Some(After::Ack),
+        ..resumed
+    };
+    assert_eq!(open(&receiver), begun);
+    receiver.tick();
     assert_eq!(receiver.tick(), r_frame(frame::lm_ack(2, 3)));
     assert_eq!(open(&receiver).misses, 2);
     receiver.tick();
     assert_eq!(receiver.tick(), gives_up());
 }
 
-/// A hold keeps even a second miss from becoming the third.
+/// A hold keeps even a second miss from becoming the third. Before the two there is a timeout after
+/// frame 1, which is of another type (E4).
 #[test]
 fn two_misses_and_a_hold() {
     let (mut receiver, _) = taken(1, 2, 21, 1);
-    receiver.tick();
-    receiver.tick();
+    for _ in 0..3 {
+        receiver.tick();
+    }
     receiver.hold().unwrap();
     held_timeouts(&mut receiver, 20, 1);
     assert_eq!((open(&receiver).misses, open(&receiver).holds), (2, 20));
@@ -292,6 +291,8 @@ fn nack_while_held() {
         w: 3,
         wait: 0,
         misses: 0,
+        after: After::Ack,
+        counted: None,
         held: false,
         holds: 0,
     };
@@ -745,8 +746,9 @@ impl Run {
         run
     }
 
-    /// One call, and what E2 leaves of demand 3 after it: a delivery is the very message, sent comes
-    /// after one, and a connection is over by 3 x T x N + 21 x T. Only holds and resumes are refused.
+    /// One call, and what E2 and E4 leave of demand 3 after it: a delivery is the very message, sent
+    /// comes after one, and a connection is over by tick T x (4 x N + 19) - (N - 1), which is before
+    /// 4 x T x N + 21 x T (`types.rs` has the working). Only holds and resumes are refused.
     fn call(&mut self, call: Call) -> Option<sender::Report> {
         let mut sent = None;
         match self.bench.call(call, &self.message, &mut self.buffer) {
@@ -764,7 +766,8 @@ impl Run {
             State::Open(open) => {
                 self.holds = open.holds;
                 self.ticks += usize::from(call == Call::ReceiverTick);
-                assert!(self.ticks < 3 * timeout * usize::from(open.n) + 21 * timeout);
+                let n = usize::from(open.n);
+                assert!(self.ticks < timeout * (4 * n + 19) - (n - 1));
             }
         }
         sent
