@@ -99,7 +99,7 @@ fn reopens(bench: &mut Bench, call: Call, message: &[u8], buffer: &mut [u8]) -> 
     let outcome = right(bench, call, message, buffer);
     if let (Outcome::Receiver(answer), State::Open(open)) = (outcome, &mut bench.receiver.state) {
         if gives_forward(call) && open.e == 1 && answer.frame.is_some() {
-            (open.wait, open.misses) = (0, 0);
+            (open.wait, open.misses, open.counted) = (0, 0, None);
         }
     }
     outcome

@@ -1,4 +1,5 @@
-//! Chapter "The receiver", and document 02: holding a transfer (E2), dirty filler in a last frame (E3).
+//! Chapter "The receiver", and document 02: holding a transfer (E2), dirty filler in a last frame (E3),
+//! timeouts counted by type (E4).
 
 use super::frame::{self, Content, Frame};
 use super::{refusal, Refused};
@@ -17,6 +18,14 @@ pub struct Delivered {
     pub l: u16,
 }
 
+/// What a wait follows: an LM_ACK of the receiver, or a frame taken that drew none; of the two the later
+/// one. It is the type of the timeout in which the wait ends.
+#[derive(Clone, Copy, Debug, PartialEq, Eq)]
+pub enum After {
+    Ack,
+    Frame,
+}
+
 #[derive(Clone, Copy, Debug, PartialEq, Eq)]
 pub struct Connection {
     pub n: u8,
@@ -26,11 +35,44 @@ pub struct Connection {
     /// The number of the last frame asked for.
     pub w: u8,
     pub wait: u16,
+    /// Timeouts in a row that are of one type; those while held do not count, nor part a row.
     pub misses: u16,
+    /// What it waits after now.
+    pub after: After,
+    /// The type of the timeouts in `misses`; none where these are 0.
+    pub counted: Option<After>,
     /// The transfer is held.
     pub held: bool,
     /// Timeouts of this connection that fell while it was held.
     pub holds: u16,
+}
+
+impl Connection {
+    /// Every LM_ACK of a connection goes out here: from now on it waits after that.
+    fn lm_ack(&mut self, s: u8, c: u8) -> Frame {
+        self.after = After::Ack;
+        frame::lm_ack(s, c)
+    }
+
+    /// What a held receiver says: the frame that it took last, once more.
+    fn pause(&mut self) -> Frame {
+        self.lm_ack(self.e.saturating_sub(1), 1)
+    }
+
+    /// "LM_ACK e, w - e + 1"
+    fn ask(&mut self) -> Frame {
+        self.lm_ack(self.e, self.w.saturating_sub(self.e).saturating_add(1))
+    }
+
+    /// A timeout while no hold stands. One of the type that is counted adds to the count, one of the
+    /// other type begins it.
+    fn count_miss(&mut self) {
+        self.misses = match self.counted == Some(self.after) {
+            true => self.misses.saturating_add(1),
+            false => 1,
+        };
+        self.counted = Some(self.after);
+    }
 }
 
 /// So many timeouts while held a connection has; one more closes it.
@@ -109,12 +151,13 @@ impl Receiver {
     }
 
     /// Holds the transfer. Refusal 13 without a connection, before its first frame, and while held. Only
-    /// the mark is set: wait, misses, window and count go on from where they are.
+    /// the mark is set, and what is waited after: wait, misses, window and count go on from where they
+    /// are.
     pub fn hold(&mut self) -> Result<Answer, Refused> {
         match &mut self.state {
             State::Open(open) if open.e >= 2 && !open.held => {
                 open.held = true;
-                Ok(Answer::frame(pause(open)))
+                Ok(Answer::frame(open.pause()))
             }
             _ => Err(refusal::HOLD),
         }
@@ -127,8 +170,9 @@ impl Receiver {
             State::Open(mut open) if open.held => {
                 open.held = false;
                 open.w = self.window_end(open.e, open.n);
+                let asked = open.ask();
                 self.state = State::Open(open);
-                Ok(Answer::frame(ask(&open)))
+                Ok(Answer::frame(asked))
             }
             _ => Err(refusal::HOLD),
         }
@@ -185,30 +229,40 @@ impl Receiver {
                 if l > self.capacity {
                     return Answer::frame(frame::lm_nack(frame::CAUSE_NO_SPACE));
                 }
-                // The connection opens and asks for its first window; a remembered delivery goes.
-                let w = self.window.min(n);
-                self.state = State::Open(Connection {
-                    n,
-                    l,
-                    e: 1,
-                    w,
-                    wait: 0,
-                    misses: 0,
-                    held: false,
-                    holds: 0,
-                });
-                Answer::frame(frame::lm_ack(1, w))
+                self.open(n, l)
             }
             // The same announcement before any frame came: its LM_ACK was lost, so it goes again, and
             // wait and misses stand. Any other is passed over.
-            State::Open(open) => {
+            State::Open(mut open) => {
                 if n == open.n && l == open.l && open.e == 1 {
-                    Answer::frame(frame::lm_ack(1, open.w))
+                    let again = open.lm_ack(1, open.w);
+                    self.state = State::Open(open);
+                    Answer::frame(again)
                 } else {
                     Answer::default()
                 }
             }
         }
+    }
+
+    /// A connection opens and asks for its first window; a remembered delivery goes.
+    fn open(&mut self, n: u8, l: u16) -> Answer {
+        let w = self.window.min(n);
+        let mut open = Connection {
+            n,
+            l,
+            e: 1,
+            w,
+            wait: 0,
+            misses: 0,
+            after: After::Ack,
+            counted: None,
+            held: false,
+            holds: 0,
+        };
+        let asked = open.lm_ack(1, w);
+        self.state = State::Open(open);
+        Answer::frame(asked)
     }
 
     fn hear_information(
@@ -249,6 +303,7 @@ impl Receiver {
         // "wait and misses 0."
         open.wait = 0;
         open.misses = 0;
+        open.counted = None;
         // "At N: EndofACK, delivered L, Idle."
         if i == open.n {
             let delivered = Delivered {
@@ -263,40 +318,44 @@ impl Receiver {
                 report: Some(Report::Delivered { l: open.l }),
             };
         }
-        // At the window's end the next window is asked for; within it the next frame is on its way.
+        // At the window's end the next window is asked for, later than the frame; within it the next
+        // frame is on its way, and this one is what is waited after.
         let at_window_end = i == open.w;
+        open.after = After::Frame;
         open.e = open.e.saturating_add(1);
+        let mut answer = Answer::default();
         if at_window_end {
             open.w = self.window_end(open.e, open.n);
-            self.state = State::Open(open);
-            return Answer::frame(ask(&open));
+            answer.frame = Some(open.ask());
         }
         self.state = State::Open(open);
-        Answer::default()
+        answer
     }
 
     /// A timeout while no hold stands.
     fn miss(&mut self, mut open: Connection) -> Answer {
-        open.misses = open.misses.saturating_add(1);
-        // The third in a row closes the connection.
+        open.count_miss();
+        // The third in a row of one type closes the connection.
         if open.misses == 3 {
             return self.give_up();
         }
-        // The first two ask for a whole window from the frame expected on, or for what is left.
+        // Any before it asks for a whole window from the frame expected on, or for what is left.
         open.w = self.window_end(open.e, open.n);
+        let asked = open.ask();
         self.state = State::Open(open);
-        Answer::frame(ask(&open))
+        Answer::frame(asked)
     }
 
-    /// A timeout while held: no miss, and the window stays. The one that the connection no longer has
-    /// closes it.
+    /// A timeout while held: no miss, of neither type, and the window stays. The one that the connection
+    /// no longer has closes it.
     fn time_out_held(&mut self, mut open: Connection) -> Answer {
         if open.holds == HELD_TIMEOUTS {
             return self.give_up();
         }
         open.holds = open.holds.saturating_add(1);
+        let paused = open.pause();
         self.state = State::Open(open);
-        Answer::frame(pause(&open))
+        Answer::frame(paused)
     }
 
     /// The length that frames are read with: the open connection's. Without one it is the longest, whose
@@ -332,14 +391,4 @@ impl Receiver {
             report: Some(Report::Failed { cause }),
         }
     }
-}
-
-/// What a held receiver says: the frame that it took last, once more.
-fn pause(open: &Connection) -> Frame {
-    frame::lm_ack(open.e.saturating_sub(1), 1)
-}
-
-/// "LM_ACK e, w - e + 1"
-fn ask(open: &Connection) -> Frame {
-    frame::lm_ack(open.e, open.w.saturating_sub(open.e).saturating_add(1))
 }

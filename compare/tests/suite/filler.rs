@@ -4,7 +4,7 @@ use crate::help::*;
 use compare::packs::random::Random;
 use compare::reference::frame::{self, Frame};
 use compare::reference::line::{Bench, Call, Outcome};
-use compare::reference::receiver::{self, Answer, Connection, Delivered, Receiver, State};
+use compare::reference::receiver::{self, After, Answer, Connection, Delivered, Receiver, State};
 use compare::reference::sender::{self, Phase, Sender};
 use compare::reference::Refused;
 
@@ -342,11 +342,13 @@ fn wait_and_misses_go_on() {
     assert_eq!(buffer[14..], [0xEE; 1785 - 14]);
 }
 
-/// The clean frame still delivers after any number of dirty ones, with two misses behind it.
+/// The clean frame still delivers after any number of dirty ones, with two misses behind it. There are
+/// three timeouts before it: the first is one after frame 1, of another type than the two after LM_ACKs
+/// (E4).
 #[test]
 fn dirty_then_clean() {
     let (mut receiver, mut buffer) = at_last(1, 2, 13);
-    for _ in 0..2 {
+    for _ in 0..3 {
         receiver.tick();
         for place in [7, 7, 7] {
             refuses(&mut receiver, &mut buffer, last_with(13, &[(place, 3)]));
@@ -377,6 +379,8 @@ fn the_rest_of_the_record() {
         w: 3,
         wait: 0,
         misses: 1,
+        after: After::Ack,
+        counted: Some(After::Ack),
         held: false,
         holds: 2,
     };

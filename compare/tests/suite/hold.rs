@@ -4,7 +4,7 @@ use crate::help::*;
 use compare::packs::random::Random;
 use compare::reference::frame::{self, Frame};
 use compare::reference::line::{Bench, Call, Outcome};
-use compare::reference::receiver::{self, Answer, Connection, Receiver, Report, State};
+use compare::reference::receiver::{self, After, Answer, Connection, Receiver, Report, State};
 use compare::reference::sender::{self, Phase, Sender};
 use compare::reference::Refused;
 
@@ -66,6 +66,8 @@ fn hold_from_the_second_frame_on() {
         w: 3,
         wait: 3,
         misses: 0,
+        after: After::Ack,
+        counted: None,
         held: true,
         holds: 0,
     };
@@ -97,6 +99,8 @@ fn wait_and_misses_across_a_hold() {
         w: 4,
         wait: 1,
         misses: 1,
+        after: After::Ack,
+        counted: Some(After::Frame),
         held: false,
         holds: 0,
     };
@@ -123,19 +127,30 @@ fn wait_and_misses_across_a_hold() {
         ..once
     };
     assert_eq!(open(&receiver), resumed);
-    // The second miss, and then the third.
+    // The miss that stands is one after frame 1, so the first after an LM_ACK begins the count (E4).
+    // Then the second, and then the third.
+    assert_eq!(receiver.tick(), r_frame(frame::lm_ack(2, 3)));
+    let begun = Connection {
+        wait: 0,
+        counted: Some(After::Ack),
+        ..resumed
+    };
+    assert_eq!(open(&receiver), begun);
+    receiver.tick();
     assert_eq!(receiver.tick(), r_frame(frame::lm_ack(2, 3)));
     assert_eq!(open(&receiver).misses, 2);
     receiver.tick();
     assert_eq!(receiver.tick(), gives_up());
 }
 
-/// A hold keeps even a second miss from becoming the third.
+/// A hold keeps even a second miss from becoming the third. Before the two there is a timeout after
+/// frame 1, which is of another type (E4).
 #[test]
 fn two_misses_and_a_hold() {
     let (mut receiver, _) = taken(1, 2, 21, 1);
-    receiver.tick();
-    receiver.tick();
+    for _ in 0..3 {
+        receiver.tick();
+    }
     receiver.hold().unwrap();
     held_timeouts(&mut receiver, 20, 1);
     assert_eq!((open(&receiver).misses, open(&receiver).holds), (2, 20));
@@ -292,6 +307,8 @@ fn nack_while_held() {
         w: 3,
         wait: 0,
         misses: 0,
+        after: After::Ack,
+        counted: None,
         held: false,
         holds: 0,
     };
@@ -745,8 +762,9 @@ impl Run {
         run
     }
 
-    /// One call, and what E2 leaves of demand 3 after it: a delivery is the very message, sent comes
-    /// after one, and a connection is over by 3 x T x N + 21 x T. Only holds and resumes are refused.
+    /// One call, and what E2 and E4 leave of demand 3 after it: a delivery is the very message, sent
+    /// comes after one, and a connection is over by tick T x (4 x N + 19) - (N - 1), which is before
+    /// 4 x T x N + 21 x T (`types.rs` has the working). Only holds and resumes are refused.
     fn call(&mut self, call: Call) -> Option<sender::Report> {
         let mut sent = None;
         match self.bench.call(call, &self.message, &mut self.buffer) {
@@ -764,7 +782,8 @@ impl Run {
             State::Open(open) => {
                 self.holds = open.holds;
                 self.ticks += usize::from(call == Call::ReceiverTick);
-                assert!(self.ticks < 3 * timeout * usize::from(open.n) + 21 * timeout);
+                let n = usize::from(open.n);
+                assert!(self.ticks < timeout * (4 * n + 19) - (n - 1));
             }
         }
         sent

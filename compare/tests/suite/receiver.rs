@@ -2,7 +2,7 @@
 
 use crate::help::*;
 use compare::reference::frame;
-use compare::reference::receiver::{Answer, Connection, Delivered, Receiver, Report, State};
+use compare::reference::receiver::{After, Answer, Connection, Delivered, Receiver, Report, State};
 
 fn idle() -> State {
     State::Idle { delivered: None }
@@ -78,6 +78,8 @@ fn opening() {
             w,
             wait: 0,
             misses: 0,
+            after: After::Ack,
+            counted: None,
             held: false,
             holds: 0,
         };
@@ -144,6 +146,8 @@ fn one_frame() {
         w: 3,
         wait: 0,
         misses: 0,
+        after: After::Frame,
+        counted: None,
         held: false,
         holds: 0,
     };
@@ -195,6 +199,8 @@ fn timeout_moves_the_window() {
         w: 4,
         wait: 0,
         misses: 1,
+        after: After::Ack,
+        counted: Some(After::Frame),
         held: false,
         holds: 0,
     };

@@ -2,7 +2,7 @@
 
 use crate::help::*;
 use compare::reference::frame;
-use compare::reference::receiver::{Connection, Receiver, State};
+use compare::reference::receiver::{After, Connection, Receiver, State};
 use compare::reference::sender::{Phase, Sender};
 use compare::reference::Refused;
 
@@ -80,6 +80,8 @@ fn receiver_counts_stay_at_65535() {
                                 w,
                                 wait: count,
                                 misses: count,
+                                after: After::Ack,
+                                counted: (count > 0).then_some(After::Ack),
                                 held: false,
                                 holds: 0,
                             };
@@ -118,6 +120,8 @@ fn held_counts_stay_at_65535() {
                 w: 0,
                 wait: 0,
                 misses: 65535,
+                after: After::Ack,
+                counted: Some(After::Ack),
                 held: true,
                 holds,
             };
