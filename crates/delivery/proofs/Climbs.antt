@@ -170,7 +170,7 @@ module _ {rs : receiver-settings.Settings} {lo : ℕ} {back : List Frame} where
         high = (le-refl _, l .1);
         rises = joins-ack (lmAckOf (x .expected + 1) _) (omega arith) r;
       }
-  high-hear {hi} c (view.informed _ _ _ (view.goes-on _ _ _)) l r =
+  high-hear {hi} c (view.informed _ _ _ (view.goes-on _ _ _ _)) l r =
       let top = l .0 in
       record { hi = hi; high = (omega arith, l .1); rises = quiet-back r }
   high-hear {hi} c (view.closes _) l r = record { hi = hi; high = tt; rises = quiet-back r }

@@ -152,4 +152,4 @@ module _ (m : List ℕ) (rs : Settings) where
     half-information inside (above over) (stray other small) = goes (fails 4)
     half-information inside (delivers {x} at whole) (stray other small) = astray x other small
     half-information inside (asks at more _) h = goes (replies (next _ at more h) (grants _ _))
-    half-information inside (goes-on at more _) h = goes (silent (next _ at more h))
+    half-information inside (goes-on _ at more _) h = goes (silent (next _ at more h))

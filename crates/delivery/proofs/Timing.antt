@@ -251,7 +251,7 @@ module _ (st : Settings) (pos : 1 ≤ st .timeout) (small : st .timeout ≤ 1000
     heard-open (informed _ k z (above _)) = on (between tt)
     heard-open (informed _ k z (delivers _ _)) = on (between tt)
     heard-open (informed _ k z (asks _ more _)) = on (during (next-expected x _ w more))
-    heard-open (informed _ k z (goes-on _ more _)) = on (during (next-expected x _ w more))
+    heard-open (informed _ k z (goes-on _ _ more _)) = on (during (next-expected x _ w more))
     heard-open (closes k) = on (between tt)
     heard-open (short k) = on (timed-later (during w))
     heard-open (short-only k) = on (timed-later (during w))
@@ -285,7 +285,7 @@ module _ (st : Settings) (pos : 1 ≤ st .timeout) (small : st .timeout ≤ 1000
     heard-shut shut same (informed _ k z (above _)) = absurd shut
     heard-shut shut same (informed _ k z (delivers _ _)) = absurd shut
     heard-shut shut same (informed _ k z (asks _ _ _)) = absurd shut
-    heard-shut shut same (informed _ k z (goes-on _ _ _)) = absurd shut
+    heard-shut shut same (informed _ k z (goes-on _ _ _ _)) = absurd shut
     heard-shut shut same (closes k) = absurd shut
     heard-shut shut same (short k) = quietly (short-drawn _) same
     heard-shut shut same (short-only k) = quietly refl same

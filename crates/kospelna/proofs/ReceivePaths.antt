@@ -8,7 +8,7 @@ use Rattle.frame.specs.Result.{Result}
 use Rattle.frame.specs.Choice.{pick}
 use Rattle.frame.specs.declared.Frame.{Frame}
 use Rattle.kospelna.specs.Frames.{frameFrom, flatFrame}
-use Rattle.kospelna.specs.Receive.{connectionFrom, phaseFrom, receiverFrom, remembering, flatOf, flatPhase, flatReceiver, report, flatOutcome, flatAnswer, noReceiver, flatMade, hearing, flatHeard}
+use Rattle.kospelna.specs.Receive.{missesFrom, connectionFrom, phaseFrom, receiverFrom, remembering, flatOf, flatPhase, flatReceiver, report, flatOutcome, flatAnswer, noReceiver, flatMade, hearing, flatHeard}
 use Rattle.kospelna.specs.declared.frames.FlatFrame.{FlatFrame}
 use Rattle.kospelna.specs.declared.receive.FlatReceiver.{FlatReceiver}
 use Rattle.kospelna.specs.declared.receive.FlatReceiverAnswer.{FlatReceiverAnswer}
@@ -24,6 +24,7 @@ use Rattle.receiver.specs.declared.Connection.{Connection}
 use Rattle.receiver.specs.declared.Delivery.{Delivery}
 use Rattle.receiver.specs.declared.Made as made-enum
 use Rattle.receiver.specs.declared.Made.the-variants as made-variants
+use Rattle.receiver.specs.declared.Misses.the-variants.{NoneAfterAck, OneAfterAck, TwoAfterAck, NoneAfterFrame, OneAfterFrame}
 use Rattle.receiver.specs.declared.Outcome as outcome-enum
 use Rattle.receiver.specs.declared.Outcome.the-variants as outcome-variants
 use Rattle.receiver.specs.declared.Phase.{Phase}
@@ -31,7 +32,30 @@ use Rattle.receiver.specs.declared.Phase.the-variants.{Idle, Done, Open}
 use Rattle.receiver.specs.declared.Receiver.{Receiver}
 use Rattle.kospelna.proofs.Numbers.{test}
 
--- ---- reading, by the phase's number
+-- ---- reading, by the numbers of misses and phase
+
+module _ {n : ℕ} where
+  pub misses-1 : n ≡ 1 → OneAfterAck ≡ missesFrom n
+  unfolding missesFrom pick
+  misses-1 e = rw e
+
+  pub misses-2 : n ≡ 2 → TwoAfterAck ≡ missesFrom n
+  unfolding missesFrom pick
+  misses-2 e = rw e
+
+  pub misses-3 : n ≡ 3 → NoneAfterFrame ≡ missesFrom n
+  unfolding missesFrom pick
+  misses-3 e = rw e
+
+  pub misses-4 : n ≡ 4 → OneAfterFrame ≡ missesFrom n
+  unfolding missesFrom pick
+  misses-4 e = rw e
+
+  pub misses-other : (n ≡ 1 → ⊥) → (n ≡ 2 → ⊥) → (n ≡ 3 → ⊥) → (n ≡ 4 → ⊥) → NoneAfterAck ≡ missesFrom n
+  unfolding missesFrom pick
+  misses-other a b c d = rw (ne-eqb n 1 a, ne-eqb n 2 b, ne-eqb n 3 c, ne-eqb n 4 d)
+
+pub ruleset misses = (misses-1, misses-2, misses-3, misses-4, misses-other)
 
 module _ (r : FlatReceiver) where
   pub reads-done : r .phase ≡ 1 → Done (record { frames = r .frames; length = r .length }) ≡ phaseFrom r

@@ -1,7 +1,7 @@
 -- The receiver in C's layouts: what a flat receiver is read as, and how the receiver and its answers are written. Document
--- 01, The receiver, has its states and reports, document 02, E2, the held mark and the count; the phases' and the outcomes'
--- numbers are the face's own.
-use Prim.Native.Nat.{ℕ}
+-- 01, The receiver, has its states and reports, document 02, E2, the held mark and the count, E4 the types of timeouts; the
+-- numbers of phases, misses and outcomes are the face's own.
+use Prim.Native.Nat.{ℕ, _≤_}
 use mathlib.Core.Bool.{false}
 use mathlib.Core.Path.{_≡_}
 use mathlib.Core.List.{List}
@@ -17,12 +17,21 @@ use Rattle.kospelna.specs.declared.receive.Report.{Report}
 use Rattle.receiver.specs.Make.{makeOf}
 use Rattle.receiver.specs.Told.{Outcome, quiet, refused, delivered, failed, short, Told, Heard}
 use Rattle.receiver.specs.declared.Connection.{Connection}
+use Rattle.receiver.specs.declared.Misses.{Misses}
+use Rattle.receiver.specs.declared.Misses.the-variants.{NoneAfterAck, OneAfterAck, TwoAfterAck, NoneAfterFrame, OneAfterFrame}
 use Rattle.receiver.specs.declared.Phase.{Phase}
 use Rattle.receiver.specs.declared.Phase.the-variants.{Idle, Done, Open}
 use Rattle.receiver.specs.declared.Receiver.{Receiver}
 use Rattle.receiver.specs.declared.Settings.{Settings}
 
 -- ---- reading
+
+-- 1 and 2 are the timeouts counted after an LM_ACK, 3 and 4 none and one after a frame; every other number is read as 0, none
+-- after an LM_ACK
+unfoldable pub missesFrom : ℕ → Misses
+missesFrom n =
+    pick (eqb n 1) OneAfterAck
+    (pick (eqb n 2) TwoAfterAck (pick (eqb n 3) NoneAfterFrame (pick (eqb n 4) OneAfterFrame NoneAfterAck)))
 
 abbrev pub connectionFrom : FlatReceiver → Connection
 connectionFrom r =
@@ -32,7 +41,7 @@ connectionFrom r =
       expected = r .expected;
       last = r .last;
       wait = r .wait;
-      misses = r .misses;
+      misses = missesFrom (r .misses);
       held = r .held;
       holds = r .holds;
     }
@@ -52,6 +61,13 @@ receiverFrom r =
 
 -- ---- writing
 
+abbrev pub flatMisses : Misses → ℕ
+flatMisses NoneAfterAck = 0
+flatMisses OneAfterAck = 1
+flatMisses TwoAfterAck = 2
+flatMisses NoneAfterFrame = 3
+flatMisses OneAfterFrame = 4
+
 abbrev pub flatOf : Settings → ℕ → Connection → FlatReceiver
 flatOf settings phase x =
     record {
@@ -64,12 +80,12 @@ flatOf settings phase x =
       expected = x .expected;
       last = x .last;
       wait = x .wait;
-      misses = x .misses;
+      misses = flatMisses (x .misses);
       held = x .held;
       holds = x .holds;
     }
 
--- N and L, and 0 and false for what a delivery has not
+-- N and L, and what is written as 0 and false for what a delivery has not
 abbrev pub remembering : ℕ → ℕ → Connection
 remembering frames length =
     record {
@@ -78,7 +94,7 @@ remembering frames length =
       expected = 0;
       last = 0;
       wait = 0;
-      misses = 0;
+      misses = NoneAfterAck;
       held = false;
       holds = 0;
     }
@@ -92,11 +108,11 @@ flatPhase settings (Open x) = flatOf settings 2 x
 abbrev pub flatReceiver : Receiver → FlatReceiver
 flatReceiver r = flatPhase (r .settings) (r .phase)
 
--- The flat receivers that writing makes: a known phase number, and 0 or false in what the phase has not.
+-- The flat receivers that writing makes: known numbers of phase and misses, and 0 or false in what the phase has not.
 pub data Written (r : FlatReceiver) : Type 0 where
-  idle : r .phase ≡ 0 → connectionFrom r ≡ remembering 0 0 → Written r
-  done : r .phase ≡ 1 → connectionFrom r ≡ remembering (r .frames) (r .length) → Written r
-  opened : r .phase ≡ 2 → Written r
+  idle : r .phase ≡ 0 → r .misses ≤ 4 → connectionFrom r ≡ remembering 0 0 → Written r
+  done : r .phase ≡ 1 → r .misses ≤ 4 → connectionFrom r ≡ remembering (r .frames) (r .length) → Written r
+  opened : r .phase ≡ 2 → r .misses ≤ 4 → Written r
 
 -- ---- answers
 

@@ -3,6 +3,8 @@
 ghost use mathlib.Core.Path.{_≡_};
 ghost use Rattle.kospelna.specs.Frames.{frameFrom};
 ghost use Rattle.kospelna.specs.Receive.{
+  missesFrom,
+  flatMisses,
   connectionFrom,
   phaseFrom,
   receiverFrom,
@@ -29,6 +31,7 @@ use receiver::Answer;
 use receiver::Connection;
 use receiver::Delivery;
 use receiver::Made;
+use receiver::Misses;
 use receiver::Outcome;
 use receiver::Phase;
 use receiver::Receiver;
@@ -36,9 +39,10 @@ use receiver::Settings;
 
 // A receiver: timeout T, capacity K and window C; the phase's number (0 Idle, 1 Idle with a delivery
 // remembered, 2 Open; any other is read as Idle); L and N; the frame expected, the window's last,
-// misses and wait; whether the transfer is held, and the timeouts while it was. What a phase has not
-// is written as 0, the mark as false, and not read. In this order it has 16 bytes, so that C passes
-// it in registers.
+// the number of its misses (0, 1, 2 of them after an LM_ACK; 3, 4: none, one after a frame; any other
+// is read as 0) and wait; whether the transfer is held, and the timeouts while it was. What a phase
+// has not is written as 0, the mark as false, and not read. In this order it has 16 bytes, so that C
+// passes it in registers.
 #[repr(C)]
 pub struct FlatReceiver {
     pub timeout: u16,
@@ -87,16 +91,41 @@ pub(crate) struct Report {
     pub length: u16,
 }
 
+fn read_misses(number: u8) -> Misses
+    ensures { λ m. ⌜ m ≡ missesFrom number ⌝ }
+{
+    match number {
+        1 => Misses::OneAfterAck,
+        2 => Misses::TwoAfterAck,
+        3 => Misses::NoneAfterFrame,
+        4 => Misses::OneAfterFrame,
+        _ => Misses::NoneAfterAck,
+    }
+}
+
+fn write_misses(misses: Misses) -> u8
+    ensures { λ n. ⌜ n ≡ flatMisses misses ⌝ }
+{
+    match misses {
+        Misses::NoneAfterAck => 0,
+        Misses::OneAfterAck => 1,
+        Misses::TwoAfterAck => 2,
+        Misses::NoneAfterFrame => 3,
+        Misses::OneAfterFrame => 4,
+    }
+}
+
 fn read_connection(r: FlatReceiver) -> Connection
     ensures { λ x. ⌜ x ≡ connectionFrom r ⌝ }
 {
+    let misses = read_misses(r.misses);
     Connection {
         frames: r.frames,
         length: r.length,
         expected: r.expected,
         last: r.last,
         wait: r.wait,
-        misses: r.misses,
+        misses,
         held: r.held,
         holds: r.holds,
     }
@@ -134,6 +163,8 @@ fn read_receiver(r: FlatReceiver) -> Receiver
 fn flat(settings: Settings, phase: u8, x: Connection) -> FlatReceiver
     ensures { λ r. ⌜ r ≡ flatOf settings phase x ⌝ }
 {
+    let misses = x.misses;
+    let misses = write_misses(misses);
     FlatReceiver {
         timeout: settings.timeout,
         window: settings.window,
@@ -144,7 +175,7 @@ fn flat(settings: Settings, phase: u8, x: Connection) -> FlatReceiver
         expected: x.expected,
         last: x.last,
         wait: x.wait,
-        misses: x.misses,
+        misses,
         held: x.held,
         holds: x.holds,
     }
@@ -160,7 +191,7 @@ fn remembering(frames: u8, length: u16) -> Connection
         expected: 0,
         last: 0,
         wait: 0,
-        misses: 0,
+        misses: Misses::NoneAfterAck,
         held: false,
         holds: 0,
     }

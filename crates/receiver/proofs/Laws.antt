@@ -34,6 +34,7 @@ use Rattle.receiver.specs.Tick.{waiting, askingAgain, timeoutFree, holdi
 use Rattle.receiver.specs.Told.{Told, Heard, heard, refusing, silently, emitting, failingWith, failing, shortWith, shortOnly}
 use Rattle.receiver.specs.declared.Connection.{Connection}
 use Rattle.receiver.specs.declared.Delivery.{Delivery}
+use Rattle.receiver.specs.declared.Misses.the-variants.{NoneAfterAck, OneAfterAck, TwoAfterAck, NoneAfterFrame, OneAfterFrame}
 use Rattle.receiver.specs.declared.Phase.{Phase}
 use Rattle.receiver.specs.declared.Phase.the-variants.{Idle, Done, Open}
 use Rattle.receiver.specs.declared.Receiver.{Receiver}
@@ -93,13 +94,25 @@ pub ruleset makes = (make-made, make-refused)
 -- ---- a tick
 
 module _ (r : Receiver) (x : Connection) {a : Told} where
-  pub free-fails : a ≡ failingWith r 2 → 2 ≤ x .misses → a ≡ timeoutFree r x
+  pub first-after-ack : a ≡ askingAgain r x OneAfterAck → x .misses ≡ NoneAfterAck → a ≡ timeoutFree r x (x .misses)
   unfolding timeoutFree
-  free-fails e third = pick-true _ (le-leb 3 (x .misses + 1) (omega arith)) e
+  first-after-ack e m = e ∙ ap (timeoutFree r x) (sym m)
 
-  pub free-asks : a ≡ askingAgain r x → x .misses < 2 → a ≡ timeoutFree r x
+  pub second-after-ack : a ≡ askingAgain r x TwoAfterAck → x .misses ≡ OneAfterAck → a ≡ timeoutFree r x (x .misses)
   unfolding timeoutFree
-  free-asks e more = pick-false _ (lt-leb 3 (x .misses + 1) (omega arith)) e
+  second-after-ack e m = e ∙ ap (timeoutFree r x) (sym m)
+
+  pub third-after-ack : a ≡ failingWith r 2 → x .misses ≡ TwoAfterAck → a ≡ timeoutFree r x (x .misses)
+  unfolding timeoutFree
+  third-after-ack e m = e ∙ ap (timeoutFree r x) (sym m)
+
+  pub first-after-frame : a ≡ askingAgain r x OneAfterFrame → x .misses ≡ NoneAfterFrame → a ≡ timeoutFree r x (x .misses)
+  unfolding timeoutFree
+  first-after-frame e m = e ∙ ap (timeoutFree r x) (sym m)
+
+  pub first-again : a ≡ askingAgain r x OneAfterAck → x .misses ≡ OneAfterFrame → a ≡ timeoutFree r x (x .misses)
+  unfolding timeoutFree
+  first-again e m = e ∙ ap (timeoutFree r x) (sym m)
 
   pub held-fails : a ≡ failingWith r 2 → 20 ≤ x .holds → a ≡ timeoutHeld r x
   unfolding timeoutHeld
@@ -121,11 +134,13 @@ module _ (r : Receiver) (x : Connection) {wait : ℕ} (w : wait ≡ incrementOf 
   unfolding tickOpen
   tick-held e due held = pick-true _ (late due) (pick-true _ held e)
 
-  pub tick-free : {a : Told} → a ≡ timeoutFree r x → r .settings .timeout ≤ wait → x .held ≡ false → a ≡ tickOpen r x
+  pub tick-free : {a : Told} → a ≡ timeoutFree r x (x .misses) → r .settings .timeout ≤ wait → x .held ≡ false → a ≡ tickOpen r x
   unfolding tickOpen
   tick-free e due free = pick-true _ (late due) (pick-false _ free e)
 
-pub ruleset ticks-open = (free-fails, free-asks, held-fails, held-goes-on, tick-waits, tick-held, tick-free)
+pub ruleset timeouts-free = (first-after-ack, second-after-ack, third-after-ack, first-after-frame, first-again)
+
+pub ruleset ticks-open = (held-fails, held-goes-on, tick-waits, tick-held, tick-free)
 
 module _ (r : Receiver) {a : Told} where
   pub tick-idle : a ≡ silently r → r .phase ≡ Idle → a ≡ tickOf r

@@ -16,13 +16,16 @@ use Rattle.frame.specs.declared.Frame.{Frame}
 use Rattle.frame.proofs.Choice.{pick-elim}
 use Rattle.frame.proofs.Laws.{frame-count-bounds}
 use Rattle.receiver.proofs.Laws.{settings-within}
-use Rattle.receiver.proofs.View.{receiverIn, Ticks, rests, waits, retries, repeats, expires, tick-does, Pause, hold, resume, Pauses, denied, holds, resumes, pause-does, nacks, opens, again, ended, above, delivers, asks, goes-on, Hears, refuses, ignores, announced, informed, closes, short, short-only, hear-does}
+use Rattle.receiver.proofs.View.{receiverIn, Ticks, rests, waits, retries, repeats, expires, tick-does, Counted, first-after-ack, second-after-ack, first-after-frame, first-again, Pause, hold, resume, Pauses, denied, holds, resumes, pause-does, nacks, opens, again, ended, above, delivers, asks, goes-on, Hears, refuses, ignores, announced, informed, closes, short, short-only, hear-does}
+use Rattle.receiver.specs.Misses.{acknowledged}
 use Rattle.receiver.specs.Make.{settingsFit, idleWith, makeOf}
-use Rattle.receiver.specs.Reachable.{Reachable, new, ticked, held, resumed, hearing, SettingsWithin, Announced, OpenWithin, PhaseWithin, Within, Exact, EveryReachable}
+use Rattle.receiver.specs.Reachable.{Reachable, new, ticked, held, resumed, hearing, SettingsWithin, Announced, MissesWithin, OpenWithin, PhaseWithin, Within, Exact, EveryReachable}
 use Rattle.receiver.specs.State.{opened, moved, marked}
 use Rattle.receiver.specs.Told.{Told, Heard}
 use Rattle.receiver.specs.Window.{windowOf}
 use Rattle.receiver.specs.declared.Connection.{Connection}
+use Rattle.receiver.specs.declared.Misses.{Misses}
+use Rattle.receiver.specs.declared.Misses.the-variants.{NoneAfterAck, OneAfterAck, TwoAfterAck, NoneAfterFrame, OneAfterFrame}
 use Rattle.receiver.specs.declared.Phase.{Phase}
 use Rattle.receiver.specs.declared.Phase.the-variants.{Open}
 use Rattle.receiver.specs.declared.Receiver.{Receiver}
@@ -71,13 +74,30 @@ window-low : (s : Settings) → 1 ≤ s .window → (expected frames : ℕ) → 
 unfolding windowOf
 window-low s some expected frames h = omega arith
 
+-- an LM_ACK that goes with a held mark, and a timeout that is not the third of its type: after either the wait is one after an
+-- LM_ACK, so that the mark does not matter
+acknowledged-within : (m : Misses) (expected : ℕ) (was mark : Bool) → MissesWithin m expected was
+    → MissesWithin (acknowledged m) expected mark
+acknowledged-within NoneAfterAck expected was mark h = tt
+acknowledged-within OneAfterAck expected was mark h = tt
+acknowledged-within TwoAfterAck expected was mark h = tt
+acknowledged-within NoneAfterFrame expected was mark h = tt
+acknowledged-within OneAfterFrame expected was mark h = h
+
+counted-within : {m n : Misses} → Counted m n → (expected : ℕ) (was mark : Bool) → MissesWithin m expected was
+    → MissesWithin n expected mark
+counted-within first-after-ack expected was mark h = tt
+counted-within second-after-ack expected was mark h = tt
+counted-within first-after-frame expected was mark h = h .0
+counted-within first-again expected was mark h = tt
+
 module _ (s : Settings) (w : SettingsWithin s) where
   -- a connection with a window just asked for
-  asked : (x : Connection) (expected misses : ℕ) → Announced s (x .frames) (x .length) → 1 ≤ expected → expected ≤ x .frames → misses < 3
-      → x .holds ≤ 20 → (x .held ≡ true → 2 ≤ expected)
+  asked : (x : Connection) (expected : ℕ) (misses : Misses) → Announced s (x .frames) (x .length) → 1 ≤ expected → expected ≤ x .frames
+      → x .holds ≤ 20 → (x .held ≡ true → 2 ≤ expected) → MissesWithin misses expected (x .held)
       → Within (receiverIn s (Open (moved x expected (windowOf s expected (x .frames)) 0 misses)))
   unfolding windowOf
-  asked x expected misses a low high more few begun =
+  asked x expected misses a low high few begun typed =
       record {
         settings = w;
         phase = record {
@@ -87,9 +107,9 @@ module _ (s : Settings) (w : SettingsWithin s) where
           final = omega arith;
           window = omega arith;
           waits = w .timeoutLow;
-          tries = more;
           heldTimeouts = few;
           begun = begun;
+          typed = typed;
         };
       }
 
@@ -107,9 +127,9 @@ module _ (s : Settings) (w : SettingsWithin s) where
           final = high;
           window = size;
           waits = early;
-          tries = o .tries;
           heldTimeouts = few;
           begun = begun;
+          typed = acknowledged-within (x .misses) (x .expected) (x .held) mark (o .typed);
         };
       }
 
@@ -127,13 +147,14 @@ module _ (s : Settings) (w : SettingsWithin s) where
           final = o .final;
           window = o .window;
           waits = early;
-          tries = o .tries;
           heldTimeouts = o .heldTimeouts;
           begun = o .begun;
+          typed = o .typed;
         };
       }
-  ticks-within o (retries {x} _ more) =
-      asked x _ (x .misses + 1) (o .announced) (o .first) (omega arith) more (o .heldTimeouts) (o .begun)
+  ticks-within o (retries {x} {misses} _ counted) =
+      asked x _ misses (o .announced) (o .first) (omega arith) (o .heldTimeouts) (o .begun)
+      (counted-within counted (x .expected) (x .held) (x .held) (o .typed))
   ticks-within o (repeats {x} _ _ more) =
       paused x (x .held) (x .last) 0 (x .holds + 1) o (o .inside) (o .final) (o .window) (w .timeoutLow) (omega arith) (o .begun)
   ticks-within o expires = record { settings = w; phase = tt }
@@ -158,15 +179,15 @@ module _ (s : Settings) (w : SettingsWithin s) where
   hears-within o (announced _ _ (nacks _ _)) = record { settings = w; phase = o }
   hears-within {f} o (announced _ _ (opens _ low high fits room)) =
       let a : Announced s (byteOf f 1) (wordAt f 2 3) = record { long = low; space = room; fits = fits; byte = omega arith } in
-      asked (opened (byteOf f 1) (wordAt f 2 3) 1) 1 0 a (omega arith) (omega arith) (omega arith) (omega arith)
-      (λ no. absurd (false≢true no))
+      asked (opened (byteOf f 1) (wordAt f 2 3) 1) 1 NoneAfterAck a (omega arith) (omega arith) (omega arith)
+      (λ no. absurd (false≢true no)) tt
   hears-within o (announced _ _ again) = record { settings = w; phase = o }
   hears-within o (informed _ _ _ (ended _)) = record { settings = w; phase = o }
   hears-within o (informed _ _ _ (above _)) = record { settings = w; phase = tt }
   hears-within o (informed _ _ _ (delivers _ _)) = record { settings = w; phase = o .announced }
   hears-within o (informed _ _ _ (asks {x} _ more _)) =
-      asked x (x .expected + 1) 0 (o .announced) (omega arith) (omega arith) (omega arith) (o .heldTimeouts) (λ _. omega arith)
-  hears-within o (informed _ _ _ (goes-on _ more part)) =
+      asked x (x .expected + 1) NoneAfterAck (o .announced) (omega arith) (omega arith) (o .heldTimeouts) (λ _. omega arith) tt
+  hears-within o (informed _ _ _ (goes-on free _ more part)) =
       record {
         settings = w;
         phase = record {
@@ -176,9 +197,9 @@ module _ (s : Settings) (w : SettingsWithin s) where
           final = o .final;
           window = omega arith;
           waits = w .timeoutLow;
-          tries = omega arith;
           heldTimeouts = o .heldTimeouts;
           begun = λ _. omega arith;
+          typed = (omega arith, free);
         };
       }
   hears-within o (closes _) = record { settings = w; phase = tt }
@@ -206,7 +227,6 @@ within-exact r x w p =
     record {
       wait = omega arith;
       due = at-bound (r .settings .timeout) (x .wait) (omega arith) (omega arith);
-      third = at-exactly 3 (x .misses) (omega arith);
       twentyFirst = at-exactly 21 (x .holds) (omega arith);
       before = λ on. let begun = o .begun on in (omega arith, omega arith);
       count = omega arith;

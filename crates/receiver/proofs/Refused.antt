@@ -42,7 +42,7 @@ module _ {s : Settings} {buffer : List ℕ} where
   informed-taken (above _) = tt
   informed-taken (delivers _ _) = tt
   informed-taken (asks _ _ _) = tt
-  informed-taken (goes-on _ _ _) = tt
+  informed-taken (goes-on _ _ _ _) = tt
 
   -- one case is a refusal; by 14 it is one of an unclean frame
   pub refused-so : {f : Frame} {p : Phase} {h : told.Heard} {number : ℕ} → Hears s f buffer p h

@@ -2,7 +2,7 @@
 -- proof about every call matches on these and unfolds no definition.
 -- Assumes nothing.
 use Prim.Native.Nat.{ℕ, _+_, _≤_, _<_}
-use mathlib.Core.Path.{_≡_, sym, _∙_}
+use mathlib.Core.Path.{_≡_, refl, sym, _∙_}
 use mathlib.Core.Bool.{true, false, not, _&&_}
 use mathlib.Core.List.{List}
 use native.Mathlib.Omega.{arith}
@@ -23,6 +23,8 @@ use Rattle.receiver.specs.Tick.{waiting, askingAgain, timeoutFree, holdi
 use Rattle.receiver.specs.Told.{Told, Heard, heard, refusing, silently, emitting, failingWith, failing, shortWith, shortOnly}
 use Rattle.receiver.specs.declared.Connection.{Connection}
 use Rattle.receiver.specs.declared.Delivery.{Delivery}
+use Rattle.receiver.specs.declared.Misses.{Misses}
+use Rattle.receiver.specs.declared.Misses.the-variants.{NoneAfterAck, OneAfterAck, TwoAfterAck, NoneAfterFrame, OneAfterFrame}
 use Rattle.receiver.specs.declared.Phase.{Phase}
 use Rattle.receiver.specs.declared.Phase.the-variants.{Idle, Done, Open}
 use Rattle.receiver.specs.declared.Receiver.{Receiver}
@@ -37,6 +39,13 @@ abbrev pub Shut : Phase → Type 0
 Shut Idle = Unit
 Shut (Done x) = Unit
 Shut (Open x) = ⊥
+
+-- what is counted before and after a timeout that is not the third of its type
+pub data Counted : Misses → Misses → Type 0 where
+  first-after-ack : Counted NoneAfterAck OneAfterAck
+  second-after-ack : Counted OneAfterAck TwoAfterAck
+  first-after-frame : Counted NoneAfterFrame OneAfterFrame
+  first-again : Counted OneAfterFrame OneAfterAck
 
 -- the two calls of a hold
 pub data Pause : Type 0 where
@@ -61,10 +70,10 @@ module _ (s : Settings) where
     waits : {x : Connection}
         → incrementOf (x .wait) < s .timeout
         → Ticks (Open x) (waiting (openWith x) x)
-    retries : {x : Connection}
+    retries : {x : Connection} {misses : Misses}
         → s .timeout ≤ incrementOf (x .wait)
-        → x .misses + 1 < 3
-        → Ticks (Open x) (askingAgain (openWith x) x)
+        → Counted (x .misses) misses
+        → Ticks (Open x) (askingAgain (openWith x) x misses)
     repeats : {x : Connection}
         → s .timeout ≤ incrementOf (x .wait)
         → x .held ≡ true
@@ -117,6 +126,7 @@ module _ (s : Settings) where
         → Informed number bytes buffer (Open x)
         (heard (askingNext (openWith x) x) (storing buffer number (x .length) bytes))
     goes-on : {x : Connection}
+        → x .held ≡ false
         → number ≡ x .expected
         → x .expected < x .frames
         → (x .expected ≡ x .last → ⊥)
@@ -155,8 +165,18 @@ module _ (s : Settings) where
 -- ---- the calls do this
 
 module _ (s : Settings) where
+  -- at T, not held, by what is counted
+  timeout-free : (x : Connection) (m : Misses) → x .misses ≡ m → s .timeout ≤ incrementOf (x .wait)
+      → Ticks s (Open x) (timeoutFree (receiverIn s (Open x)) x m)
+  unfolding timeoutFree
+  timeout-free x NoneAfterAck e due = retries {x = x} {misses = OneAfterAck} due (rw e first-after-ack)
+  timeout-free x OneAfterAck e due = retries {x = x} {misses = TwoAfterAck} due (rw e second-after-ack)
+  timeout-free x TwoAfterAck e due = expires
+  timeout-free x NoneAfterFrame e due = retries {x = x} {misses = OneAfterFrame} due (rw e first-after-frame)
+  timeout-free x OneAfterFrame e due = retries {x = x} {misses = OneAfterAck} due (rw e first-again)
+
   tick-phase : (p : Phase) → Ticks s p (tickPhase (receiverIn s p) p)
-  unfolding tickPhase tickOpen timeoutFree timeoutHeld
+  unfolding tickPhase tickOpen timeoutHeld
   tick-phase Idle = rests tt
   tick-phase (Done y) = rests tt
   tick-phase (Open x) =
@@ -165,8 +185,7 @@ module _ (s : Settings) where
       (λ due. pick-elim P (x .held)
       (λ held. pick-elim P _ (λ over. expires)
       (λ more. repeats (leb-true _ _ due) held (leb-false _ _ more)))
-      (λ free. pick-elim P _ (λ third. expires)
-      (λ more. retries (leb-true _ _ due) (leb-false _ _ more))))
+      (λ free. timeout-free x (x .misses) refl (leb-true _ _ due)))
       (λ early. waits (leb-false _ _ early))
 
   hold-phase : (p : Phase) → Pauses s hold p (holdPhase (receiverIn s p) p)
@@ -228,16 +247,16 @@ module _ (s : Settings) where
       Stores x t =
           Hears s f buffer (Open x) (heard t (storing buffer (byteOf f 0) (x .length) (drop 1 (f .bytes))))
 
-      stored-does : (x : Connection) → byteOf f 0 ≡ x .expected → x .expected ≤ x .frames
+      stored-does : (x : Connection) → x .held ≡ false → byteOf f 0 ≡ x .expected → x .expected ≤ x .frames
           → Stores x (stored (receiverIn s (Open x)) x)
       unfolding stored
-      stored-does x at inside =
+      stored-does x free at inside =
           pick-elim (Stores x) _ (λ whole. takes (delivers at (eqb-true _ _ whole)))
           (λ more.
           let other = eqb-false (x .expected) (x .frames) more in
           let below : x .expected < x .frames = omega (arith, other) in
           pick-elim (Stores x) _ (λ full. takes (asks at below (eqb-true _ _ full)))
-          (λ part. takes (goes-on at below (eqb-false _ _ part))))
+          (λ part. takes (goes-on free at below (eqb-false _ _ part))))
 
       -- the frame is expected: taken, or unclean
       expected-does : (x : Connection) → x .held ≡ false → byteOf f 0 ≡ x .expected → x .expected ≤ x .frames
@@ -252,7 +271,7 @@ module _ (s : Settings) where
           let whole : byteOf f 0 ≡ x .frames = eqb-true _ _ (both-left last stained unclean) in
           let dirty = not-true (cleanFor f (x .length)) (both-right last stained unclean) in
           refuses 14 (λ _. (one, low, whole, sym at ∙ whole, free, dirty)))
-          (λ _. stored-does x at inside)
+          (λ _. stored-does x free at inside)
 
       -- every phase, and every reason to refuse or to ignore the frame
       information-does : (p : Phase) → isHeld p ≡ false

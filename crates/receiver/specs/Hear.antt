@@ -17,6 +17,7 @@ use Rattle.receiver.specs.Told.{Told, Heard, heard, refusing, silently, 
 use Rattle.receiver.specs.Window.{windowOf, asking}
 use Rattle.receiver.specs.declared.Connection.{Connection}
 use Rattle.receiver.specs.declared.Delivery.{Delivery}
+use Rattle.receiver.specs.declared.Misses.the-variants.{NoneAfterAck, NoneAfterFrame}
 use Rattle.receiver.specs.declared.Phase.{Phase}
 use Rattle.receiver.specs.declared.Phase.the-variants.{Idle, Done, Open}
 use Rattle.receiver.specs.declared.Receiver.{Receiver}
@@ -69,13 +70,15 @@ ending r x =
     let delivery : Delivery = record { frames = x .frames; length = x .length } in
     delivering (inPhase r (Done delivery)) (endOfAckOf (x .frames) (x .length)) (x .length)
 
--- "At w": the next window is asked for from the next frame on; an accepted frame clears misses, and asking clears wait
+-- "At w": the next window is asked for from the next frame on; an accepted frame clears misses, and asking clears wait. Of
+-- frame and LM_ACK the LM_ACK is the later (document 02, E4).
 abbrev pub askingNext : Receiver → Connection → Told
-askingNext r x = asking r x (x .expected + 1) 0
+askingNext r x = asking r x (x .expected + 1) NoneAfterAck
 
--- "Else": the next frame of the window is expected; an accepted frame clears wait and misses
+-- "Else": the next frame of the window is expected; an accepted frame clears wait and misses, and draws no LM_ACK, so that the
+-- wait is now one after a frame (E4)
 abbrev pub expectingNext : Receiver → Connection → Told
-expectingNext r x = silently (inPhase r (Open (moved x (x .expected + 1) (x .last) 0 0)))
+expectingNext r x = silently (inPhase r (Open (moved x (x .expected + 1) (x .last) 0 NoneAfterFrame)))
 
 -- what follows once the frame expected is in the buffer: the message's last, the window's last, or another
 unfoldable pub stored : Receiver → Connection → Told

@@ -24,7 +24,7 @@ holdAck x = lmAckOf (x .expected - 1) 1
 abbrev pub mayHold : Connection → Bool
 mayHold x = leb 2 (x .expected) && not (x .held)
 
--- "Hold": the mark is set and that LM_ACK goes out; w, wait, misses and the count stay
+-- "Hold": the mark is set and that LM_ACK goes out; w, wait, misses and the count stay, the wait is one after an LM_ACK
 abbrev pub holding : Receiver → Connection → Told
 holding r x =
     let kept = marked x true (x .last) (x .wait) (x .holds) in
@@ -44,8 +44,8 @@ holdOf r = holdPhase r (r .phase)
 
 -- ---- resume
 
--- "Resume": the mark goes, and the window from e on is asked for with the end that it has now; wait, misses and the
--- count stay
+-- "Resume": the mark goes, and the window from e on is asked for with the end that it has now; wait, misses and the count
+-- stay, the wait is one after an LM_ACK
 abbrev pub resuming : Receiver → Connection → Told
 resuming r x =
     let last = windowOf (r .settings) (x .expected) (x .frames) in

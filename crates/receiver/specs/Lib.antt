@@ -1,3 +1,4 @@
+pub mod Misses
 pub mod State
 pub mod Told
 pub mod Window

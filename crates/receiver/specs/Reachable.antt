@@ -1,7 +1,7 @@
 -- The states that making and calls bring a receiver to, what holds of them, and that in them the definitions' tests and
 -- counts are those of documents 01 and 02: `EveryReachable`, proved in `proofs/Reachable.antt`.
 use Prim.Native.Nat.{ℕ, _+_, _-_, _*_, _≤_, _<_}
-use mathlib.Core.Bool.{true}
+use mathlib.Core.Bool.{Bool, true, false}
 use mathlib.Core.Path.{_≡_}
 use mathlib.Core.List.{List}
 use lib.Dec.{eqb, leb}
@@ -15,6 +15,8 @@ use Rattle.receiver.specs.Make.{makeOf}
 use Rattle.receiver.specs.Tick.{tickOf}
 use Rattle.receiver.specs.Window.{windowOf}
 use Rattle.receiver.specs.declared.Connection.{Connection}
+use Rattle.receiver.specs.declared.Misses.{Misses}
+use Rattle.receiver.specs.declared.Misses.the-variants.{NoneAfterAck, OneAfterAck, TwoAfterAck, NoneAfterFrame, OneAfterFrame}
 use Rattle.receiver.specs.declared.Phase.{Phase}
 use Rattle.receiver.specs.declared.Phase.the-variants.{Idle, Done, Open}
 use Rattle.receiver.specs.declared.Receiver.{Receiver}
@@ -45,8 +47,17 @@ pub record Announced (s : Settings) (frames length : ℕ) : Type 0 where
   pub fits : frames ≡ frameCountOf length
   pub byte : frames ≤ 255
 
--- an open connection: 1 ≤ e ≤ w ≤ N, w at most e + C − 1, short of T, of the third miss and of the 21st held timeout;
--- it is held only where a frame has been accepted
+-- document 02, E4: a wait after a frame, and a timeout after one, come after an accepted frame; and the wait while held is one
+-- after an LM_ACK
+abbrev pub MissesWithin : Misses → ℕ → Bool → Type 0
+MissesWithin NoneAfterAck expected mark = Unit
+MissesWithin OneAfterAck expected mark = Unit
+MissesWithin TwoAfterAck expected mark = Unit
+MissesWithin NoneAfterFrame expected mark = (2 ≤ expected) × (mark ≡ false)
+MissesWithin OneAfterFrame expected mark = 2 ≤ expected
+
+-- an open connection: 1 ≤ e ≤ w ≤ N, w at most e + C − 1, short of T and of the 21st held timeout; it is held only where a
+-- frame has been accepted
 pub record OpenWithin (s : Settings) (x : Connection) : Type 0 where
   pub announced : Announced s (x .frames) (x .length)
   pub first : 1 ≤ x .expected
@@ -54,9 +65,9 @@ pub record OpenWithin (s : Settings) (x : Connection) : Type 0 where
   pub final : x .last ≤ x .frames
   pub window : x .last ≤ x .expected + s .window - 1
   pub waits : x .wait < s .timeout
-  pub tries : x .misses < 3
   pub heldTimeouts : x .holds ≤ 20
   pub begun : x .held ≡ true → 2 ≤ x .expected
+  pub typed : MissesWithin (x .misses) (x .expected) (x .held)
 
 abbrev pub PhaseWithin : Settings → Phase → Type 0
 PhaseWithin s Idle = Unit
@@ -72,9 +83,8 @@ pub record Within (r : Receiver) : Type 0 where
 pub record Exact (r : Receiver) (x : Connection) : Type 0 where
   -- "wait grows by 1"
   pub wait : incrementOf (x .wait) ≡ x .wait + 1
-  -- "At T", "the third"
+  -- "At T"
   pub due : leb (r .settings .timeout) (incrementOf (x .wait)) ≡ eqb (x .wait + 1) (r .settings .timeout)
-  pub third : leb 3 (x .misses + 1) ≡ eqb (x .misses + 1) 3
   -- document 02, E2, "where a 21st would fall due"
   pub twentyFirst : leb 21 (x .holds + 1) ≡ eqb (x .holds + 1) 21
   -- E2, "LM_ACK e − 1, 1", while held (a hold itself tests e): the start is a frame's number, one below e

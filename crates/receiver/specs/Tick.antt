@@ -1,4 +1,5 @@
--- Document 01, The receiver, "Tick, Open" and "Tick or LM_NACK, Idle"; document 02, E2, the timeouts while held.
+-- Document 01, The receiver, "Tick, Open" and "Tick or LM_NACK, Idle"; document 02, E2, the timeouts while held, and E4, the
+-- types of the others.
 use Prim.Native.Nat.{_+_}
 use lib.Dec.{leb}
 use Rattle.frame.specs.Choice.{pick}
@@ -8,6 +9,8 @@ use Rattle.receiver.specs.State.{moved, marked, inPhase}
 use Rattle.receiver.specs.Told.{Told, silently, emitting, failingWith}
 use Rattle.receiver.specs.Window.{asking}
 use Rattle.receiver.specs.declared.Connection.{Connection}
+use Rattle.receiver.specs.declared.Misses.{Misses}
+use Rattle.receiver.specs.declared.Misses.the-variants.{NoneAfterAck, OneAfterAck, TwoAfterAck, NoneAfterFrame, OneAfterFrame}
 use Rattle.receiver.specs.declared.Phase.{Phase}
 use Rattle.receiver.specs.declared.Phase.the-variants.{Idle, Done, Open}
 use Rattle.receiver.specs.declared.Receiver.{Receiver}
@@ -18,15 +21,22 @@ waiting r x =
     let waited = moved x (x .expected) (x .last) (incrementOf (x .wait)) (x .misses) in
     silently (inPhase r (Open waited))
 
--- at T, before the third miss: a miss more, and the window from the expected frame on is asked for, which clears wait
-abbrev pub askingAgain : Receiver → Connection → Told
-askingAgain r x = asking r x (x .expected) (x .misses + 1)
+-- at T, before the third miss: the misses with this one, and the window from the expected frame on is asked for, which clears
+-- wait
+abbrev pub askingAgain : Receiver → Connection → Misses → Told
+askingAgain r x misses = asking r x (x .expected) misses
 
--- the third miss fails the connection with NACK 2
-unfoldable pub timeoutFree : Receiver → Connection → Told
-timeoutFree r x = pick (leb 3 (x .misses + 1)) (failingWith r 2) (askingAgain r x)
+-- E4: a timeout is of the type of the wait that it ends. After an LM_ACK it is the first, the second or the third of its type in
+-- a row, and the third fails the connection with NACK 2; after a frame it is the first. After the LM_ACK that one after a frame
+-- drew it is of another type than that one, and the first again.
+unfoldable pub timeoutFree : Receiver → Connection → Misses → Told
+timeoutFree r x NoneAfterAck = askingAgain r x OneAfterAck
+timeoutFree r x OneAfterAck = askingAgain r x TwoAfterAck
+timeoutFree r x TwoAfterAck = failingWith r 2
+timeoutFree r x NoneAfterFrame = askingAgain r x OneAfterFrame
+timeoutFree r x OneAfterFrame = askingAgain r x OneAfterAck
 
--- E2, at T while held: the hold's LM_ACK goes out again and is counted, wait starts again; misses and w stay
+-- E2, at T while held: the hold's LM_ACK goes out again and is counted, wait starts again; misses and w stay. E4 passes it over.
 abbrev pub holdingOn : Receiver → Connection → Told
 holdingOn r x =
     let kept = marked x (x .held) (x .last) 0 (x .holds + 1) in
@@ -36,11 +46,10 @@ holdingOn r x =
 unfoldable pub timeoutHeld : Receiver → Connection → Told
 timeoutHeld r x = pick (leb 21 (x .holds + 1)) (failingWith r 2) (holdingOn r x)
 
--- at T by the held mark. A state that no calls make may be past T, the third miss or the 21st held timeout; it does as one
--- that is at it.
+-- at T by the held mark. A state that no calls make may be past T or the 21st held timeout; it does as one that is at it.
 unfoldable pub tickOpen : Receiver → Connection → Told
 tickOpen r x =
-    pick (leb (r .settings .timeout) (incrementOf (x .wait))) (pick (x .held) (timeoutHeld r x) (timeoutFree r x))
+    pick (leb (r .settings .timeout) (incrementOf (x .wait))) (pick (x .held) (timeoutHeld r x) (timeoutFree r x (x .misses)))
     (waiting r x)
 
 -- by the state; where none is open a tick changes nothing

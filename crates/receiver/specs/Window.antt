@@ -5,6 +5,7 @@ use Rattle.frame.specs.declared.Frame.{Frame}
 use Rattle.receiver.specs.State.{moved, inPhase}
 use Rattle.receiver.specs.Told.{Told, emitting}
 use Rattle.receiver.specs.declared.Connection.{Connection}
+use Rattle.receiver.specs.declared.Misses.{Misses}
 use Rattle.receiver.specs.declared.Phase.the-variants.{Open}
 use Rattle.receiver.specs.declared.Receiver.{Receiver}
 use Rattle.receiver.specs.declared.Settings.{Settings}
@@ -17,8 +18,8 @@ windowOf s expected frames = min (expected + s .window - 1) frames
 abbrev pub windowAck : ℕ → ℕ → Frame
 windowAck expected last = lmAckOf expected (last - (expected - 1))
 
--- the window from e on is asked for: its end is stored, the wait starts again, and so many misses stand
-abbrev pub asking : Receiver → Connection → ℕ → ℕ → Told
+-- the window from e on is asked for: its end is stored, the wait starts again, and these misses stand
+abbrev pub asking : Receiver → Connection → ℕ → Misses → Told
 asking r x expected misses =
     let last = windowOf (r .settings) expected (x .frames) in
     emitting (inPhase r (Open (moved x expected last 0 misses))) (windowAck expected last)

@@ -18,6 +18,7 @@ ghost use Rattle.receiver.specs.Told.{told, heard};
 use crate::Answer;
 use crate::Connection;
 use crate::Delivery;
+use crate::Misses;
 use crate::Phase;
 use crate::Receiver;
 use crate::store::storing;
@@ -46,20 +47,20 @@ impl Receiver {
             .delivering(end_of_ack(x.frames, x.length), x.length)
     }
 
-    // The next window is asked for.
+    // The next window is asked for: the wait is one after its LM_ACK.
     fn asking_next(self, x: Connection) -> Answer
         requires { ⌜ x .expected < x .frames ⌝ }
         ensures { λ r. ⌜ told r ≡ askingNext self x ⌝ }
     {
-        self.asking(x, x.expected + 1, 0)
+        self.asking(x, x.expected + 1, Misses::NoneAfterAck)
     }
 
-    // The next frame is expected.
+    // The next frame is expected: the wait is one after this frame.
     fn expecting_next(self, x: Connection) -> Answer
         requires { ⌜ x .expected < x .frames ⌝ }
         ensures { λ r. ⌜ told r ≡ expectingNext self x ⌝ }
     {
-        self.in_phase(Phase::Open(x.moved(x.expected + 1, x.last, 0, 0)))
+        self.in_phase(Phase::Open(x.moved(x.expected + 1, x.last, 0, Misses::NoneAfterFrame)))
             .silently()
     }
 

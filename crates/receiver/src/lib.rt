@@ -24,15 +24,25 @@ pub struct Delivery {
     pub length: u16,
 }
 
-// An open connection: N and L as announced, the frame number expected (e) and the last of the window (w), the ticks
-// waited and the timeouts in a row; whether it is held, and how many timeouts it has had while held. In this order it is
-// laid out without gaps.
+// The timeouts in a row that a connection counts, all of one type: after an own LM_ACK, or after an accepted frame that
+// drew none. Where none is counted, what the connection waits after; where some are, it waits after an LM_ACK.
+pub enum Misses {
+    NoneAfterAck,
+    OneAfterAck,
+    TwoAfterAck,
+    NoneAfterFrame,
+    OneAfterFrame,
+}
+
+// An open connection: N and L as announced, the frame number expected (e) and the last of the window (w), the timeouts
+// counted and the ticks waited; whether it is held, and how many timeouts it has had while held. In this order it is laid
+// out without gaps.
 pub struct Connection {
     pub frames: u8,
     pub expected: u8,
     pub length: u16,
     pub last: u8,
-    pub misses: u8,
+    pub misses: Misses,
     pub wait: u16,
     pub held: bool,
     pub holds: u8,

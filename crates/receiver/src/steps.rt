@@ -1,5 +1,6 @@
 // The steps that the calls share: the changed state, and the answer of each kind.
 ghost use mathlib.Core.Path.{_≡_};
+ghost use Rattle.receiver.specs.Misses.{acknowledged};
 ghost use Rattle.receiver.specs.State.{opened, moved, marked, inPhase};
 ghost use Rattle.receiver.specs.Told.{
   told,
@@ -14,6 +15,7 @@ ghost use Rattle.receiver.specs.Told.{
 };
 use crate::Answer;
 use crate::Connection;
+use crate::Misses;
 use crate::Outcome;
 use crate::Phase;
 use crate::Receiver;
@@ -22,6 +24,22 @@ use frame::build::blank;
 use frame::build::lm_nack;
 
 const NO_BYTES: [u8; 8] = [0, 0, 0, 0, 0, 0, 0, 0];
+
+impl Misses {
+    // An LM_ACK has gone out: the wait is one after it, and the count stays.
+    pub(crate) fn acknowledged(self) -> Misses
+        ensures { λ r. ⌜ r ≡ acknowledged self ⌝ }
+    {
+        let misses = self;
+        match misses {
+            Misses::NoneAfterAck => Misses::NoneAfterAck,
+            Misses::OneAfterAck => Misses::OneAfterAck,
+            Misses::TwoAfterAck => Misses::TwoAfterAck,
+            Misses::NoneAfterFrame => Misses::NoneAfterAck,
+            Misses::OneAfterFrame => Misses::OneAfterFrame,
+        }
+    }
+}
 
 impl Connection {
     // Just opened.
@@ -34,14 +52,14 @@ impl Connection {
             expected: 1,
             last,
             wait: 0,
-            misses: 0,
+            misses: Misses::NoneAfterAck,
             held: false,
             holds: 0,
         }
     }
 
     // With other numbers.
-    pub(crate) fn moved(self, expected: u8, last: u8, wait: u16, misses: u8) -> Connection
+    pub(crate) fn moved(self, expected: u8, last: u8, wait: u16, misses: Misses) -> Connection
         ensures { λ r. ⌜ r ≡ moved self expected last wait misses ⌝ }
     {
         Connection {
@@ -56,17 +74,19 @@ impl Connection {
         }
     }
 
-    // With another held mark, window end, wait and count of held timeouts.
+    // With another held mark, window end, wait and count of held timeouts; it goes with an LM_ACK.
     pub(crate) fn marked(self, held: bool, last: u8, wait: u16, holds: u8) -> Connection
         ensures { λ r. ⌜ r ≡ marked self held last wait holds ⌝ }
     {
+        let misses = self.misses;
+        let misses = misses.acknowledged();
         Connection {
             frames: self.frames,
             length: self.length,
             expected: self.expected,
             last,
             wait,
-            misses: self.misses,
+            misses,
             held,
             holds,
         }

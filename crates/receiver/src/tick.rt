@@ -5,6 +5,7 @@ ghost use Rattle.receiver.specs.Tick.{waiting, askingAgain, timeoutFree,
 ghost use Rattle.receiver.specs.Told.{told};
 use crate::Answer;
 use crate::Connection;
+use crate::Misses;
 use crate::Phase;
 use crate::Receiver;
 use frame::count::increment;
@@ -15,26 +16,30 @@ impl Receiver {
         ensures { λ r. ⌜ told r ≡ waiting self x ⌝ }
     {
         let wait = increment(x.wait);
-        self.in_phase(Phase::Open(x.moved(x.expected, x.last, wait, x.misses)))
+        let misses = x.misses;
+        self.in_phase(Phase::Open(x.moved(x.expected, x.last, wait, misses)))
             .silently()
     }
 
-    // A miss more, and the window is asked for again.
-    fn asking_again(self, x: Connection) -> Answer
-        requires { ⌜ x .misses < 2 ⌝ }
-        ensures { λ r. ⌜ told r ≡ askingAgain self x ⌝ }
+    // The window is asked for again, and these misses stand.
+    fn asking_again(self, x: Connection, misses: Misses) -> Answer
+        ensures { λ r. ⌜ told r ≡ askingAgain self x misses ⌝ }
     {
-        self.asking(x, x.expected, x.misses + 1)
+        self.asking(x, x.expected, misses)
     }
 
-    // The window is asked for again; with two misses behind it, the third fails the connection.
+    // By what is counted: the window is asked for again; the third of one type fails the connection; one of another type
+    // than the one before is the first again.
     fn timeout_free(self, x: Connection) -> Answer
-        ensures { λ r. ⌜ told r ≡ timeoutFree self x ⌝ }
+        ensures { λ r. ⌜ told r ≡ timeoutFree self x (x .misses) ⌝ }
     {
-        if 2 <= x.misses {
-            self.failing_with(2)
-        } else {
-            self.asking_again(x)
+        let misses = x.misses;
+        match misses {
+            Misses::NoneAfterAck => self.asking_again(x, Misses::OneAfterAck),
+            Misses::OneAfterAck => self.asking_again(x, Misses::TwoAfterAck),
+            Misses::TwoAfterAck => self.failing_with(2),
+            Misses::NoneAfterFrame => self.asking_again(x, Misses::OneAfterFrame),
+            Misses::OneAfterFrame => self.asking_again(x, Misses::OneAfterAck),
         }
     }
 

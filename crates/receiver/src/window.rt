@@ -4,6 +4,7 @@ ghost use Rattle.receiver.specs.Told.{told};
 ghost use Rattle.receiver.specs.Window.{windowOf, windowAck, asking};
 use crate::Answer;
 use crate::Connection;
+use crate::Misses;
 use crate::Phase;
 use crate::Receiver;
 use crate::Settings;
@@ -35,7 +36,7 @@ impl Settings {
 
 impl Receiver {
     // The window from `expected` on is asked for.
-    pub(crate) fn asking(self, x: Connection, expected: u8, misses: u8) -> Answer
+    pub(crate) fn asking(self, x: Connection, expected: u8, misses: Misses) -> Answer
         ensures { λ r. ⌜ told r ≡ asking self x expected misses ⌝ }
     {
         let last = self.settings.window_of(expected, x.frames);

@@ -29,7 +29,7 @@ module _ {rs : Settings} {lent : List ℕ} where
   informed-taken (above _) = refl
   informed-taken (delivers _ _) = refl
   informed-taken (asks _ _ _) = refl
-  informed-taken (goes-on _ _ _) = refl
+  informed-taken (goes-on _ _ _ _) = refl
 
 taken : (buffer : List ℕ) (h : Heard) → Unrefused h → bufferAfter (wasRefused (h .told .outcome)) buffer (h .buffer) ≡ h .buffer
 taken buffer h = go (wasRefused (h .told .outcome))

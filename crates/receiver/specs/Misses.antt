@@ -1,0 +1,15 @@
+-- Document 02, E4: the timeouts in a row that a connection counts, by their type. `Misses` is document 01's misses, and says at
+-- the same time what the connection waits after. Of all that the two could be together these five come about: a frame that is
+-- accepted clears the count, and every timeout draws an LM_ACK, so that a wait after a frame is one with nothing counted, and of
+-- timeouts after a frame there is never more than one in a row.
+use Rattle.receiver.specs.declared.Misses.{Misses}
+use Rattle.receiver.specs.declared.Misses.the-variants.{NoneAfterAck, OneAfterAck, TwoAfterAck, NoneAfterFrame, OneAfterFrame}
+
+-- "the later one decides the type", where it is an LM_ACK of a hold, of a resume or of a timeout while held: from now on the
+-- wait is one after an LM_ACK; what is counted stays
+abbrev pub acknowledged : Misses → Misses
+acknowledged NoneAfterAck = NoneAfterAck
+acknowledged OneAfterAck = OneAfterAck
+acknowledged TwoAfterAck = TwoAfterAck
+acknowledged NoneAfterFrame = NoneAfterAck
+acknowledged OneAfterFrame = OneAfterFrame
