@@ -26,7 +26,7 @@ use crate::values::*;
 /// A call of an end in a forged state.
 pub fn end_call(random: &mut Random) -> Call {
     let (sender, receiver) = (sender(random), receiver(random));
-    match random.weighted(&[8, 6, 32, 22, 12, 6, 6, 22, 20]) {
+    match random.weighted(&[8, 6, 32, 22, 16, 6, 6, 24, 20, 4]) {
         0 => Call::SenderBegin(sender, any_part(random, sender.length)),
         1 => {
             let length = random.between(0, 10);
@@ -39,6 +39,11 @@ pub fn end_call(random: &mut Random) -> Call {
         6 => Call::ReceiverResume(expecting(random, receiver)),
         7 => {
             let frame = frames::any(random, &sender, &receiver);
+            Call::ReceiverHear(begun(receiver), frame, mostly_right_buffer(random, 96))
+        }
+        9 => {
+            let receiver = just_opened(receiver);
+            let frame = frames::announcement(&receiver);
             Call::ReceiverHear(begun(receiver), frame, mostly_right_buffer(random, 96))
         }
         _ => {
@@ -182,9 +187,19 @@ fn receiver(random: &mut Random) -> FlatReceiver {
 
 /// One of the five numbers, seldom another, which is read as 0.
 fn any_misses(random: &mut Random) -> u8 {
-    match random.percent(95) {
+    match random.percent(88) {
         true => random.between(0, 4) as u8,
         false => random.between(5, 255) as u8,
+    }
+}
+
+/// The same before its first frame, and not held.
+fn just_opened(receiver: FlatReceiver) -> FlatReceiver {
+    FlatReceiver {
+        phase: 2,
+        expected: 1,
+        held: false,
+        ..receiver
     }
 }
 
@@ -210,7 +225,7 @@ fn expecting(random: &mut Random, receiver: FlatReceiver) -> FlatReceiver {
 }
 
 /// Mostly an open receiver at the end of its message, and a frame's number: N, mostly expected; or, where N lies further on
-/// than L asks for, the frame in which L ends or the one after it, expected too.
+/// than L asks for, the frame in which L ends or the one after it, expected too, and at times at a window's end.
 fn ending(random: &mut Random, receiver: FlatReceiver) -> (FlatReceiver, u8) {
     let end = frames_for(receiver.length).min(255) as u8;
     let (frames, expected, number) = match random.weighted(&[60, 10, 25, 5]) {
@@ -229,6 +244,7 @@ fn ending(random: &mut Random, receiver: FlatReceiver) -> (FlatReceiver, u8) {
         phase,
         frames,
         expected,
+        last: random.pick(&[expected, receiver.last]),
         held: random.percent(20),
         holds: receiver.holds.min(20),
         ..receiver

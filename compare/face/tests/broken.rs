@@ -208,19 +208,20 @@ fn dirty_last_frames_come_about() {
 #[test]
 fn timeouts_of_each_type_come_about() {
     let [sessions, forged] = met_apart();
+    let mut wrong = forged.rare_typings(50);
     for typing in Typing::ALL {
         let place = typing as usize;
         let counts = [sessions.typings[place], forged.typings[place]];
         println!("{typing:?}: {counts:?}");
-        for number in 0..NUMBERS {
-            let in_sessions = counts[0][number];
-            match typing.comes_about(number) {
-                true => assert!(in_sessions >= 50, "{typing:?} with misses {number}"),
-                false => assert_eq!(in_sessions, 0, "{typing:?} with misses {number}"),
-            }
-        }
+        wrong.extend((0..NUMBERS).filter_map(|number| {
+            let right = match typing.comes_about(number) {
+                true => counts[0][number] >= 50,
+                false => counts[0][number] == 0,
+            };
+            (!right).then(|| format!("in sessions {typing:?} with misses {number}"))
+        }));
     }
-    assert_eq!(forged.rare_typings(50), Vec::<String>::new());
+    assert_eq!(wrong, Vec::<String>::new());
 }
 
 /// The seed that is named shows the difference at once.
