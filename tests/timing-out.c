@@ -109,12 +109,26 @@ static void others(void)
     for (int number = KOSPELNA_MISSES_ONE_AFTER_FRAME + 1; number < 256; number++) {
         const kospelna_receiver open = waiting(2, 3, (uint8_t)number, false);
         const kospelna_receiver none = waiting(2, 3, KOSPELNA_MISSES_NONE_AFTER_ACK, false);
-        kospelna_receiver due = waiting(2, 4, KOSPELNA_MISSES_ONE_AFTER_ACK, false);
+        kospelna_receiver before = open, due = waiting(2, 4, KOSPELNA_MISSES_ONE_AFTER_ACK, false);
+        before.wait = 1;
         due.wait = 0;
+        must(ignores(kospelna_receiver_tick(before), none), "a tick with another number");
         must(asks(kospelna_receiver_tick(open), ack(2, 3), due), "a timeout with another number");
         must(ignores(hears(open, zeros(1)), none), "a frame with another number");
         must(refuses(kospelna_receiver_resume(open), KOSPELNA_REFUSAL_HOLD, none), "a refusal with another number");
         must(kospelna_receiver_hold(open).next.misses == KOSPELNA_MISSES_NONE_AFTER_ACK, "a hold with another number");
+    }
+}
+
+/* A number that is left where no connection is open is not read: an opening starts at NONE_AFTER_ACK. */
+static void left_over(void)
+{
+    kospelna_receiver idle = kospelna_receiver_make(3, 3, 34).receiver;
+    kospelna_receiver due = waiting(1, 3, KOSPELNA_MISSES_NONE_AFTER_ACK, false);
+    due.wait = 0;
+    for (int number = 0; number < 256; number++) {
+        idle.misses = (uint8_t)number;
+        must(asks(hears(idle, five), ack(1, 3), due), "an opening with a number left over");
     }
 }
 
@@ -222,6 +236,7 @@ int main(void)
     }
     announced_again();
     others();
+    left_over();
     silences();
     silences_with_a_hold();
     longest(false, 53);
