@@ -14,7 +14,7 @@ use compare::packs::shrink::shrink;
 use compare::reference::frame;
 use compare::reference::line::{Bench, Call, List, Outcome};
 use compare::reference::player::{play, play_with};
-use compare::reference::receiver::{Receiver, State};
+use compare::reference::receiver::{After, Receiver, State};
 use compare::reference::sender::{Phase, Report, Sender};
 use compare::reference::{receiver, sender};
 
@@ -173,6 +173,48 @@ fn forgets_misses(bench: &mut Bench, call: Call, message: &[u8], buffer: &mut [u
     outcome
 }
 
+/// The count of document 01, without document 02's E4: timeouts of both types in one row.
+fn one_type(bench: &mut Bench, call: Call, message: &[u8], buffer: &mut [u8]) -> Outcome {
+    if let State::Open(open) = &mut bench.receiver.state {
+        open.counted = Some(open.after);
+    }
+    right(bench, call, message, buffer)
+}
+
+/// At a window's end the frame decides the type, and not the LM_ACK that it draws.
+fn frame_decides(bench: &mut Bench, call: Call, message: &[u8], buffer: &mut [u8]) -> Outcome {
+    let outcome = right(bench, call, message, buffer);
+    if let (Outcome::Receiver(answer), State::Open(open)) = (outcome, &mut bench.receiver.state) {
+        if gives_forward(call) && open.e > 1 && answer.frame.is_some() {
+            open.after = After::Frame;
+        }
+    }
+    outcome
+}
+
+/// A frame that was ignored decides the type as one that was taken does.
+fn ignored_decides(bench: &mut Bench, call: Call, message: &[u8], buffer: &mut [u8]) -> Outcome {
+    let outcome = right(bench, call, message, buffer);
+    if outcome == Outcome::Receiver(receiver::Answer::default()) && gives_forward(call) {
+        if let State::Open(open) = &mut bench.receiver.state {
+            open.after = After::Frame;
+        }
+    }
+    outcome
+}
+
+/// A frame taken leaves the count, and only another type begins it anew.
+fn keeps_misses(bench: &mut Bench, call: Call, message: &[u8], buffer: &mut [u8]) -> Outcome {
+    let before = bench.receiver.state;
+    let outcome = right(bench, call, message, buffer);
+    if let (State::Open(old), State::Open(open)) = (before, &mut bench.receiver.state) {
+        if gives_forward(call) {
+            (open.misses, open.counted) = (old.misses, old.counted);
+        }
+    }
+    outcome
+}
+
 /// The sender without document 02's E2: an LM_ACK for the frame before the last start is ignored.
 fn rule_left_out(bench: &mut Bench, call: Call, message: &[u8], buffer: &mut [u8]) -> Outcome {
     let (sender, first) = (bench.sender.clone(), bench.back.repeat());
@@ -240,6 +282,14 @@ fn mistakes_in_the_ends_are_caught() {
     caught("short_nack", short_nack, 1);
     caught("closing_uncounted", closing_uncounted, 40);
     caught("forgets_misses", forgets_misses, 40);
+}
+
+#[test]
+fn mistakes_in_the_types_are_caught() {
+    caught("one_type", one_type, 40);
+    caught("frame_decides", frame_decides, 40);
+    caught("ignored_decides", ignored_decides, 40);
+    caught("keeps_misses", keeps_misses, 40);
 }
 
 #[test]

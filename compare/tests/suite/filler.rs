@@ -35,13 +35,6 @@ fn at_last(timeout: u16, window: u8, l: u16) -> (Receiver, Vec<u8>) {
     (receiver, buffer)
 }
 
-fn open(receiver: &Receiver) -> Connection {
-    match receiver.state {
-        State::Open(open) => open,
-        State::Idle { .. } => panic!("no connection"),
-    }
-}
-
 /// The last frame of `message(l)`, with these bytes at these places.
 fn last_with(l: u16, dirt: &[(usize, u8)]) -> Frame {
     let mut frame = frame::information(frame::frames_for(l) as u8, &message(l.into()));

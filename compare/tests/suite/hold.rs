@@ -8,23 +8,6 @@ use compare::reference::receiver::{self, After, Answer, Connection, Receiver, Re
 use compare::reference::sender::{self, Phase, Sender};
 use compare::reference::Refused;
 
-/// A receiver that has opened for this length and taken so many frames.
-fn taken(timeout: u16, window: u8, l: u16, count: u8) -> (Receiver, Vec<u8>) {
-    let (mut receiver, mut buffer) = opened(timeout, window, l);
-    for i in 1..=count {
-        let frame = frame::information(i, &message(l.into()));
-        receiver.hear(frame, &mut buffer).unwrap();
-    }
-    (receiver, buffer)
-}
-
-fn open(receiver: &Receiver) -> Connection {
-    match receiver.state {
-        State::Open(open) => open,
-        State::Idle { .. } => panic!("no connection"),
-    }
-}
-
 fn closed(receiver: &Receiver) -> bool {
     receiver.state == State::Idle { delivered: None }
 }
@@ -32,11 +15,6 @@ fn closed(receiver: &Receiver) -> bool {
 /// LM_ACK s, c as the answer of a call that can be refused.
 fn asks(s: u8, c: u8) -> Result<Answer, Refused> {
     Ok(r_frame(frame::lm_ack(s, c)))
-}
-
-/// NACK 2, failed 2.
-fn gives_up() -> Answer {
-    r_failed(2, Some(frame::lm_nack(2)))
 }
 
 /// So many timeouts of a held receiver with T 1, each with LM_ACK s, 1.
@@ -85,9 +63,8 @@ fn hold_names_the_frame_before() {
     }
 }
 
-/// Neither call alters wait or misses, and a timeout while held is no miss: T 2, C 3, N 7.
-#[test]
-fn wait_and_misses_across_a_hold() {
+/// T 2, C 3, N 7: a timeout after frame 1, and one tick of the next wait.
+fn missed_once() -> (Receiver, Connection) {
     let (mut receiver, _) = taken(2, 3, 49, 1);
     receiver.tick();
     assert_eq!(receiver.tick(), r_frame(frame::lm_ack(2, 3)));
@@ -105,6 +82,13 @@ fn wait_and_misses_across_a_hold() {
         holds: 0,
     };
     assert_eq!(open(&receiver), missed);
+    (receiver, missed)
+}
+
+/// Neither call alters wait or misses, and a timeout while held is no miss.
+#[test]
+fn wait_and_misses_across_a_hold() {
+    let (mut receiver, missed) = missed_once();
     assert_eq!(receiver.hold(), asks(1, 1));
     let held = Connection {
         held: true,

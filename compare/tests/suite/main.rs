@@ -14,11 +14,12 @@ mod receiver;
 mod refusals;
 mod saturation;
 mod sender;
+mod types;
 mod version;
 
 pub mod help {
     use compare::reference::frame::{self, Frame, BUFFER_LENGTH};
-    use compare::reference::receiver::{self, Receiver};
+    use compare::reference::receiver::{self, Connection, Receiver, State};
     use compare::reference::sender::{self, Sender};
 
     /// A message of this length: 1, 2, 3, ..., never 0xFF, so filler shows.
@@ -47,6 +48,23 @@ pub mod help {
             .hear(frame::announcement(n, l), &mut buffer)
             .unwrap();
         (receiver, buffer)
+    }
+
+    /// A receiver that has opened for this length and taken so many frames.
+    pub fn taken(timeout: u16, window: u8, l: u16, count: u8) -> (Receiver, Vec<u8>) {
+        let (mut receiver, mut buffer) = opened(timeout, window, l);
+        for i in 1..=count {
+            let frame = frame::information(i, &message(l.into()));
+            receiver.hear(frame, &mut buffer).unwrap();
+        }
+        (receiver, buffer)
+    }
+
+    pub fn open(receiver: &Receiver) -> Connection {
+        match receiver.state {
+            State::Open(open) => open,
+            State::Idle { .. } => panic!("no connection"),
+        }
     }
 
     pub fn s_frame(frame: Frame) -> sender::Answer {
@@ -94,6 +112,11 @@ pub mod help {
             frame: closing,
             report: Some(receiver::Report::Failed { cause }),
         }
+    }
+
+    /// NACK 2, failed 2.
+    pub fn gives_up() -> receiver::Answer {
+        r_failed(2, Some(frame::lm_nack(2)))
     }
 
     pub fn r_delivered(n: u8, l: u16) -> receiver::Answer {

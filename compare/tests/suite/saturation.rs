@@ -63,6 +63,22 @@ fn sender_counts_stay_at_65535() {
     );
 }
 
+/// An open connection, at one end of its counts.
+fn counted(n: u8, l: u16, e: u8, w: u8, count: u16) -> Connection {
+    Connection {
+        n,
+        l,
+        e,
+        w,
+        wait: count,
+        misses: count,
+        after: After::Ack,
+        counted: (count > 0).then_some(After::Ack),
+        held: false,
+        holds: 0,
+    }
+}
+
 #[test]
 fn receiver_counts_stay_at_65535() {
     let mut buffer = buffer();
@@ -73,19 +89,7 @@ fn receiver_counts_stay_at_65535() {
                     for w in [0, 1, 255] {
                         for count in [0, 65535] {
                             let mut receiver = Receiver::make(timeout, window, 9).unwrap();
-                            let open = Connection {
-                                n,
-                                l,
-                                e,
-                                w,
-                                wait: count,
-                                misses: count,
-                                after: After::Ack,
-                                counted: (count > 0).then_some(After::Ack),
-                                held: false,
-                                holds: 0,
-                            };
-                            receiver.state = State::Open(open);
+                            receiver.state = State::Open(counted(n, l, e, w, count));
                             for i in [1, e.max(1), 255] {
                                 let frame = frame::information(i, &[1; 1785]);
                                 let answer = receiver.clone().hear(frame, &mut buffer);
@@ -101,6 +105,27 @@ fn receiver_counts_stay_at_65535() {
                         }
                     }
                 }
+            }
+        }
+    }
+}
+
+/// Misses past the third, as no calls make them: one more of their type stays at 65535, one of the other
+/// type begins at 1.
+#[test]
+fn misses_by_type_stay_at_65535() {
+    let (receiver, _) = taken(1, 3, 49, 1);
+    for after in [After::Ack, After::Frame] {
+        for counted in [After::Ack, After::Frame] {
+            for misses in [65534, 65535] {
+                let mut called = receiver.clone();
+                let mut built = open(&called);
+                (built.misses, built.counted, built.after) = (misses, Some(counted), after);
+                called.state = State::Open(built);
+                assert_eq!(called.tick(), r_frame(frame::lm_ack(2, 3)));
+                let expected = if counted == after { 65535 } else { 1 };
+                assert_eq!(open(&called).misses, expected);
+                assert_eq!(open(&called).counted, Some(after));
             }
         }
     }

@@ -16,21 +16,31 @@ use Rattle.frame.specs.Reading.{namedOf, allFiller, readOf}
 use Rattle.receiver.specs.Hear.{hearOf, hearRead, hearKind, isHeld, hearUnlessHeld, hearNumbered, hearAnnouncement, announceIdle, opening}
 use Rattle.receiver.specs.Make.{idleWith, makeOf}
 use Rattle.receiver.specs.State.{inPhase}
-use Rattle.receiver.specs.Tick.{waiting, tickOf, tickPhase, timeoutFree, tickOpen}
+use Rattle.receiver.specs.Tick.{waiting, askingAgain, tickOf, tickPhase, timeoutFree, tickOpen}
 use Rattle.receiver.specs.Told.{Told, failingWith}
 use Rattle.receiver.specs.declared.Connection.{Connection}
+use Rattle.receiver.specs.declared.Misses.{Misses}
+use Rattle.receiver.specs.declared.Misses.the-variants.{NoneAfterAck, OneAfterAck, TwoAfterAck, NoneAfterFrame, OneAfterFrame}
 use Rattle.receiver.specs.declared.Phase.the-variants.{Idle, Open}
 use Rattle.receiver.specs.declared.Receiver.{Receiver}
 use Rattle.cases.specs.Answer.{brief, ifEmitted, receiverTicks, receiverInSilence, ofReceiver}
 use Rattle.cases.specs.Row.{nack, at, refusal}
 
+-- by what is counted at a timeout: what comes where it is counted on, or where it is the third of its type
+counting : {A : Type 0} → Misses → (Misses → A) → A → A
+counting NoneAfterAck on third = on OneAfterAck
+counting OneAfterAck on third = on TwoAfterAck
+counting TwoAfterAck on third = third
+counting NoneAfterFrame on third = on OneAfterFrame
+counting OneAfterFrame on third = on OneAfterAck
+
 -- the numbers that it shows: T, then e, wait and misses, the next tick, and how many ticks
-pub openNumbers : ℕ → ℕ → ℕ → ℕ → ℕ → ℕ → List ℕ
+pub openNumbers : ℕ → ℕ → ℕ → Misses → ℕ → ℕ → List ℕ
 openNumbers timeout expected wait misses tick zero = []
 openNumbers timeout expected wait misses tick (suc ticks) =
     pick (leb timeout (incrementOf wait))
-    (pick (leb 3 (misses + 1)) (at tick (nack 2))
-    (at tick (2 ∷ expected ∷ []) ++ openNumbers timeout expected 0 (misses + 1) (suc tick) ticks))
+    (counting misses (λ counted. at tick (2 ∷ expected ∷ []) ++ openNumbers timeout expected 0 counted (suc tick) ticks)
+    (at tick (nack 2)))
     (openNumbers timeout expected (incrementOf wait) misses (suc tick) ticks)
 
 -- an Idle receiver shows nothing
@@ -43,34 +53,52 @@ idle-shows r tick (suc ticks) = idle-shows r (suc tick) ticks
 after : Told → ℕ → ℕ → List ℕ
 after t tick ticks = ifEmitted (t .emits) (at tick (brief (t .frame))) ++ receiverTicks (t .next) (suc tick) ticks
 
--- by the two tests of a tick in Open: wait = T, the third miss
-by-tests : (r : Receiver) (tick ticks : ℕ) (again waits : Told) (frames silence : List ℕ) (due third : Bool)
-    → after again tick ticks ≡ frames
+-- by the test of a tick in Open: wait = T
+by-test : (tick ticks : ℕ) (timeout waits : Told) (frames silence : List ℕ) (due : Bool)
+    → after timeout tick ticks ≡ frames
     → after waits tick ticks ≡ silence
-    → after (pick due (pick third (failingWith r 2) again) waits) tick ticks ≡ pick due (pick third (at tick (nack 2)) frames) silence
-unfolding pick after lmNackOf
-by-tests r tick ticks again waits frames silence true true ha hw =
-    ap {B = List ℕ} (λ rest. at tick (nack 2) ++ rest) (idle-shows r (suc tick) ticks)
-by-tests r tick ticks again waits frames silence true false ha hw = ha
-by-tests r tick ticks again waits frames silence false third ha hw = hw
+    → after (pick due timeout waits) tick ticks ≡ pick due frames silence
+unfolding pick
+by-test tick ticks timeout waits frames silence true ht hw = ht
+by-test tick ticks timeout waits frames silence false ht hw = hw
 
--- where no hold stands, a tick makes these two tests
+-- the third of its type shows NACK 2, and nothing after it
+fails-shows : (r : Receiver) (tick ticks : ℕ) → after (failingWith r 2) tick ticks ≡ at tick (nack 2)
+unfolding after lmNackOf pick
+fails-shows r tick ticks = ap {B = List ℕ} (λ rest. at tick (nack 2) ++ rest) (idle-shows r (suc tick) ticks)
+
+-- where no hold stands, a tick makes this test
 free-tick : (r : Receiver) (x : Connection) → x .held ≡ false
     → tickOf (inPhase r (Open x))
-    ≡ pick (leb (r .settings .timeout) (incrementOf (x .wait))) (timeoutFree (inPhase r (Open x)) x) (waiting (inPhase r (Open x)) x)
+    ≡ pick (leb (r .settings .timeout) (incrementOf (x .wait))) (timeoutFree (inPhase r (Open x)) x (x .misses)) (waiting (inPhase r (Open x)) x)
 unfolding tickOf tickPhase tickOpen pick
 free-tick r x free = rw free
 
+-- a timeout by what is counted; where it is counted on, what comes after it is known
+timeout-shows : (r : Receiver) (x : Connection) (tick ticks : ℕ) (misses : Misses)
+    → ((counted : Misses)
+    → receiverTicks (askingAgain (inPhase r (Open x)) x counted .next) (suc tick) ticks
+    ≡ openNumbers (r .settings .timeout) (x .expected) 0 counted (suc tick) ticks)
+    → after (timeoutFree (inPhase r (Open x)) x misses) tick ticks
+    ≡ counting misses
+    (λ counted. at tick (2 ∷ x .expected ∷ []) ++ openNumbers (r .settings .timeout) (x .expected) 0 counted (suc tick) ticks)
+    (at tick (nack 2))
+unfolding counting after timeoutFree lmAckOf pick
+timeout-shows r x tick ticks NoneAfterAck later = ap {B = List ℕ} (λ rest. at tick (2 ∷ x .expected ∷ []) ++ rest) (later OneAfterAck)
+timeout-shows r x tick ticks OneAfterAck later = ap {B = List ℕ} (λ rest. at tick (2 ∷ x .expected ∷ []) ++ rest) (later TwoAfterAck)
+timeout-shows r x tick ticks TwoAfterAck later = fails-shows (inPhase r (Open x)) tick ticks
+timeout-shows r x tick ticks NoneAfterFrame later = ap {B = List ℕ} (λ rest. at tick (2 ∷ x .expected ∷ []) ++ rest) (later OneAfterFrame)
+timeout-shows r x tick ticks OneAfterFrame later = ap {B = List ℕ} (λ rest. at tick (2 ∷ x .expected ∷ []) ++ rest) (later OneAfterAck)
+
 open-shows : (r : Receiver) (x : Connection) (tick ticks : ℕ) → x .held ≡ false
     → receiverTicks (inPhase r (Open x)) tick ticks ≡ openNumbers (r .settings .timeout) (x .expected) (x .wait) (x .misses) tick ticks
-unfolding receiverTicks openNumbers after timeoutFree lmAckOf pick
+unfolding receiverTicks openNumbers after pick
 open-shows r x tick zero free = refl
 open-shows r x tick (suc ticks) free =
     ap (λ (t : Told). after t tick ticks) (free-tick r x free)
-    ∙ by-tests (inPhase r (Open x)) tick ticks _ _ _ _
+    ∙ by-test tick ticks _ _ _ _
     (leb (r .settings .timeout) (incrementOf (x .wait)))
-    (leb 3 (x .misses + 1))
-    (ap {B = List ℕ} (λ rest. at tick (2 ∷ x .expected ∷ []) ++ rest) (open-shows r _ (suc tick) ticks free))
+    (timeout-shows r x tick ticks (x .misses) (λ counted. open-shows r _ (suc tick) ticks free))
     (open-shows r _ (suc tick) ticks free)
 
 -- a word's bytes give the word
@@ -103,7 +131,7 @@ opens r frames l buffer idle low room high fits lent =
 
 -- the numbers of a run from making on
 pub receiverNumbers : ℕ → ℕ → List ℕ
-receiverNumbers timeout ticks = pick (leb 1 timeout && leb timeout 10000) (openNumbers timeout 1 0 0 1 ticks) (refusal 1)
+receiverNumbers timeout ticks = pick (leb 1 timeout && leb timeout 10000) (openNumbers timeout 1 0 NoneAfterAck 1 ticks) (refusal 1)
 
 alone-shows : (r : Receiver) (frames l : ℕ) (buffer : List ℕ) (ticks : ℕ)
     → r .phase ≡ Idle
@@ -112,7 +140,7 @@ alone-shows : (r : Receiver) (frames l : ℕ) (buffer : List ℕ) (ticks : ℕ)
     → l ≤ 1785
     → frames ≡ frameCountOf l
     → length buffer ≡ 1785
-    → receiverInSilence r frames l buffer ticks ≡ openNumbers (r .settings .timeout) 1 0 0 1 ticks
+    → receiverInSilence r frames l buffer ticks ≡ openNumbers (r .settings .timeout) 1 0 NoneAfterAck 1 ticks
 unfolding receiverInSilence
 alone-shows r frames l buffer ticks idle low room high fits lent =
     ap (λ (t : Told). receiverTicks (t .next) 1 ticks) (opens r frames l buffer idle low room high fits lent)
@@ -127,7 +155,7 @@ by-fit : (timeout window capacity frames l : ℕ) (buffer : List ℕ) (ticks : �
     → ofReceiver
     (pick (fit && true) (accepted (idleWith timeout window capacity)) (refused 1))
     (λ r. receiverInSilence r frames l buffer ticks)
-    ≡ pick fit (openNumbers timeout 1 0 0 1 ticks) (refusal 1)
+    ≡ pick fit (openNumbers timeout 1 0 NoneAfterAck 1 ticks) (refusal 1)
 unfolding ofReceiver pick
 by-fit timeout window capacity frames l buffer ticks true low room high fits lent =
     alone-shows _ frames l buffer ticks refl low room high fits lent

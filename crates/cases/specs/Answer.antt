@@ -20,6 +20,7 @@ use Rattle.receiver.specs.Make as receiver-making
 use Rattle.receiver.specs.State.{opened, moved, inPhase}
 use Rattle.receiver.specs.Tick as receiver-tick
 use Rattle.receiver.specs.Told as receiver
+use Rattle.receiver.specs.declared.Misses.the-variants.{NoneAfterFrame}
 use Rattle.receiver.specs.declared.Phase.{Phase}
 use Rattle.receiver.specs.declared.Phase.the-variants.{Open}
 use Rattle.receiver.specs.declared.Receiver.{Receiver}
@@ -117,7 +118,7 @@ withByte f place byte = record { kind = f .kind; bytes = set (f .bytes) place by
 
 -- a connection of this length as the hearings of all frames but the last leave it, where one window holds them all
 abbrev pub beforeLast : ℕ → Phase
-beforeLast length = let frames = frameCountOf length in Open (moved (opened frames length frames) frames frames 0 0)
+beforeLast length = let frames = frameCountOf length in Open (moved (opened frames length frames) frames frames 0 NoneAfterFrame)
 
 -- and what a receiver shows with it at a frame, lent a buffer
 abbrev pub shownBeforeLast : Receiver → ℕ → Frame → List ℕ → List ℕ

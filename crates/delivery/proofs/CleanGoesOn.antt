@@ -17,6 +17,7 @@ use Rattle.receiver.specs.Hear as hearing
 use Rattle.receiver.specs.Tick as ticking
 use Rattle.receiver.specs.Told as receiver
 use Rattle.receiver.specs.Window.{windowAck}
+use Rattle.receiver.specs.declared.Misses.{Misses}
 use Rattle.receiver.specs.declared.Settings as receiver-settings
 use Rattle.sender.specs.Hear.{hearOf}
 use Rattle.sender.specs.Told as sender
@@ -89,7 +90,7 @@ module _ {st : Settings} {rs : receiver-settings.Settings} {m : List ℕ} (c : C
   lent-taken x e = rw (eq-eqb (length m) (x .transfer .length) (sym e)) (tick-taken (senderIn st (Sending x)) (Sending x) m)
 
   -- a frame of the message is next, and nothing is on the lines: it is an end's turn
-  advice-sends : (turn : Turn) {ticks start number last gap wait : ℕ} {forward back : List Frame} {buffer : List ℕ}
+  advice-sends : (turn : Turn) {ticks start number last gap wait : ℕ} {misses : Misses} {forward back : List Frame} {buffer : List ℕ}
       → Inside m start number last
       → gap < st .gap
       → Paced turn gap wait
@@ -97,14 +98,14 @@ module _ {st : Settings} {rs : receiver-settings.Settings} {m : List ℕ} (c : C
       → forward ≡ []
       → back ≡ []
       → Advice
-      (sendsWorld st rs m ticks start number last gap wait forward back buffer)
+      (sendsWorld st rs m ticks start number last gap wait misses forward back buffer)
       turn (since m ticks 0 []) []
   advice-sends anyone i g p t d e = tick-sender (d, e) tt refl (not-yet c false i g t) (lent-taken _ refl)
   advice-sends senders i g p t d e = tick-sender (d, e) tt refl (not-yet c false i g t) (lent-taken _ refl)
-  advice-sends receivers {number = number} {last} {gap} {wait} i g p t d e =
+  advice-sends receivers {number = number} {last} {gap} {wait} {misses} i g p t d e =
       let patient = c .patient in
       tick-receiver (d, e) refl (ap (λ (a : receiver.Told). a .emits)
-      (waits-on rs m number last wait (omega arith) (c .timeouts)))
+      (waits-on rs m number last wait misses (omega arith) (c .timeouts)))
 
   advice : {w : World} {turn : Turn} {b : Begun} {reports : List sender.Outcome} → Stage st rs m false w turn b reports
       → Advice w turn b reports
@@ -116,10 +117,10 @@ module _ {st : Settings} {rs : receiver-settings.Settings} {m : List ℕ} (c : C
       hear-back (none-passed st rs m p) (ap (λ (fs : List Frame). windowAck number last ∷ fs) (none-answered st rs m q))
       (ap (λ (a : sender.Told). a .emits) (hears-ack st m a (i .first) (i .inside) (i .final)))
   advice (sends {turn} i f g e t p q) = advice-sends turn i g e t (none-passed st rs m p) (none-answered st rs m q)
-  advice (sent {number = number} {last} {wait} {buffer} i f t) =
+  advice (sent {number = number} {last} {wait} {misses} {buffer} i f t) =
       let inside = i .inside in
       let final = i .final in
-      hear-forward refl (hears-accepted rs m number last wait buffer (f .size) (i .first) (omega arith))
+      hear-forward refl (hears-accepted rs m number last wait misses buffer (f .size) (i .first) (omega arith))
   advice (ends {ticks} {start} {last} size t u cs) =
       let fits = c .fits in
       hear-back (none-kept st rs m u) (ap (λ (fs : List Frame). endOfAck st rs m ∷ fs) (none-repeated st rs m cs))

@@ -21,6 +21,8 @@ use Rattle.receiver.proofs.View.{receiverIn}
 use Rattle.receiver.specs.Hear as hearing
 use Rattle.receiver.specs.Told as receiver
 use Rattle.receiver.specs.Window.{windowOf, windowAck}
+use Rattle.receiver.specs.declared.Misses.{Misses}
+use Rattle.receiver.specs.declared.Misses.the-variants.{NoneAfterAck}
 use Rattle.receiver.specs.declared.Phase as receiver-phase
 use Rattle.receiver.specs.declared.Phase.the-variants as at
 use Rattle.receiver.specs.declared.Settings as receiver-settings
@@ -186,13 +188,13 @@ module _ {st : Settings} {rs : receiver-settings.Settings} {m : List ℕ} (c : C
           (receiver-heard first d f (leaving k f []) h o s)
 
     -- the frame that is next is on its way
-    module _ (ticks start number last wait : ℕ) (buffer : List ℕ) (i : Inside m start number last) (f : Filled m number buffer)
+    module _ (ticks start number last wait : ℕ) (misses : Misses) (buffer : List ℕ) (i : Inside m start number last) (f : Filled m number buffer)
         (t : ticks ≡ number * st .gap) (l : List ℕ) (same : l ≡ buffer) where
       abbrev out : Phase
       out = outPhase m ticks start number last
 
       abbrev at-number : receiver-phase.Phase
-      at-number = at.Open (connected m number last wait)
+      at-number = at.Open (connected m number last wait misses)
 
       abbrev next-one : Frame
       next-one = informationAt number m
@@ -211,7 +213,7 @@ module _ {st : Settings} {rs : receiver-settings.Settings} {m : List ℕ} (c : C
           let final = i .final in
           let size = stored-size (framesOf m) buffer some-frames (omega arith) (f .size) in
           let at : ticks ≡ framesOf m * st .gap = rw whole at t in
-          answer out at-number [] buffer next-one l same (hears-last rs m number last wait buffer (f .size) (i .first) whole)
+          answer out at-number [] buffer next-one l same (hears-last rs m number last wait misses buffer (f .size) (i .first) whole)
           (rw (
             le-leb last number (omega arith),
             add-zero ticks,
@@ -224,7 +226,7 @@ module _ {st : Settings} {rs : receiver-settings.Settings} {m : List ℕ} (c : C
       hears-full : number < framesOf m → number ≡ last → Answers
       unfolding pick
       hears-full more full =
-          answer out at-number [] buffer next-one l same (hears-window rs m number last wait buffer (f .size)
+          answer out at-number [] buffer next-one l same (hears-window rs m number last wait misses buffer (f .size)
           (i .first) more full)
           (rw (le-leb last number (omega arith), add-zero ticks)
           (asks (window (i .asked)) (window-inside (number + 1) (omega arith) (omega arith))
@@ -238,7 +240,7 @@ module _ {st : Settings} {rs : receiver-settings.Settings} {m : List ℕ} (c : C
           let old = i .asked in
           let inner : Inside m start (number + 1) last =
           record { first = omega arith; asked = omega arith; inside = omega arith; final = i .final } in
-          answer out at-number [] buffer next-one l same (hears-inside rs m number last wait buffer (f .size)
+          answer out at-number [] buffer next-one l same (hears-inside rs m number last wait misses buffer (f .size)
           (i .first) more part)
           (rw (lt-leb last number part, add-zero ticks)
           (sends inner (filled number buffer (i .first) more f) (c .gap) (at-once receivers) (next-gap number t)
@@ -272,29 +274,29 @@ module _ {st : Settings} {rs : receiver-settings.Settings} {m : List ℕ} (c : C
         stages.Answered.none)
     hear-forward l (asks a i f t stages.Passed.none q) lent fine = stays d o (asks a i f t stages.Passed.none q)
     hear-forward l (asks {ticks = ticks} {last = last} {p} {back = back} {buffer} a i f t (announced e) q) lent fine =
-        answer p (at.Open (connected m 1 last 0)) (windowAck 1 last ∷ back) buffer (announcement st rs m) l (lent (ap not fine))
-        (hears-announcement-again rs m last 0 buffer (f .size) (c .fits))
+        answer p (at.Open (connected m 1 last 0 NoneAfterAck)) (windowAck 1 last ∷ back) buffer (announcement st rs m) l (lent (ap not fine))
+        (hears-announcement-again rs m last 0 NoneAfterAck buffer (f .size) (c .fits))
         (rw (add-zero ticks) (asks a i f t (passed-first k may) (answered-join e q)))
     hear-forward l (asks {ticks = ticks} {last = last} {p} {back = back} {buffer} a i f t (informed {before = before} e low) q) lent fine =
         let inside = i .inside in
         let final = i .final in
-        answer p (at.Open (connected m (before + 1) last 0)) (windowAck (before + 1) last ∷ back) buffer
+        answer p (at.Open (connected m (before + 1) last 0 NoneAfterAck)) (windowAck (before + 1) last ∷ back) buffer
         (informationAt before m) l
-        (lent (ap not fine)) (hears-passed rs m before last 0 buffer (f .size) low (omega arith))
+        (lent (ap not fine)) (hears-passed rs m before last 0 NoneAfterAck buffer (f .size) low (omega arith))
         (rw (add-zero ticks, append-nil back) (asks a i f t (passed-next k may low) q))
     hear-forward l (sends i f g e t stages.Passed.none q) lent fine = stays d o (sends i f g e t stages.Passed.none q)
-    hear-forward l (sends {ticks = ticks} {last = last} {wait = wait} {back = back} {buffer} i f g s t (announced e) q) lent fine =
-        answer (Sending (streamed m ticks 1 1 last 0)) (at.Open (connected m 1 last wait)) back buffer (announcement st rs m) l
-        (lent (ap not fine)) (hears-announcement-again rs m last wait buffer (f .size) (c .fits))
+    hear-forward l (sends {ticks = ticks} {last = last} {wait = wait} {misses} {back = back} {buffer} i f g s t (announced e) q) lent fine =
+        answer (Sending (streamed m ticks 1 1 last 0)) (at.Open (connected m 1 last wait misses)) back buffer (announcement st rs m) l
+        (lent (ap not fine)) (hears-announcement-again rs m last wait misses buffer (f .size) (c .fits))
         (rw (add-zero ticks) (sends i f g s t (passed-first k may) (answered-join e q)))
-    hear-forward l (sends {ticks = ticks} {start} {last = last} {gap} {wait} {back = back} {buffer} i f g s t (informed {before = before} e low) q) lent fine =
+    hear-forward l (sends {ticks = ticks} {start} {last = last} {gap} {wait} {misses} {back = back} {buffer} i f g s t (informed {before = before} e low) q) lent fine =
         let inside = i .inside in
         let final = i .final in
-        answer (Sending (streamed m ticks start (before + 1) last gap)) (at.Open (connected m (before + 1) last wait)) back buffer
-        (informationAt before m) l (lent (ap not fine)) (hears-passed rs m before last wait buffer (f .size) low (omega arith))
+        answer (Sending (streamed m ticks start (before + 1) last gap)) (at.Open (connected m (before + 1) last wait misses)) back buffer
+        (informationAt before m) l (lent (ap not fine)) (hears-passed rs m before last wait misses buffer (f .size) low (omega arith))
         (rw (add-zero ticks, append-nil back) (sends i f g s t (passed-next k may low) q))
-    hear-forward l (sent {ticks} {start} {number} {last} {wait} {buffer} i f t) lent fine =
-        hears-out ticks start number last wait buffer i f t l (lent (ap not fine))
+    hear-forward l (sent {ticks} {start} {number} {last} {wait} {misses} {buffer} i f t) lent fine =
+        hears-out ticks start number last wait misses buffer i f t l (lent (ap not fine))
     hear-forward l (ends size t stages.Kept.none cs) lent fine = stays d o (ends size t stages.Kept.none cs)
     hear-forward l (ends {ticks} {start} {last} {back = back} {buffer} size t (kept e) cs) lent fine =
         answer (awaitedPhase m ticks start (framesOf m) last) (donePhase m) (endOfAck st rs m ∷ back) buffer
@@ -328,13 +330,13 @@ module _ {st : Settings} {rs : receiver-settings.Settings} {m : List ℕ} (c : C
     unfolding givenBack
     hear-back (opens size) = stays d o (opens size)
     hear-back (asks {turn} {ticks} {number} {last} {p} {forward} {back} {buffer} a i f t u q) =
-        reply p (at.Open (connected m number last 0)) forward back buffer (windowAck number last)
+        reply p (at.Open (connected m number last 0 NoneAfterAck)) forward back buffer (windowAck number last)
         (hears-ack st m a (i .first) (i .inside) (i .final))
         (rw (add-zero ticks, append-nil forward)
         (sends i f (c .gap) (at-once turn) t u (answered-by k number last may q)))
     hear-back (sends i f g s t u stages.Answered.none) = stays d o (sends i f g s t u stages.Answered.none)
-    hear-back (sends {ticks = ticks} {number = number} {last} {wait = wait} {forward} {buffer = buffer} i f g s t u (stages.Answered.more {fs = back} e q)) =
-        reply (Sending (streamed m ticks number number last 0)) (at.Open (connected m number last wait)) forward back buffer
+    hear-back (sends {ticks = ticks} {number = number} {last} {wait = wait} {misses} {forward} {buffer = buffer} i f g s t u (stages.Answered.more {fs = back} e q)) =
+        reply (Sending (streamed m ticks number number last 0)) (at.Open (connected m number last wait misses)) forward back buffer
         (windowAck number last)
         (hears-ack st m (again {turn = anyone}) (i .first) (i .inside) (i .final))
         (rw (add-zero ticks, append-nil forward) (sends i f g s t u (answered-by k number last may q)))

@@ -21,6 +21,8 @@ use Rattle.receiver.specs.Tick.{tickOpen, tickPhase, tickOf}
 use Rattle.receiver.specs.Told.{Told, Heard, heard, silently, emitting, delivering}
 use Rattle.receiver.specs.Window.{windowOf, windowAck}
 use Rattle.receiver.specs.declared.Connection.{Connection}
+use Rattle.receiver.specs.declared.Misses.{Misses}
+use Rattle.receiver.specs.declared.Misses.the-variants.{NoneAfterAck, NoneAfterFrame}
 use Rattle.receiver.specs.declared.Phase.{Phase}
 use Rattle.receiver.specs.declared.Phase.the-variants.{Idle, Done, Open}
 use Rattle.receiver.specs.declared.Settings.{Settings}
@@ -28,16 +30,16 @@ use Rattle.sender.specs.Tick.{informationAt}
 use Rattle.delivery.proofs.Stages.{framesOf}
 use Rattle.transport.specs.Step.{wasRefused}
 
--- the connection of m, at this frame of a window; no miss is ever counted, and it is never held
-abbrev pub connected : List ℕ → ℕ → ℕ → ℕ → Connection
-connected m expected last wait =
+-- the connection of m, at this frame of a window; it is never held, and its misses, none in a clean transfer, matter at no call
+abbrev pub connected : List ℕ → ℕ → ℕ → ℕ → Misses → Connection
+connected m expected last wait misses =
     record {
       frames = framesOf m;
       length = length m;
       expected = expected;
       last = last;
       wait = wait;
-      misses = 0;
+      misses = misses;
       held = false;
       holds = 0;
     }
@@ -57,7 +59,7 @@ first-ack last = let whole : last ≡ last - (1 - 1) = omega arith in ap (lmAckO
 module _ (rs : Settings) (m : List ℕ) where
   pub hears-announcement : (buffer : List ℕ) → length buffer ≡ 1785 → 8 < length m → length m ≤ 1785 → length m ≤ rs .capacity
       → hearOf (receiverIn rs Idle) (announcementOf (framesOf m) (length m)) buffer
-      ≡ heard (emitting (receiverIn rs (Open (connected m 1 (windowOf rs 1 (framesOf m)) 0)))
+      ≡ heard (emitting (receiverIn rs (Open (connected m 1 (windowOf rs 1 (framesOf m)) 0 NoneAfterAck)))
       (windowAck 1 (windowOf rs 1 (framesOf m)))) buffer
   unfolding hearOf hearRead hearKind hearUnlessHeld hearNumbered hearAnnouncement announceIdle readOf namedOf allFiller announcementOf pick
   hears-announcement buffer held long fits space =
@@ -72,11 +74,11 @@ module _ (rs : Settings) (m : List ℕ) where
       )
 
   -- it comes again before frame 1: the same answer, and nothing else
-  pub hears-announcement-again : (last wait : ℕ) (buffer : List ℕ) → length buffer ≡ 1785 → length m ≤ 1785
-      → hearOf (receiverIn rs (Open (connected m 1 last wait))) (announcementOf (framesOf m) (length m)) buffer
-      ≡ heard (emitting (receiverIn rs (Open (connected m 1 last wait))) (windowAck 1 last)) buffer
+  pub hears-announcement-again : (last wait : ℕ) (misses : Misses) (buffer : List ℕ) → length buffer ≡ 1785 → length m ≤ 1785
+      → hearOf (receiverIn rs (Open (connected m 1 last wait misses))) (announcementOf (framesOf m) (length m)) buffer
+      ≡ heard (emitting (receiverIn rs (Open (connected m 1 last wait misses))) (windowAck 1 last)) buffer
   unfolding hearOf hearRead hearKind hearUnlessHeld hearNumbered hearAnnouncement announceOpen readOf namedOf allFiller announcementOf pick
-  hears-announcement-again last wait buffer held fits =
+  hears-announcement-again last wait misses buffer held fits =
       rw (
         held,
         word-whole (length m) (omega arith),
@@ -85,11 +87,11 @@ module _ (rs : Settings) (m : List ℕ) where
         ← first-ack last,
       )
 
-  pub waits-on : (expected last wait : ℕ) → wait + 1 < rs .timeout → rs .timeout ≤ 10000
-      → tickOf (receiverIn rs (Open (connected m expected last wait)))
-      ≡ silently (receiverIn rs (Open (connected m expected last (wait + 1))))
+  pub waits-on : (expected last wait : ℕ) (misses : Misses) → wait + 1 < rs .timeout → rs .timeout ≤ 10000
+      → tickOf (receiverIn rs (Open (connected m expected last wait misses)))
+      ≡ silently (receiverIn rs (Open (connected m expected last (wait + 1) misses)))
   unfolding tickOf tickPhase tickOpen pick
-  waits-on expected last wait early small = rw (increment-is wait (omega arith), lt-leb (rs .timeout) (wait + 1) early)
+  waits-on expected last wait misses early small = rw (increment-is wait (omega arith), lt-leb (rs .timeout) (wait + 1) early)
 
   -- a frame with message bytes is read as what it is, for any length
   reads : (number l : ℕ) → 1 ≤ number → readOf (informationAt number m) l ≡ accepted (parsedOf (informationAt number m) l)
@@ -97,11 +99,11 @@ module _ (rs : Settings) (m : List ℕ) where
   reads number l low = read-information (informationAt number m) l refl low (ap suc (length-fill 7 (partFrom number m)))
 
   -- the frame before the one that is expected is ignored
-  pub hears-passed : (number last wait : ℕ) (buffer : List ℕ) → length buffer ≡ 1785 → 1 ≤ number → number < framesOf m
-      → hearOf (receiverIn rs (Open (connected m (number + 1) last wait))) (informationAt number m) buffer
-      ≡ heard (silently (receiverIn rs (Open (connected m (number + 1) last wait)))) buffer
+  pub hears-passed : (number last wait : ℕ) (misses : Misses) (buffer : List ℕ) → length buffer ≡ 1785 → 1 ≤ number → number < framesOf m
+      → hearOf (receiverIn rs (Open (connected m (number + 1) last wait misses))) (informationAt number m) buffer
+      ≡ heard (silently (receiverIn rs (Open (connected m (number + 1) last wait misses)))) buffer
   unfolding hearOf hearRead hearKind hearUnlessHeld hearNumbered hearInformation informationOpen informationOf pick
-  hears-passed number last wait buffer held low high =
+  hears-passed number last wait misses buffer held low high =
       rw (
         held,
         reads number (length m) low,
@@ -119,12 +121,12 @@ module _ (rs : Settings) (m : List ℕ) where
       rw (held, reads (framesOf m) longest some, ne-eqb (framesOf m) 0 (omega arith), eq-eqb (framesOf m) (framesOf m) refl)
 
   -- the frame that is expected is stored
-  hears-frame : (number last wait : ℕ) (buffer : List ℕ) → length buffer ≡ 1785 → 1 ≤ number → number ≤ framesOf m
-      → hearOf (receiverIn rs (Open (connected m number last wait))) (informationAt number m) buffer
-      ≡ heard (stored (receiverIn rs (Open (connected m number last wait))) (connected m number last wait))
+  hears-frame : (number last wait : ℕ) (misses : Misses) (buffer : List ℕ) → length buffer ≡ 1785 → 1 ≤ number → number ≤ framesOf m
+      → hearOf (receiverIn rs (Open (connected m number last wait misses))) (informationAt number m) buffer
+      ≡ heard (stored (receiverIn rs (Open (connected m number last wait misses))) (connected m number last wait misses))
       (storedIn m number buffer)
   unfolding hearOf hearRead hearKind hearUnlessHeld hearNumbered hearInformation informationOpen informationExpected informationOf pick
-  hears-frame number last wait buffer held low high =
+  hears-frame number last wait misses buffer held low high =
       rw (
         held,
         reads number (length m) low,
@@ -135,42 +137,42 @@ module _ (rs : Settings) (m : List ℕ) where
         and-false,
       )
 
-  module _ (number last wait : ℕ) (buffer : List ℕ) (held : length buffer ≡ 1785) (low : 1 ≤ number) where
+  module _ (number last wait : ℕ) (misses : Misses) (buffer : List ℕ) (held : length buffer ≡ 1785) (low : 1 ≤ number) where
     -- it is not refused
     pub hears-accepted : number ≤ framesOf m
-        → wasRefused (hearOf (receiverIn rs (Open (connected m number last wait))) (informationAt number m) buffer .told .outcome)
+        → wasRefused (hearOf (receiverIn rs (Open (connected m number last wait misses))) (informationAt number m) buffer .told .outcome)
         ≡ false
     unfolding stored
     hears-accepted high =
         let P : Told → Type 0 = λ t. wasRefused (t .outcome) ≡ false in
-        ap (λ (h : Heard). wasRefused (h .told .outcome)) (hears-frame number last wait buffer held low high)
+        ap (λ (h : Heard). wasRefused (h .told .outcome)) (hears-frame number last wait misses buffer held low high)
         ∙ pick-elim P _ (λ _. refl) (λ _. pick-elim P _ (λ _. refl) (λ _. refl))
 
     -- the message's last: it is delivered
     pub hears-last : number ≡ framesOf m
-        → hearOf (receiverIn rs (Open (connected m number last wait))) (informationAt number m) buffer
+        → hearOf (receiverIn rs (Open (connected m number last wait misses))) (informationAt number m) buffer
         ≡ heard (delivering (receiverIn rs (donePhase m)) (endOfAckOf (framesOf m) (length m)) (length m))
         (storedIn m number buffer)
     unfolding stored pick
-    hears-last whole = hears-frame number last wait buffer held low (omega arith) ∙ rw (eq-eqb number (framesOf m) whole)
+    hears-last whole = hears-frame number last wait misses buffer held low (omega arith) ∙ rw (eq-eqb number (framesOf m) whole)
 
     -- the window's last: the next window is asked for
     pub hears-window : number < framesOf m → number ≡ last
-        → hearOf (receiverIn rs (Open (connected m number last wait))) (informationAt number m) buffer
+        → hearOf (receiverIn rs (Open (connected m number last wait misses))) (informationAt number m) buffer
         ≡ heard
-        (emitting (receiverIn rs (Open (connected m (number + 1) (windowOf rs (number + 1) (framesOf m)) 0)))
+        (emitting (receiverIn rs (Open (connected m (number + 1) (windowOf rs (number + 1) (framesOf m)) 0 NoneAfterAck)))
         (windowAck (number + 1) (windowOf rs (number + 1) (framesOf m))))
         (storedIn m number buffer)
     unfolding stored pick
     hears-window more full =
-        hears-frame number last wait buffer held low (omega arith)
+        hears-frame number last wait misses buffer held low (omega arith)
         ∙ rw (ne-eqb number (framesOf m) (omega arith), eq-eqb number last full)
 
     -- another: the one after it is expected
     pub hears-inside : number < framesOf m → number < last
-        → hearOf (receiverIn rs (Open (connected m number last wait))) (informationAt number m) buffer
-        ≡ heard (silently (receiverIn rs (Open (connected m (number + 1) last 0)))) (storedIn m number buffer)
+        → hearOf (receiverIn rs (Open (connected m number last wait misses))) (informationAt number m) buffer
+        ≡ heard (silently (receiverIn rs (Open (connected m (number + 1) last 0 NoneAfterFrame)))) (storedIn m number buffer)
     unfolding stored pick
     hears-inside more part =
-        hears-frame number last wait buffer held low (omega arith)
+        hears-frame number last wait misses buffer held low (omega arith)
         ∙ rw (ne-eqb number (framesOf m) (omega arith), ne-eqb number last (omega arith))

@@ -10,6 +10,8 @@ use Rattle.frame.specs.Frames.{announcementOf, endOfAckOf}
 use Rattle.frame.specs.declared.Frame.{Frame}
 use Rattle.receiver.proofs.View.{receiverIn}
 use Rattle.receiver.specs.Window.{windowAck}
+use Rattle.receiver.specs.declared.Misses.{Misses}
+use Rattle.receiver.specs.declared.Misses.the-variants.{NoneAfterAck}
 use Rattle.receiver.specs.declared.Phase as receiver-phase
 use Rattle.receiver.specs.declared.Phase.the-variants as at
 use Rattle.receiver.specs.declared.Settings as receiver-settings
@@ -67,9 +69,9 @@ module _ (st : Settings) (rs : receiver-settings.Settings) (m : List ℕ) where
       record { sender = senderIn st p; receiver = receiverIn rs q; forward = forward; back = back; buffer = buffer }
 
   -- frame number of a window is next, for both ends
-  abbrev pub sendsWorld : ℕ → ℕ → ℕ → ℕ → ℕ → ℕ → List Frame → List Frame → List ℕ → World
-  sendsWorld ticks start number last gap wait forward back buffer =
-      worldAt (Sending (streamed m ticks start number last gap)) (at.Open (connected m number last wait)) forward back buffer
+  abbrev pub sendsWorld : ℕ → ℕ → ℕ → ℕ → ℕ → ℕ → Misses → List Frame → List Frame → List ℕ → World
+  sendsWorld ticks start number last gap wait misses forward back buffer =
+      worldAt (Sending (streamed m ticks start number last gap)) (at.Open (connected m number last wait misses)) forward back buffer
 
   abbrev pub announcement : Frame
   announcement = announcementOf (framesOf m) (length m)
@@ -125,10 +127,10 @@ module _ (st : Settings) (rs : receiver-settings.Settings) (m : List ℕ) where
           → ticks + st .gap ≡ number * st .gap + 0
           → Passed number number 0 forward
           → Answered number number last 0 back
-          → Stage (worldAt p (at.Open (connected m number last 0)) forward (windowAck number last ∷ back) buffer)
+          → Stage (worldAt p (at.Open (connected m number last 0 NoneAfterAck)) forward (windowAck number last ∷ back) buffer)
           turn (since m ticks 0 []) []
       -- a frame of the window is next
-      sends : {turn : Turn} {ticks start number last gap wait : ℕ} {forward back : List Frame} {buffer : List ℕ}
+      sends : {turn : Turn} {ticks start number last gap wait : ℕ} {misses : Misses} {forward back : List Frame} {buffer : List ℕ}
           → Inside m start number last
           → Filled m number buffer
           → gap < st .gap
@@ -136,14 +138,14 @@ module _ (st : Settings) (rs : receiver-settings.Settings) (m : List ℕ) where
           → ticks + st .gap ≡ number * st .gap + gap
           → Passed start number gap forward
           → Answered start number last gap back
-          → Stage (sendsWorld ticks start number last gap wait forward back buffer) turn (since m ticks 0 []) []
+          → Stage (sendsWorld ticks start number last gap wait misses forward back buffer) turn (since m ticks 0 []) []
       -- it is on its way
-      sent : {ticks start number last wait : ℕ} {buffer : List ℕ}
+      sent : {ticks start number last wait : ℕ} {misses : Misses} {buffer : List ℕ}
           → Inside m start number last
           → Filled m number buffer
           → ticks ≡ number * st .gap
           → Stage
-          (worldAt (outPhase m ticks start number last) (at.Open (connected m number last wait)) (informationAt number m ∷ []) []
+          (worldAt (outPhase m ticks start number last) (at.Open (connected m number last wait misses)) (informationAt number m ∷ []) []
           buffer)
           receivers (since m ticks 0 []) []
       -- it was the message's last, and the EndofACK is on its way

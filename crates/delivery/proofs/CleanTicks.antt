@@ -11,6 +11,7 @@ use lib.Dec.{leb}
 use Rattle.frame.specs.Choice.{pick}
 use Rattle.receiver.specs.Tick as ticking
 use Rattle.receiver.specs.Told as receiver
+use Rattle.receiver.specs.declared.Misses.{Misses}
 use Rattle.receiver.specs.declared.Settings as receiver-settings
 use Rattle.sender.specs.Tick.{tickPhase, lentTo, tickOf}
 use Rattle.sender.specs.Told as sender
@@ -37,23 +38,23 @@ module _ {st : Settings} {rs : receiver-settings.Settings} {m : List ℕ} (c : C
   -- ---- ticks: where both lines are empty, nothing that was heard is left on them
 
   -- the receiver's, while it waits for a frame
-  waits : {turn : Turn} {ticks start number last gap wait : ℕ} {buffer : List ℕ}
+  waits : {turn : Turn} {ticks start number last gap wait : ℕ} (misses : Misses) {buffer : List ℕ}
       → Inside m start number last
       → Filled m number buffer
       → gap < st .gap
       → wait ≤ gap
       → ticks + st .gap ≡ number * st .gap + gap
-      → (let w = sendsWorld st rs m ticks start number last gap wait [] [] buffer in
+      → (let w = sendsWorld st rs m ticks start number last gap wait misses [] [] buffer in
       Then (byReceiver receiverTick w nobody [] (receiver.heard (ticking.tickOf (w .receiver)) buffer)) turn
       (since m ticks 0 []) [])
   unfolding begunAfter
-  waits {turn} {ticks} {start} {number} {last} {gap} {wait} {buffer} i f g p t =
-      let w = sendsWorld st rs m ticks start number last gap wait [] [] buffer in
+  waits {turn} {ticks} {start} {number} {last} {gap} {wait} misses {buffer} i f g p t =
+      let w = sendsWorld st rs m ticks start number last gap wait misses [] [] buffer in
       let patient = c .patient in
       let longer : wait + 1 ≤ gap + 1 = omega arith in
       subst⁻¹ (λ (a : receiver.Told). Then (byReceiver receiverTick w nobody [] (receiver.heard a buffer)) turn
       (since m ticks 0 []) [])
-      (waits-on rs m number last wait (omega arith) (c .timeouts))
+      (waits-on rs m number last wait misses (omega arith) (c .timeouts))
       (record { stage = rw (add-zero ticks) (sends i f g longer t stages.Passed.none stages.Answered.none) })
 
   in-turn : (turn : Turn) {gap wait : ℕ} → ReceiverMayTick turn → Paced turn gap wait → wait ≤ gap
@@ -69,7 +70,7 @@ module _ {st : Settings} {rs : receiver-settings.Settings} {m : List ℕ} (c : C
   unfolding stepOf begunAfter ticking.tickOf ticking.tickPhase
   tick-receiver (opens size) (e, _) may = absurd (cons≢nil e)
   tick-receiver (asks a i f t p q) (_, e) may = absurd (cons≢nil e)
-  tick-receiver (sends {turn} i f g p t stages.Passed.none stages.Answered.none) e may = waits i f g (in-turn turn may p) t
+  tick-receiver (sends {turn} {misses = misses} i f g p t stages.Passed.none stages.Answered.none) e may = waits misses i f g (in-turn turn may p) t
   tick-receiver (sends i f g p t (announced _) q) (e, _) may = absurd (cons≢nil e)
   tick-receiver (sends i f g p t (informed _ _) q) (e, _) may = absurd (cons≢nil e)
   tick-receiver (sends i f g p t stages.Passed.none (stages.Answered.more _ _)) (_, e) may = absurd (cons≢nil e)
@@ -83,19 +84,19 @@ module _ {st : Settings} {rs : receiver-settings.Settings} {m : List ℕ} (c : C
   a-tick-longer senders gap wait p = p
   a-tick-longer receivers gap wait p = omega arith
 
-  streams : {turn : Turn} {ticks start number last gap wait : ℕ} {buffer : List ℕ}
+  streams : {turn : Turn} {ticks start number last gap wait : ℕ} (misses : Misses) {buffer : List ℕ}
       → Inside m start number last
       → Filled m number buffer
       → gap < st .gap
       → wait ≤ gap + 1
       → ticks + st .gap ≡ number * st .gap + gap
-      → (let w = sendsWorld st rs m ticks start number last gap wait [] [] buffer in
+      → (let w = sendsWorld st rs m ticks start number last gap wait misses [] [] buffer in
       Then (bySender (senderTick m) w nobody [] (tickOf (w .sender) m)) turn (since m ticks 0 []) [])
   unfolding begunAfter
-  streams {turn} {ticks} {start} {number} {last} {gap} {wait} {buffer} i f g p t = go (leb (st .gap) (gap + 1)) refl
+  streams {turn} {ticks} {start} {number} {last} {gap} {wait} misses {buffer} i f g p t = go (leb (st .gap) (gap + 1)) refl
     where
       w : World
-      w = sendsWorld st rs m ticks start number last gap wait [] [] buffer
+      w = sendsWorld st rs m ticks start number last gap wait misses [] [] buffer
 
       Told : sender.Told → Type 0
       Told a = Then (bySender (senderTick m) w nobody [] a) turn (since m ticks 0 []) []
@@ -136,11 +137,11 @@ module _ {st : Settings} {rs : receiver-settings.Settings} {m : List ℕ} (c : C
   unfolding begunAfter tickOf lentTo tickPhase pick
   tick-lent l (opens size) lent (e, _) = absurd (cons≢nil e)
   tick-lent l (asks a i f t p q) lent (_, e) = absurd (cons≢nil e)
-  tick-lent l (sends {turn} {ticks} {start} {number} {last} {gap} {wait} {buffer = buffer} i f g p t stages.Passed.none stages.Answered.none) lent e =
-      let w = sendsWorld st rs m ticks start number last gap wait [] [] buffer in
+  tick-lent l (sends {turn} {ticks} {start} {number} {last} {gap} {wait} {misses} {buffer = buffer} i f g p t stages.Passed.none stages.Answered.none) lent e =
+      let w = sendsWorld st rs m ticks start number last gap wait misses [] [] buffer in
       subst⁻¹ (λ (l : List ℕ). Then (bySender (senderTick l) w nobody [] (tickOf (w .sender) l)) turn (since m ticks 0 []) [])
       (lent refl)
-      (streams i f g (a-tick-longer turn gap wait p) t)
+      (streams misses i f g (a-tick-longer turn gap wait p) t)
   tick-lent l (sends i f g p t (announced _) q) lent (e, _) = absurd (cons≢nil e)
   tick-lent l (sends i f g p t (informed _ _) q) lent (e, _) = absurd (cons≢nil e)
   tick-lent l (sends i f g p t stages.Passed.none (stages.Answered.more _ _)) lent (_, e) = absurd (cons≢nil e)

@@ -115,7 +115,7 @@ module _ {rs : receiver-settings.Settings} {lo : ℕ} {back : List Frame} where
   unfolding lmAckOf lmNackOf
   low-tick (view.rests _) l r = record { low = l; rises = quiet-back r }
   low-tick (view.waits _) l r = record { low = l; rises = quiet-back r }
-  low-tick (view.retries _ _) l r =
+  low-tick (view.retries _ _ _) l r =
       record { low = l; rises = joins-at _ 1 (l .0) (le-refl 1) r }
   low-tick (view.repeats _ held _) l r = absurd (false≢true (sym (l .1) ∙ held))
   low-tick view.expires l r = record { low = tt; rises = joins-other _ (λ e. omega arith) r }
@@ -125,7 +125,7 @@ module _ {rs : receiver-settings.Settings} {lo : ℕ} {back : List Frame} where
   unfolding lmAckOf lmNackOf
   high-tick {hi} (view.rests _) l r = record { hi = hi; high = l; rises = quiet-back r }
   high-tick {hi} (view.waits _) l r = record { hi = hi; high = l; rises = quiet-back r }
-  high-tick (view.retries {x} _ _) l r =
+  high-tick (view.retries {x} _ _ _) l r =
       record { hi = x .expected; high = (le-refl _, l .1); rises = joins-ack (lmAckOf (x .expected) _) (l .0) r }
   high-tick (view.repeats _ held _) l r = absurd (false≢true (sym (l .1) ∙ held))
   high-tick {hi} view.expires l r = record { hi = hi; high = tt; rises = joins-other _ (λ e. omega arith) r }

@@ -231,7 +231,7 @@ ticked : (l : ℕ) {rs : receiver-settings.Settings} {q : receiver-phase.Phase} 
     → Awaits l (t .next .phase)
 ticked l (view.rests _) a = a
 ticked l (view.waits _) a = a
-ticked l (view.retries _ _) a = a
+ticked l (view.retries _ _ _) a = a
 ticked l (view.repeats _ _ _) a = a
 ticked l view.expires a = tt
 

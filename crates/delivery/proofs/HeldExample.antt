@@ -1,12 +1,12 @@
--- The lists of calls with holds, computed: the conditions of demand 3 can be met by a transfer that is held and delivered, by
--- one whose 21st held timeout falls due, and by the longest connection of two frames.
+-- The lists of calls with holds, computed: the conditions of demand 3 can be met by a transfer that is held and delivered, and
+-- by one whose 21st held timeout falls due.
 -- Assumes nothing.
 use mathlib.Core.Bool.{Bool, true, false, false≢true}
 use mathlib.Core.List.{List, [], _∷_}
 use mathlib.Core.Path.{_≡_, refl}
 use Rattle.delivery.specs.Demand3.{Conditions}
 use Rattle.delivery.specs.Example.{shownBefore, exampleBuffer}
-use Rattle.delivery.specs.HeldExample.{startAt, heldCalls, begunCalls, heldTicks, lateCalls, longestTicks, HeldExamples}
+use Rattle.delivery.specs.HeldExample.{startAt, heldCalls, begunCalls, heldTicks, HeldExamples}
 use Rattle.delivery.specs.Run.{Past, next, runOf}
 use Rattle.delivery.specs.Seen.{begunIn, begunAfter, openedIn, openedAfter}
 use Rattle.frame.specs.Choice.{pick}
@@ -26,11 +26,11 @@ use Rattle.transport.specs.World.{hearForward, repeatForward, loseForward, hear
 
 -- what is asked of a call, before what is asked of the calls after it
 infixr 5 _then_
-_then_ : {A B : Type 0} → A → B → A × B
+pub _then_ : {A B : Type 0} → A → B → A × B
 here then after = (here, after)
 
 -- of these calls demand 3 asks nothing
-allReceivers : List Call → Bool
+unfoldable pub allReceivers : List Call → Bool
 allReceivers [] = true
 allReceivers (receiverTick ∷ calls) = allReceivers calls
 allReceivers (hold ∷ calls) = allReceivers calls
@@ -44,7 +44,7 @@ allReceivers (hearBack ∷ calls) = false
 allReceivers (repeatBack ∷ calls) = false
 allReceivers (loseBack ∷ calls) = false
 
-free : (calls : List Call) → allReceivers calls ≡ true → (p : Past) → Conditions stepOf p calls
+pub free : (calls : List Call) → allReceivers calls ≡ true → (p : Past) → Conditions stepOf p calls
 unfolding allReceivers
 free [] e p = tt
 free (receiverTick ∷ calls) e p = (tt, free calls e (next stepOf p receiverTick))
@@ -61,7 +61,7 @@ free (loseBack ∷ calls) e p = absurd (false≢true e)
 
 pub held-examples : HeldExamples
 unfolding
-    shownBefore exampleBuffer heldCalls begunCalls heldTicks lateCalls longestTicks allReceivers
+    shownBefore exampleBuffer heldCalls begunCalls heldTicks allReceivers
     runOf stepOf givenForward givenBack begunIn begunAfter openedIn openedAfter
     pick frameCountOf incrementOf
     fillTo blankOf announcementOf informationOf lmAckOf lmNackOf endOfAckOf
@@ -115,10 +115,5 @@ held-examples =
           record {
             shows = refl;
             meets = (λ _. (refl, refl, refl), (λ _. refl, (tt, (λ _. λ _. refl, (λ _. refl, free heldTicks refl (runOf stepOf (startAt 1) begunCalls))))));
-          };
-      longest =
-          record {
-            shows = refl;
-            meets = (λ _. (refl, refl, refl), (λ _. refl, (tt, (tt, (tt, (λ _. λ _. refl, (λ _. refl, free longestTicks refl (runOf stepOf (startAt 1) lateCalls))))))));
           };
     }

@@ -9,10 +9,12 @@ pub mod Lives
 pub mod Theorem
 pub mod Example
 pub mod HeldExample
+pub mod LateExample
 pub mod Keeps
 pub mod Climbs
 pub mod Unmet
 pub mod Filler
+pub mod Latest
 pub mod CleanExample
 pub mod Runs
 pub mod CleanSends

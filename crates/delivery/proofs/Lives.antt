@@ -356,7 +356,7 @@ module _ {st : Settings} {m : List ℕ} {n : ℕ} {p : Phase} {forward back : Li
       → Received Lax st (senderIn st p) forward back buffer (since m n 0 ds) (heard t buffer)
   short-rests l (view.rests _) = record { live = rw (append-nil, add-zero n) (short narrow young v l e c) }
   short-rests l (view.waits _) = record { live = rw (append-nil, add-zero n) (short narrow young v l e c) }
-  short-rests l (view.retries _ _) =
+  short-rests l (view.retries _ _ _) =
       record { live = rw (add-zero n) (short narrow young v l (joins e (stages.Echoes.replies (stages.grants _ _))) c) }
   short-rests l (view.repeats _ _ _) =
       record { live = rw (add-zero n) (short narrow young v l (joins e (stages.Echoes.replies (stages.grants _ _))) c) }

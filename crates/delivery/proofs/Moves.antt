@@ -111,14 +111,14 @@ ticked : {Lax : Type 0} {m : List ℕ} {isOpening : Bool} {q : Phase} {forward b
     → Stage Lax m isOpening q forward back buffer ds → Ticks rs q t → Took Lax m isOpening forward back buffer ds (heard t buffer)
 ticked (early {p} lax past l b) (rests shut) = absurd (early-open p past shut)
 ticked (early lax past l b) (waits _) = record { stage = early lax past l (same b) }
-ticked (early lax past l b) (retries {x} _ _) =
+ticked (early lax past l b) (retries {x} _ _ _) =
     let more : 1 < x .expected = past .0 in
     record { stage = early lax past l (joins b (stages.later (x .expected) _ (λ one. absurd (omega arith)))) }
 ticked (early lax past l b) (repeats _ held _) = absurd (false≢true (sym (past .1) ∙ held))
 ticked (early lax past l b) expires = record { stage = fresh tt l (joins b (stages.Declines.refuses 2)) }
 ticked (fresh shut l b) (rests _) = record { stage = fresh shut l (same b) }
 ticked (fresh shut l b) (waits _) = absurd shut
-ticked (fresh shut l b) (retries _ _) = absurd shut
+ticked (fresh shut l b) (retries _ _ _) = absurd shut
 ticked (fresh shut l b) (repeats _ _ _) = absurd shut
 ticked (fresh shut l b) expires = absurd shut
 ticked {m} {rs = rs} (asked h l b) v = asked-goes l b (half-tick m rs v h)

@@ -18,6 +18,7 @@ use Rattle.receiver.specs.Hear.{ending, storing, announcedAgain, announceOpen, 
 use Rattle.receiver.specs.State.{moved}
 use Rattle.receiver.specs.Told.{Told, Heard, heard, refusing, silently, emitting, failingWith}
 use Rattle.receiver.specs.declared.Connection.{Connection}
+use Rattle.receiver.specs.declared.Misses.{Misses}
 use Rattle.receiver.specs.declared.Phase.{Phase}
 use Rattle.receiver.specs.declared.Phase.the-variants.{Idle, Done, Open}
 use Rattle.receiver.specs.declared.Settings.{Settings}
@@ -105,9 +106,9 @@ module _ (m : List ℕ) (rs : Settings) where
   pub half-tick : {q : Phase} {t : Told} {left : List ℕ} → Ticks rs q t → Halfway m q left → Goes m rs (heard t left)
   half-tick (rests _) h = silent h
   half-tick (waits _) (opened many long low high before) = silent (opened many long low high before)
-  half-tick (retries _ _) (opened many long low high before) = replies (opened many long low high before) (grants _ _)
+  half-tick (retries _ _ _) (opened many long low high before) = replies (opened many long low high before) (grants _ _)
   half-tick (waits _) (stray other small) = silent (stray other small)
-  half-tick (retries _ _) (stray other small) = replies (stray other small) (grants _ _)
+  half-tick (retries _ _ _) (stray other small) = replies (stray other small) (grants _ _)
   half-tick (repeats _ _ _) (opened many long low high before) = replies (opened many long low high before) (grants _ _)
   half-tick (repeats _ _ _) (stray other small) = replies (stray other small) (grants _ _)
   half-tick expires h = fails 2
@@ -136,13 +137,13 @@ module _ (m : List ℕ) (rs : Settings) where
     stored x = storing left number (x .length) (fillTo 7 (partFrom number m))
 
     -- the next frame is expected, and the bytes before it are m's
-    next : {x : Connection} (last : ℕ) → number ≡ x .expected → x .expected < x .frames → Halfway m (Open x) left
-        → Halfway m (Open (moved x (x .expected + 1) last 0 0)) (stored x)
-    next {x} last at more (opened many long low high before) =
+    next : {x : Connection} (last : ℕ) (misses : Misses) → number ≡ x .expected → x .expected < x .frames → Halfway m (Open x) left
+        → Halfway m (Open (moved x (x .expected + 1) last 0 misses)) (stored x)
+    next {x} last misses at more (opened many long low high before) =
         let low′ : 1 ≤ x .expected + 1 = omega arith in
         let high′ : x .expected + 1 ≤ framesOf m = omega arith in
         opened {buffer = stored x} many long low′ high′ (rw (at, long) (next-stored m left (x .expected) held fits low high before (omega arith)))
-    next last at more (stray other small) = stray other small
+    next last misses at more (stray other small) = stray other small
 
     pub half-information : {q : Phase} {h : Heard} → number ≤ framesOf m → Informed rs number (fillTo 7 (partFrom number m)) left q h
         → Halfway m q left → Ends m rs h
@@ -151,5 +152,5 @@ module _ (m : List ℕ) (rs : Settings) where
         ends x {left = stored x} many long (rw (at, long) (last-stored m left (x .expected) held fits low high before (whole ∙ many)))
     half-information inside (above over) (stray other small) = goes (fails 4)
     half-information inside (delivers {x} at whole) (stray other small) = astray x other small
-    half-information inside (asks at more _) h = goes (replies (next _ at more h) (grants _ _))
-    half-information inside (goes-on _ at more _) h = goes (silent (next _ at more h))
+    half-information inside (asks at more _) h = goes (replies (next _ _ at more h) (grants _ _))
+    half-information inside (goes-on _ at more _) h = goes (silent (next _ _ at more h))

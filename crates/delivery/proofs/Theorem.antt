@@ -29,7 +29,7 @@ use Rattle.delivery.proofs.Lives.{Stands, Acted, Received, tick-live, h
 use Rattle.receiver.proofs.View as view
 use Rattle.receiver.proofs.View.{receiverIn, Shut}
 use Rattle.delivery.proofs.Stages.{senderIn, Live, resting, long, short}
-use Rattle.delivery.proofs.Timing.{Timed, before, between, during, Listened, timed-later, tick-timed, pause-timed, hear-timed, in-time, in-time-unheld}
+use Rattle.delivery.proofs.Timing.{Timed, before, between, during, Listened, timed-later, tick-timed, pause-timed, hear-timed, in-time, in-time-unheld, latest-under}
 use Rattle.delivery.specs.WhileOpen.{LineCondition, LineConditions, Demand3WhileOpen}
 use Rattle.delivery.specs.Demand3.{Condition, Conditions, Reported, Finished, NeverHeld, Unheld, Sent, Again, Promise, Demand3}
 use Rattle.delivery.specs.Run.{Past, fresh, next, runOf}
@@ -243,13 +243,18 @@ module _ (Lax : Type 0) (st : Settings) (rs : receiver-settings.Settings) (limit
   finished : {r : Receiver} {o : Opened} → Timed rs r o → Finished (rs .timeout) o
   finished (before shut) = tt
   finished (between shut) = (omega arith, λ _. refl)
-  finished (during {x} w) = let k = in-time rs (limits .pos) (limits .small) x w in (omega arith, λ late. absurd (omega arith))
+  finished (during {x} w) =
+      let k = in-time rs (limits .pos) (limits .small) x w in
+      let under = latest-under (rs .timeout) (x .frames) in
+      (omega arith, λ late. absurd (omega (arith, k, under, late)))
 
   unheld-finished : {r : Receiver} {o : Opened} → Timed rs r o → Unheld (rs .timeout) o
   unheld-finished (before shut) = tt
   unheld-finished (between shut) = λ _ _. refl
   unheld-finished (during {x} w) =
-      λ none late. let k = in-time-unheld rs (limits .pos) (limits .small) x w none in absurd (omega arith)
+      λ none late.
+      let k = in-time-unheld rs (limits .pos) (limits .small) x w none in
+      absurd (omega (arith, k, latest-under (rs .timeout) (x .frames), late))
 
   promised : (w : World) (events : List Event) → Holds Lax st rs w events → Promise (st .limit) (rs .timeout) events
   promised w events h =

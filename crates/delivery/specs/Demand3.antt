@@ -3,9 +3,9 @@
 --              one once, a short one, filled up to eight bytes, once or oftener
 --   reported   an accepted begin is reported once, at the sender's tick M after it at the latest
 --   again      so before the next accepted begin
---   finished   a connection of N frames is reported once, at the receiver's tick 3 × T × N + 21 × T after its opening at the
---              latest (document 02, E2)
---   unheld     a connection in which no hold was accepted is reported by its tick 3 × T × N, as before E2
+--   finished   a connection of N frames is reported once, at the receiver's tick 4 × T × N + 21 × T after its opening at the
+--              latest (document 02, E4)
+--   unheld     a connection in which no hold was accepted is reported by its tick 4 × T × N
 --   Demand3    this after any calls whatever, refused ones among them, by ends just made and over a line that starts empty
 --   stepOf     the line gives frames in the order and shape in which they were emitted, and no others
 --   Conditions what is asked of whoever makes the calls: to begin only where nothing of an earlier transfer is under way,
@@ -97,22 +97,22 @@ AgainAfter ticksReceiver any b = Unit
 AgainAfter holdsReceiver any b = Unit
 AgainAfter other any b = Unit
 
--- the last connection has at most one report, and exactly one once 3 × T × N + 21 × T ticks have passed
+-- the last connection has at most one report, and exactly one once 4 × T × N + 21 × T ticks have passed
 abbrev pub Finished : ℕ → Opened → Type 0
 Finished timeout Opened.never = Unit
 Finished timeout (Opened.since frames ticks reports pauses) =
-    (reports ≤ 1) × (3 * timeout * frames + 21 * timeout ≤ ticks → reports ≡ 1)
+    (reports ≤ 1) × (4 * timeout * frames + 21 * timeout ≤ ticks → reports ≡ 1)
 
 -- no hold was accepted since the last opening
 abbrev pub NeverHeld : Opened → Type 0
 NeverHeld Opened.never = Unit
 NeverHeld (Opened.since frames ticks reports pauses) = pauses ≡ 0
 
--- where no hold was accepted, it has its report once 3 × T × N ticks have passed
+-- where no hold was accepted, it has its report once 4 × T × N ticks have passed
 abbrev pub Unheld : ℕ → Opened → Type 0
 Unheld timeout Opened.never = Unit
 Unheld timeout (Opened.since frames ticks reports pauses) =
-    pauses ≡ 0 → 3 * timeout * frames ≤ ticks → reports ≡ 1
+    pauses ≡ 0 → 4 * timeout * frames ≤ ticks → reports ≡ 1
 
 -- the two clauses that speak of the newest event
 abbrev pub Sent : List Event → Type 0

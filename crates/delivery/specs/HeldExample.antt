@@ -1,6 +1,5 @@
 -- Document 02, E2: lists of calls with holds, which meet the conditions of demand 3, and what is seen of them. The first is a
--- transfer that is held and delivered; in the second the 21st held timeout falls due; in the third a connection of two frames
--- lasts as long at T 1 as a search found that it can.
+-- transfer that is held and delivered; in the second the 21st held timeout falls due.
 use Prim.Native.Nat.{ℕ}
 use mathlib.Core.List.{List, [], _∷_, _++_}
 use lib.ListN.{replicate}
@@ -118,33 +117,8 @@ heldTicks = hold ∷ replicate 12 receiverTick ++ resume ∷ hold ∷ replicate 
 abbrev pub heldTicksShown : List Shown
 heldTicksShown = showsAck 1 ∷ replicate 12 (showsAck 1) ++ showsAck 2 ∷ showsAck 1 ∷ replicate 8 (showsAck 1) ++ failed2 ∷ []
 
--- ---- the longest connection of two frames that a search found, at T 1
-
--- Two misses before frame 1, twenty held timeouts after it, and three misses more: failed at the receiver's tick 25 after the
--- opening. The bound is 27; a connection that is never held has its report by tick 6.
-unfoldable pub lateCalls : List Call
-lateCalls =
-    begin exampleMessage
-    ∷ hearForward (replicate 1785 0)
-    ∷ receiverTick
-    ∷ receiverTick
-    ∷ hearBack
-    ∷ senderTick exampleMessage
-    ∷ hearForward (replicate 1785 0)
-    ∷ []
-
-abbrev pub lateShown : List Shown
-lateShown = showsAnnouncement ∷ showsAck 1 ∷ showsAck 1 ∷ showsAck 1 ∷ nothing ∷ showsFirst ∷ showsAck 2 ∷ []
-
-unfoldable pub longestTicks : List Call
-longestTicks = hold ∷ replicate 20 receiverTick ++ resume ∷ replicate 3 receiverTick
-
-abbrev pub longestTicksShown : List Shown
-longestTicksShown = showsAck 1 ∷ replicate 20 (showsAck 1) ++ showsAck 2 ∷ showsAck 2 ∷ showsAck 2 ∷ failed2 ∷ []
-
 -- ---- what is claimed of them
 
 pub record HeldExamples : Type 0 where
   pub held : Witness (Conditions stepOf) (startAt 2) heldCalls heldShown
   pub expired : Witness (Conditions stepOf) (startAt 1) (begunCalls ++ heldTicks) (begunShown ++ heldTicksShown)
-  pub longest : Witness (Conditions stepOf) (startAt 1) (lateCalls ++ longestTicks) (lateShown ++ longestTicksShown)

@@ -9,4 +9,6 @@ pub mod Example
 pub mod HeldExample
 pub mod Unmet
 pub mod Filler
+pub mod Latest
+pub mod LateExample
 pub mod CleanExample

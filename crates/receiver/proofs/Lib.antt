@@ -4,3 +4,4 @@ pub mod Told
 pub mod Reachable
 pub mod Refused
 pub mod Refusals
+pub mod Types

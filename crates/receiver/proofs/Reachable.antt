@@ -152,7 +152,7 @@ module _ (s : Settings) (w : SettingsWithin s) where
           typed = o .typed;
         };
       }
-  ticks-within o (retries {x} {misses} _ counted) =
+  ticks-within o (retries {x} {misses} _ _ counted) =
       asked x _ misses (o .announced) (o .first) (omega arith) (o .heldTimeouts) (o .begun)
       (counted-within counted (x .expected) (x .held) (x .held) (o .typed))
   ticks-within o (repeats {x} _ _ more) =

@@ -46,7 +46,7 @@ make-numbered timeout window capacity number =
 tick-taken : {s : Settings} {p : Phase} {t : told.Told} → Ticks s p t → Taken (t .outcome)
 tick-taken (rests _) = tt
 tick-taken (waits _) = tt
-tick-taken (retries _ _) = tt
+tick-taken (retries _ _ _) = tt
 tick-taken (repeats _ _ _) = tt
 tick-taken expires = tt
 

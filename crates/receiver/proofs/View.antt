@@ -72,6 +72,7 @@ module _ (s : Settings) where
         → Ticks (Open x) (waiting (openWith x) x)
     retries : {x : Connection} {misses : Misses}
         → s .timeout ≤ incrementOf (x .wait)
+        → x .held ≡ false
         → Counted (x .misses) misses
         → Ticks (Open x) (askingAgain (openWith x) x misses)
     repeats : {x : Connection}
@@ -166,14 +167,14 @@ module _ (s : Settings) where
 
 module _ (s : Settings) where
   -- at T, not held, by what is counted
-  timeout-free : (x : Connection) (m : Misses) → x .misses ≡ m → s .timeout ≤ incrementOf (x .wait)
+  timeout-free : (x : Connection) (m : Misses) → x .misses ≡ m → s .timeout ≤ incrementOf (x .wait) → x .held ≡ false
       → Ticks s (Open x) (timeoutFree (receiverIn s (Open x)) x m)
   unfolding timeoutFree
-  timeout-free x NoneAfterAck e due = retries {x = x} {misses = OneAfterAck} due (rw e first-after-ack)
-  timeout-free x OneAfterAck e due = retries {x = x} {misses = TwoAfterAck} due (rw e second-after-ack)
-  timeout-free x TwoAfterAck e due = expires
-  timeout-free x NoneAfterFrame e due = retries {x = x} {misses = OneAfterFrame} due (rw e first-after-frame)
-  timeout-free x OneAfterFrame e due = retries {x = x} {misses = OneAfterAck} due (rw e first-again)
+  timeout-free x NoneAfterAck e due free = retries {x = x} {misses = OneAfterAck} due free (rw e first-after-ack)
+  timeout-free x OneAfterAck e due free = retries {x = x} {misses = TwoAfterAck} due free (rw e second-after-ack)
+  timeout-free x TwoAfterAck e due free = expires
+  timeout-free x NoneAfterFrame e due free = retries {x = x} {misses = OneAfterFrame} due free (rw e first-after-frame)
+  timeout-free x OneAfterFrame e due free = retries {x = x} {misses = OneAfterAck} due free (rw e first-again)
 
   tick-phase : (p : Phase) → Ticks s p (tickPhase (receiverIn s p) p)
   unfolding tickPhase tickOpen timeoutHeld
@@ -185,7 +186,7 @@ module _ (s : Settings) where
       (λ due. pick-elim P (x .held)
       (λ held. pick-elim P _ (λ over. expires)
       (λ more. repeats (leb-true _ _ due) held (leb-false _ _ more)))
-      (λ free. timeout-free x (x .misses) refl (leb-true _ _ due)))
+      (λ free. timeout-free x (x .misses) refl (leb-true _ _ due) free))
       (λ early. waits (leb-false _ _ early))
 
   hold-phase : (p : Phase) → Pauses s hold p (holdPhase (receiverIn s p) p)

@@ -8,3 +8,4 @@ pub mod Tick
 pub mod Hear
 pub mod Reachable
 pub mod Refusals
+pub mod Types

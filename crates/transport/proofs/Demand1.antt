@@ -80,7 +80,7 @@ tick-unrefused : {rs : Settings} {p : receiver-phase.Phase} {t : receiver.Told} 
     → wasRefused (t .outcome) ≡ false
 tick-unrefused (view.rests _) = refl
 tick-unrefused (view.waits _) = refl
-tick-unrefused (view.retries _ _) = refl
+tick-unrefused (view.retries _ _ _) = refl
 tick-unrefused (view.repeats _ _ _) = refl
 tick-unrefused view.expires = refl
 

@@ -60,7 +60,7 @@ tick-told : {s : Settings} {p : receiver-phase.Phase} {t : receiver.Told} → Ti
 unfolding lmNackOf lmAckOf blankOf
 tick-told (rests _) = blank refl refl
 tick-told (waits _) = blank refl refl
-tick-told (retries _ _) = blank refl refl
+tick-told (retries _ _ _) = blank refl refl
 tick-told (repeats _ _ _) = blank refl refl
 tick-told expires = blank refl refl
 
