@@ -1,6 +1,7 @@
 /* Kospelna for programs in C: the two transport ends of GB/T 27930 category B, version talk, parameter groups.
  * Link target/staticlib/libkospelna.a, which `rt staticlib kospelna` makes for x86-64. examples/bench.c is a whole bench,
- * examples/hold.c a transfer that is held, examples/filler.c one whose last frame comes with old bytes behind the message.
+ * examples/hold.c a transfer that is held, examples/filler.c one whose last frame comes with old bytes behind the message,
+ * examples/silence.c two over a line that falls silent.
  *
  * Every function takes every value of its parameters and is proved to answer by the rules of document 01, and of document
  * 02 as far as docs/landings/ has it (the equations stand in crates/kospelna/specs/; 001 is the source of version talk and

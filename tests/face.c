@@ -87,8 +87,8 @@ static void opened(void)
          "the sender after begin");
     const kospelna_receiver r = kospelna_receiver_tick(receiver).next;
     must(r.timeout == 10 && r.window == 2 && r.capacity == KOSPELNA_CAPACITY_MAX && r.phase == KOSPELNA_RECEIVER_OPEN
-             && r.frames == 2 && r.length == 9 && r.expected == 1 && r.last == 2 && r.wait == 1 && r.misses == 0 && !r.held
-             && r.holds == 0,
+             && r.frames == 2 && r.length == 9 && r.expected == 1 && r.last == 2 && r.wait == 1
+             && r.misses == KOSPELNA_MISSES_NONE_AFTER_ACK && !r.held && r.holds == 0,
          "the receiver after the announcement and a tick");
 }
 
@@ -137,12 +137,12 @@ static void places(void)
     must(same_sender(kospelna_sender_hear(s, sm_ack).next, left), "an unknown phase of a sender");
 
     kospelna_receiver r = {
-        .timeout = 257, .capacity = 258, .window = 4, .phase = KOSPELNA_RECEIVER_OPEN, .length = 259, .frames = 201,
-        .expected = 5, .last = 6, .misses = 7, .wait = 260, .held = true, .holds = 8};
+        .timeout = 257, .capacity = 258, .window = 7, .phase = KOSPELNA_RECEIVER_OPEN, .length = 259, .frames = 201,
+        .expected = 5, .last = 6, .misses = KOSPELNA_MISSES_ONE_AFTER_FRAME, .wait = 260, .held = true, .holds = 8};
     kospelna_receiver_answer a = kospelna_receiver_hear(r, old, buffer, sizeof buffer);
     must(!a.emits && a.outcome == KOSPELNA_QUIET && same_receiver(a.next, r), "a field of Open");
     r.phase = 3;
-    const kospelna_receiver idle = {.timeout = 257, .capacity = 258, .window = 4, .phase = KOSPELNA_RECEIVER_IDLE};
+    const kospelna_receiver idle = {.timeout = 257, .capacity = 258, .window = 7, .phase = KOSPELNA_RECEIVER_IDLE};
     must(same_receiver(kospelna_receiver_tick(r).next, idle), "an unknown phase of a receiver");
 }
 

@@ -55,7 +55,8 @@ static kospelna_frame from_card(struct message m)
     return f;
 }
 
-/* A receiver of T 3, whose window is the whole message, that expects this frame; the buffer had AA throughout. */
+/* A receiver of T 3, whose window is the whole message, that expects this frame; the buffer had AA throughout. It waits after
+ * the frame before, for which no LM_ACK went out, and with none before after the opening's LM_ACK. */
 static kospelna_receiver expecting(struct message m, uint8_t number)
 {
     kospelna_receiver_answer b = hears(kospelna_receiver_make(3, 255, 1785).receiver, announces(m));
@@ -64,7 +65,8 @@ static kospelna_receiver expecting(struct message m, uint8_t number)
         b = hears(b.next, part(m, i));
     const kospelna_receiver due = {
         .timeout = 3, .window = 255, .capacity = 1785, .phase = KOSPELNA_RECEIVER_OPEN, .frames = m.frames,
-        .length = m.length, .expected = number, .last = m.frames};
+        .length = m.length, .expected = number, .last = m.frames,
+        .misses = number > 1 ? KOSPELNA_MISSES_NONE_AFTER_FRAME : KOSPELNA_MISSES_NONE_AFTER_ACK};
     must(same_receiver(b.next, due), "the receiver before the last frame");
     return b.next;
 }
@@ -126,25 +128,29 @@ static void card(struct message m)
          "the last frame after the delivery");
 }
 
-/* Refused frames neither restart wait nor clear misses: with one before each tick the timeouts come at ticks 3, 6 and 9. */
+/* Refused frames neither restart wait nor clear misses, and set no type: with one before each tick the timeouts come at ticks
+ * 3, 6, 9 and 12, the first after frame 1, the others after LM_ACKs. */
 static void waits_on(void)
 {
+    static const uint8_t misses[] = {
+        KOSPELNA_MISSES_NONE_AFTER_FRAME, KOSPELNA_MISSES_ONE_AFTER_FRAME, KOSPELNA_MISSES_ONE_AFTER_ACK,
+        KOSPELNA_MISSES_TWO_AFTER_ACK};
     kospelna_receiver due = expecting(nine, 2);
     kospelna_receiver_answer b;
-    for (int tick = 1; tick < 9; tick++) {
+    for (int tick = 1; tick < 12; tick++) {
         b = hears(due, from_card(nine));
         must(refuses(b, KOSPELNA_REFUSAL_FILLER, due), "old bytes while waiting");
         b = kospelna_receiver_tick(b.next);
         due.wait = tick % 3;
-        due.misses = tick / 3;
+        due.misses = misses[tick / 3];
         must(tick % 3 == 0 ? asks(b, ack(2, 1), due) : ignores(b, due), "a tick over refused frames");
     }
-    must(delivers(hears(due, part(nine, 2)), nine) && stored(9), "the delivery after two timeouts");
+    must(delivers(hears(due, part(nine, 2)), nine) && stored(9), "the delivery after three timeouts");
     b = hears(due, from_card(nine));
-    must(refuses(b, KOSPELNA_REFUSAL_FILLER, due), "old bytes before the third timeout");
+    must(refuses(b, KOSPELNA_REFUSAL_FILLER, due), "old bytes before the fourth timeout");
     b = kospelna_receiver_tick(b.next);
     must(receiver_failed(b, KOSPELNA_CAUSE_TIMEOUTS) && goes_out(b.emits, b.frame, nack(KOSPELNA_NACK_TIMEOUTS)),
-         "the third timeout over refused frames");
+         "the fourth timeout over refused frames");
 }
 
 /* While held frame N is ignored, and nothing of it is judged; the resume ends that. */

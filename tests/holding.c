@@ -1,5 +1,5 @@
-/* Holds over the C face, each answer worked by hand from document 02, E2. Exits 1 where a frame, a state, the buffer, a
- * failure or a refusal is another than it should be. */
+/* Holds over the C face, each answer worked by hand from document 02, E2 (and E4, what the wait is after). Exits 1 where a
+ * frame, a state, the buffer, a failure or a refusal is another than it should be. */
 #include "ends.h"
 
 /* The message of bytes 1 to 20, so N 3; its first information frame is that of ends.h. */
@@ -7,10 +7,14 @@ static const kospelna_frame three = {.kind = KOSPELNA_KIND_INFORMATION, .bytes =
 static const kospelna_frame second_part = {.kind = KOSPELNA_KIND_INFORMATION, .bytes = {2, 8, 9, 10, 11, 12, 13, 14}};
 static const kospelna_frame third_part = {.kind = KOSPELNA_KIND_INFORMATION, .bytes = {3, 15, 16, 17, 18, 19, 20, 255}};
 
-/* A receiver of T 3 and C 2 that has accepted frame 1, so e 2 and w 2, and then waited a tick. */
+/* A receiver of T 3 and C 2 that has accepted frame 1, so e 2 and w 2, and then waited a tick; and the same when it is held:
+ * the hold's LM_ACK is what it waits after. */
 static const kospelna_receiver begun = {
     .timeout = 3, .window = 2, .capacity = 20, .phase = KOSPELNA_RECEIVER_OPEN, .frames = 3, .length = 20, .expected = 2,
-    .last = 2, .wait = 1};
+    .last = 2, .misses = KOSPELNA_MISSES_NONE_AFTER_FRAME, .wait = 1};
+static const kospelna_receiver begun_held = {
+    .timeout = 3, .window = 2, .capacity = 20, .phase = KOSPELNA_RECEIVER_OPEN, .frames = 3, .length = 20, .expected = 2,
+    .last = 2, .misses = KOSPELNA_MISSES_NONE_AFTER_ACK, .wait = 1, .held = true};
 
 static bool refused_13(kospelna_receiver_answer b, kospelna_receiver left)
 {
@@ -24,26 +28,23 @@ static void hold_refusals(void)
     const kospelna_receiver done = {
         .timeout = 3, .window = 2, .capacity = 20, .phase = KOSPELNA_RECEIVER_DONE, .frames = 3, .length = 20};
     const kospelna_receiver open = hears(idle, three).next;
-    kospelna_receiver held = begun;
-    held.held = true;
     must(refused_13(kospelna_receiver_hold(idle), idle) && refused_13(kospelna_receiver_hold(done), done),
          "a hold with no connection open");
     must(refused_13(kospelna_receiver_hold(open), open), "a hold before the first frame");
-    must(refused_13(kospelna_receiver_hold(held), held), "a second hold");
+    must(refused_13(kospelna_receiver_hold(begun_held), begun_held), "a second hold");
     must(refused_13(kospelna_receiver_resume(idle), idle) && refused_13(kospelna_receiver_resume(done), done)
              && refused_13(kospelna_receiver_resume(open), open) && refused_13(kospelna_receiver_resume(begun), begun),
          "a resume where none is held");
 }
 
-/* A held transfer that is delivered. The hold leaves all but the mark, two ticks later wait is T, and the resume asks for a
- * window that ends later than the one before. */
+/* A held transfer that is delivered. The hold leaves all but the mark and what the wait is after, two ticks later wait is T,
+ * and the resume asks for a window that ends later than the one before. */
 static void held_transfer(void)
 {
-    kospelna_receiver due = begun;
+    kospelna_receiver due = begun_held;
     kospelna_receiver_answer b = hears(kospelna_receiver_make(3, 2, 20).receiver, three);
     b = kospelna_receiver_tick(hears(b.next, first_part).next);
     must(same_receiver(b.next, begun), "the receiver before the hold");
-    due.held = true;
     b = kospelna_receiver_hold(b.next);
     must(asks(b, ack(1, 1), due), "a hold");
     b = kospelna_receiver_tick(b.next);
@@ -78,8 +79,7 @@ static void heard_while_held(void)
     const kospelna_frame above = {.kind = KOSPELNA_KIND_INFORMATION, .bytes = {4, 1, 1, 1, 1, 1, 1, 1}};
     const kospelna_frame dirty = {.kind = KOSPELNA_KIND_INFORMATION, .bytes = {0, 3, 20, 0, 255, 255, 255, 0}};
     const kospelna_frame ignored[] = {three, announcement, first_part, second_part, third_part, above};
-    kospelna_receiver held = begun;
-    held.held = true;
+    const kospelna_receiver held = begun_held;
     memset(buffer, 0xAA, sizeof buffer);
     for (size_t i = 0; i < sizeof ignored / sizeof ignored[0]; i++)
         must(ignores(hears(held, ignored[i]), held), "an information frame while held");
@@ -109,16 +109,13 @@ static kospelna_receiver held_timeouts(kospelna_receiver held, int count)
 }
 
 /* A connection has 20 of them in all: here 12 and 8, with a resume and a second hold between, whose LM_ACKs do not count.
- * Misses, which are 2 from before, stay. */
+ * Misses, which are two after LM_ACKs from before, stay. */
 static void held_too_long(void)
 {
-    kospelna_receiver held = begun, due = begun;
-    held.wait = 0;
-    held.misses = 2;
+    kospelna_receiver held = begun, due = begun_held;
+    held.wait = due.wait = 0;
+    held.misses = due.misses = KOSPELNA_MISSES_TWO_AFTER_ACK;
     held = held_timeouts(kospelna_receiver_hold(held).next, 12);
-    due.wait = 0;
-    due.misses = 2;
-    due.held = true;
     due.holds = 12;
     must(same_receiver(held, due), "the receiver after twelve timeouts while held");
     held = kospelna_receiver_hold(kospelna_receiver_resume(held).next).next;

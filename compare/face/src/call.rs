@@ -8,6 +8,7 @@ use compare::packs::random::Random;
 use crate::filling::{Filling, PLACES};
 use crate::holding::Met;
 use crate::interface::Face;
+use crate::typing::{Typing, NUMBERS};
 use crate::values::*;
 
 /// A part of the pool of bytes that messages are taken from.
@@ -270,10 +271,10 @@ pub struct Pair<'a, L, R> {
 /// The outcomes of the ends and of talkers: 0 to 7.
 pub const OUTCOMES: usize = 8;
 
-/// From so many calls on, all that can be met of a hold and of a last frame's filler has to be.
+/// From so many calls on, all that can be met of a hold, of a last frame's filler and of misses has to be.
 const USUAL: u64 = 1_000_000;
 
-/// Calls by function, answers by function and outcome, and what was met of a hold and of a last frame's filler.
+/// Calls by function, answers by function and outcome, and what was met of a hold, of a last frame's filler and of misses.
 #[derive(Clone, Debug, Default)]
 pub struct Tally {
     pub calls: [u64; NAMES.len()],
@@ -283,6 +284,8 @@ pub struct Tally {
     pub met: [u64; Met::ALL.len()],
     /// In the order of `Filling`, each by the places behind the message.
     pub fillings: [[u64; PLACES]; Filling::ALL.len()],
+    /// In the order of `Typing`, each by the misses' number.
+    pub typings: [[u64; NUMBERS]; Typing::ALL.len()],
 }
 
 impl Tally {
@@ -299,6 +302,9 @@ impl Tally {
         }
         if let Some((filling, places)) = Filling::by(call, answer) {
             self.fillings[filling as usize][places] += 1;
+        }
+        if let Some((typing, number)) = Typing::by(call, answer) {
+            self.typings[typing as usize][number] += 1;
         }
     }
 
@@ -320,11 +326,27 @@ impl Tally {
             .collect()
     }
 
+    /// The same of misses, with their number.
+    pub fn rare_typings(&self, times: u64) -> Vec<String> {
+        let each = Typing::ALL.iter().flat_map(|&typing| {
+            let numbers = typing.numbers().into_iter();
+            numbers.map(move |number| (typing, number))
+        });
+        each.filter(|&(typing, number)| self.typings[typing as usize][number] < times)
+            .map(|(typing, number)| format!("{typing:?} with misses {number}"))
+            .collect()
+    }
+
     /// What was never met. Only in a run of usual size does that say anything.
     pub fn unmet(&self) -> Vec<String> {
         match self.total() < USUAL {
             true => Vec::new(),
-            false => [self.rare_holds(1), self.rare_fillings(1)].concat(),
+            false => [
+                self.rare_holds(1),
+                self.rare_fillings(1),
+                self.rare_typings(1),
+            ]
+            .concat(),
         }
     }
 }

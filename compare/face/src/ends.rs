@@ -1,11 +1,11 @@
 //! The reference's ends over plain values.
 //!
-//! A flat state is read as the face says: an unknown phase is Idle, and fields that a phase has not are not read. The
-//! reference keeps N nowhere (it counts it from L), so a flat state's N is not read, and it takes the gap and the window
-//! as bytes; `crate::forged` makes only states that both can hold.
+//! A flat state is read as the face says: an unknown phase is Idle, an unknown number of misses is none after an LM_ACK, and
+//! fields that a phase has not are not read. The reference keeps a sender's N nowhere (it counts it from L), so a flat sender's
+//! is not read, and it takes the gap and the window as bytes; `crate::forged` makes only states that both can hold.
 
 use compare::reference::frame::{frames_for, Frame};
-use compare::reference::receiver::{self, Connection, Delivered, Receiver, State};
+use compare::reference::receiver::{self, After, Connection, Delivered, Receiver, State};
 use compare::reference::sender::{self, Phase, Sender};
 use compare::reference::{refusal, Refused};
 
@@ -119,9 +119,9 @@ fn emitted(frame: Option<Frame>) -> (bool, FlatFrame) {
     }
 }
 
-/// What one side holds as a byte and the other as two: the sender's gap, the receiver's counts.
+/// What one side holds as a byte and the other as two: the sender's gap, the receiver's held timeouts.
 fn byte(number: u16) -> u8 {
-    u8::try_from(number).expect("a gap and the receiver's counts are at most 255")
+    u8::try_from(number).expect("a gap and a count of held timeouts are at most 255")
 }
 
 pub fn sender_of(flat: FlatSender) -> Sender {
@@ -241,8 +241,32 @@ fn sender_answer(end: &Sender, answer: Result<sender::Answer, Refused>) -> FlatS
     }
 }
 
+/// What a number of misses says: what the receiver waits after, how many timeouts it counts and of which type.
+fn counted_of(number: u8) -> (After, u16, Option<After>) {
+    match number {
+        misses::ONE_AFTER_ACK => (After::Ack, 1, Some(After::Ack)),
+        misses::TWO_AFTER_ACK => (After::Ack, 2, Some(After::Ack)),
+        misses::NONE_AFTER_FRAME => (After::Frame, 0, None),
+        misses::ONE_AFTER_FRAME => (After::Ack, 1, Some(After::Frame)),
+        _ => (After::Ack, 0, None),
+    }
+}
+
+/// The number of a connection's misses. The LM_ACK of a timeout is what is waited after next, so nothing else can come about.
+fn number_of(open: &Connection) -> u8 {
+    match (open.after, open.misses, open.counted) {
+        (After::Ack, 0, None) => misses::NONE_AFTER_ACK,
+        (After::Ack, 1, Some(After::Ack)) => misses::ONE_AFTER_ACK,
+        (After::Ack, 2, Some(After::Ack)) => misses::TWO_AFTER_ACK,
+        (After::Frame, 0, None) => misses::NONE_AFTER_FRAME,
+        (After::Ack, 1, Some(After::Frame)) => misses::ONE_AFTER_FRAME,
+        other => panic!("misses without a number: {other:?}"),
+    }
+}
+
 pub fn receiver_of(flat: FlatReceiver) -> Receiver {
     let (n, l) = (flat.frames, flat.length);
+    let (after, misses, counted) = counted_of(flat.misses);
     let state = match flat.phase {
         1 => State::Idle {
             delivered: Some(Delivered { n, l }),
@@ -253,7 +277,9 @@ pub fn receiver_of(flat: FlatReceiver) -> Receiver {
             e: flat.expected,
             w: flat.last,
             wait: flat.wait,
-            misses: flat.misses.into(),
+            misses,
+            after,
+            counted,
             held: flat.held,
             holds: flat.holds.into(),
         }),
@@ -291,7 +317,7 @@ pub fn flat_receiver(end: &Receiver) -> FlatReceiver {
             expected: open.e,
             last: open.w,
             wait: open.wait,
-            misses: byte(open.misses),
+            misses: number_of(&open),
             held: open.held,
             holds: byte(open.holds),
             ..settings

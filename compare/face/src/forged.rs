@@ -3,8 +3,11 @@
 //! Fields are drawn freely, those that a phase has not included, but only as far as the documents speak of them. Beyond that
 //! the face and the reference read "= M", "at T" and the like each in its own way (`compare/NOTES.md`, 13;
 //! `docs/DECISIONS.md`, "States that no calls make"), so these hold of every forged state:
-//! - the counts are below their limits: age < M, wait < T, gap count < G, misses < 3; a talker's period < 50, age < 15000;
+//! - the counts are below their limits: age < M, wait < T, gap count < G, a sender's misses < 3; a talker's period < 50,
+//!   age < 15000;
 //! - a held receiver has had at most its 20 held timeouts;
+//! - a receiver that expects frame 1 and hears something does not wait after a frame: none has been accepted, and whether the
+//!   LM_ACK to an announcement that comes again is then the later of the two, nothing says;
 //! - N is that of L at the sender, which is 1785 at most (the reference counts N from L), 1 in Short;
 //! - the gap is 1 to 255 and the window 1 to 255 (bytes in the reference, and no end has 0);
 //! - at a receiver's tick and resume the number expected is 1 to N (w − e + 1 is below 0 otherwise);
@@ -23,7 +26,7 @@ use crate::values::*;
 /// A call of an end in a forged state.
 pub fn end_call(random: &mut Random) -> Call {
     let (sender, receiver) = (sender(random), receiver(random));
-    match random.weighted(&[8, 6, 32, 22, 12, 6, 6, 22, 20]) {
+    match random.weighted(&[8, 6, 32, 22, 16, 6, 6, 24, 20, 4]) {
         0 => Call::SenderBegin(sender, any_part(random, sender.length)),
         1 => {
             let length = random.between(0, 10);
@@ -36,12 +39,17 @@ pub fn end_call(random: &mut Random) -> Call {
         6 => Call::ReceiverResume(expecting(random, receiver)),
         7 => {
             let frame = frames::any(random, &sender, &receiver);
-            Call::ReceiverHear(receiver, frame, mostly_right_buffer(random, 96))
+            Call::ReceiverHear(begun(receiver), frame, mostly_right_buffer(random, 96))
+        }
+        9 => {
+            let receiver = just_opened(receiver);
+            let frame = frames::announcement(&receiver);
+            Call::ReceiverHear(begun(receiver), frame, mostly_right_buffer(random, 96))
         }
         _ => {
             let (receiver, number) = ending(random, receiver);
             let frame = frames::last(random, number, receiver.length);
-            Call::ReceiverHear(receiver, frame, mostly_right_buffer(random, 85))
+            Call::ReceiverHear(begun(receiver), frame, mostly_right_buffer(random, 85))
         }
     }
 }
@@ -167,13 +175,42 @@ fn receiver(random: &mut Random) -> FlatReceiver {
         expected,
         last: random.pick(&[expected, frames, 0, 255]),
         wait: below(random, timeout),
-        misses: random.between(0, 2) as u8,
+        misses: any_misses(random),
         held,
         holds: match (random.percent(50), held) {
             (true, _) => random.pick(&[0, 19, 20]),
             (false, true) => random.between(0, 20) as u8,
             (false, false) => random.byte(),
         },
+    }
+}
+
+/// One of the five numbers, seldom another, which is read as 0.
+fn any_misses(random: &mut Random) -> u8 {
+    match random.percent(88) {
+        true => random.between(0, 4) as u8,
+        false => random.between(5, 255) as u8,
+    }
+}
+
+/// The same before its first frame, and not held.
+fn just_opened(receiver: FlatReceiver) -> FlatReceiver {
+    FlatReceiver {
+        phase: 2,
+        expected: 1,
+        held: false,
+        ..receiver
+    }
+}
+
+/// The same, which waits after a frame only if one came before the frame that it expects.
+fn begun(receiver: FlatReceiver) -> FlatReceiver {
+    match (receiver.expected, receiver.misses) {
+        (1, misses::NONE_AFTER_FRAME) => FlatReceiver {
+            misses: misses::NONE_AFTER_ACK,
+            ..receiver
+        },
+        _ => receiver,
     }
 }
 
@@ -188,7 +225,7 @@ fn expecting(random: &mut Random, receiver: FlatReceiver) -> FlatReceiver {
 }
 
 /// Mostly an open receiver at the end of its message, and a frame's number: N, mostly expected; or, where N lies further on
-/// than L asks for, the frame in which L ends or the one after it, expected too.
+/// than L asks for, the frame in which L ends or the one after it, expected too, and at times at a window's end.
 fn ending(random: &mut Random, receiver: FlatReceiver) -> (FlatReceiver, u8) {
     let end = frames_for(receiver.length).min(255) as u8;
     let (frames, expected, number) = match random.weighted(&[60, 10, 25, 5]) {
@@ -207,6 +244,7 @@ fn ending(random: &mut Random, receiver: FlatReceiver) -> (FlatReceiver, u8) {
         phase,
         frames,
         expected,
+        last: random.pick(&[expected, receiver.last]),
         held: random.percent(20),
         holds: receiver.holds.min(20),
         ..receiver

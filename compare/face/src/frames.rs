@@ -69,6 +69,14 @@ fn information(
     }
 }
 
+/// Frame 0 of the connection that a receiver has.
+pub fn announcement(receiver: &FlatReceiver) -> FlatFrame {
+    let [low, high] = receiver.length.to_le_bytes();
+    let mut bytes = [0xFF; 8];
+    bytes[..4].copy_from_slice(&[0, receiver.frames, low, high]);
+    FlatFrame { kind: 1, bytes }
+}
+
 /// A frame of a message of this length: any bytes of it, and behind them filler, or mostly what a card left there.
 pub fn last(random: &mut Random, number: u8, length: u16) -> FlatFrame {
     let mut bytes = random_bytes(random);

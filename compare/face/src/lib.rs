@@ -18,6 +18,7 @@ pub mod sessions;
 pub mod shrink;
 pub mod singles;
 pub mod talk;
+pub mod typing;
 pub mod values;
 
 #[cfg(feature = "proved")]

@@ -19,58 +19,74 @@ const ODD: usize = 3;
 const SHORT: usize = 4;
 
 /// How a session's steps are drawn: where a last frame comes next, so many times in a hundred with dirt behind the message;
-/// so many times in a hundred the step that brings the transfer forward, else by weights:
+/// where the receiver has waited and its timeout is near, so many times in a hundred its next tick; so many times in a hundred
+/// the step that brings the transfer forward, else by weights:
 /// 0 sender tick, 1 receiver tick, 2 to 4 forward hear, lose, repeat, 5 to 7 back hear, lose, repeat, 8 begin, 9 post,
 /// 10 a tick lent another message, 11 a hearing lent another buffer, 12, 13 the sender, the receiver hears a frame from
 /// elsewhere, 14 hold, 15 resume.
 struct Manner {
     dirty: usize,
+    silent: usize,
     forward: usize,
     weights: [usize; 16],
 }
 
-const MANNERS: [Manner; 7] = [
+const MANNERS: [Manner; 8] = [
     // Mostly forward.
     Manner {
         dirty: 15,
+        silent: 0,
         forward: 97,
         weights: [4, 4, 2, 1, 1, 2, 1, 1, 1, 1, 1, 1, 1, 1, 1, 1],
     },
     // Lossy.
     Manner {
         dirty: 30,
+        silent: 0,
         forward: 75,
         weights: [8, 8, 2, 6, 6, 2, 6, 6, 1, 1, 1, 1, 0, 0, 2, 1],
     },
     // Quiet: timeouts.
     Manner {
         dirty: 15,
+        silent: 0,
         forward: 20,
         weights: [30, 30, 2, 2, 1, 2, 2, 1, 1, 1, 1, 1, 1, 1, 1, 1],
     },
     // Repeats.
     Manner {
         dirty: 40,
+        silent: 0,
         forward: 55,
         weights: [6, 4, 1, 0, 12, 1, 0, 12, 1, 0, 0, 0, 0, 0, 1, 1],
     },
     // Odd calls and frames.
     Manner {
         dirty: 30,
+        silent: 0,
         forward: 60,
         weights: [4, 4, 1, 1, 1, 1, 1, 1, 2, 3, 3, 3, 8, 8, 2, 1],
     },
     // Held and resumed.
     Manner {
         dirty: 80,
+        silent: 0,
         forward: 75,
         weights: [3, 8, 1, 2, 2, 1, 2, 2, 1, 1, 0, 1, 3, 16, 12, 4],
     },
     // Held for long: the receiver's time passes.
     Manner {
         dirty: 80,
+        silent: 0,
         forward: 50,
         weights: [2, 80, 1, 1, 1, 1, 1, 1, 0, 0, 0, 0, 0, 3, 12, 1],
+    },
+    // Silent gaps: the receiver times out between frames, and is held and resumed meanwhile.
+    Manner {
+        dirty: 40,
+        silent: 85,
+        forward: 70,
+        weights: [2, 60, 1, 3, 3, 1, 3, 3, 1, 1, 0, 1, 0, 6, 6, 8],
     },
 ];
 
@@ -168,7 +184,7 @@ fn draw_steps<L: Face, R: Face>(
     let Some(mut world) = World::start(session, pair)? else {
         return Ok(());
     };
-    let manner = &MANNERS[random.weighted(&[25, 20, 12, 12, 11, 10, 10])];
+    let manner = &MANNERS[random.weighted(&[30, 15, 10, 9, 9, 11, 11, 16])];
     let needed = 4 * session.messages[FIRST].length.div_ceil(7);
     let count = random.between(20, 60 + 2 * needed);
     let mut begun = FIRST;
@@ -188,6 +204,9 @@ fn draw(random: &mut Random, manner: &Manner, world: &World, begun: usize) -> St
     if comes_last(world) && random.percent(manner.dirty) {
         let lent = mostly_right_buffer(random, 80);
         return Step::ForwardDirty(frames::dirt(random), lent);
+    }
+    if is_waiting(world) && random.percent(manner.silent) {
+        return Step::ReceiverTick;
     }
     if random.percent(manner.forward) {
         return onward(random, world, begun);
@@ -216,6 +235,11 @@ fn draw(random: &mut Random, manner: &Manner, world: &World, begun: usize) -> St
             Step::ReceiverHears(frame, mostly_right_buffer(random, 90))
         }
     }
+}
+
+/// The receiver has waited, and need not wait for long.
+fn is_waiting(world: &World) -> bool {
+    world.receiver.wait > 0 && world.receiver.timeout <= 10
 }
 
 /// The next frame is the last of the message that the receiver takes or has taken.

@@ -135,14 +135,17 @@ fn lesser_sessions(session: &Session) -> Vec<Case> {
         for length in less(part.length, &[1, 8, 9, 14, 15]) {
             add(&|changed| changed.messages[place].length = length);
         }
-        // A frame fewer, and the steps that brought it over.
+        // A frame fewer, and the steps that brought it over; in the window, or behind it.
         for (tick, given) in ticks_and_frames(&session.steps) {
-            if part.length > 15 {
-                add(&|changed| {
-                    changed.messages[place].length -= 7;
-                    changed.steps.remove(given);
-                    changed.steps.remove(tick);
-                });
+            for narrower in [0, 1] {
+                if part.length > 15 && session.receiver[1] > narrower {
+                    add(&|changed| {
+                        changed.messages[place].length -= 7;
+                        changed.receiver[1] -= narrower;
+                        changed.steps.remove(given);
+                        changed.steps.remove(tick);
+                    });
+                }
             }
         }
     }

@@ -52,8 +52,19 @@ pub struct FlatSenderAnswer {
     pub frames: u16,
 }
 
+/// The numbers of a receiver's misses: how many timeouts in a row it has had, all of one type, after an LM_ACK of its own or
+/// after an accepted frame that drew none; and where it has had none, what it waits after. Any other number is read as the
+/// first. The names are those of `include/kospelna.h`, which `tests/declarations.rs` checks.
+pub mod misses {
+    pub const NONE_AFTER_ACK: u8 = 0;
+    pub const ONE_AFTER_ACK: u8 = 1;
+    pub const TWO_AFTER_ACK: u8 = 2;
+    pub const NONE_AFTER_FRAME: u8 = 3;
+    pub const ONE_AFTER_FRAME: u8 = 4;
+}
+
 /// A receiver. Phase 0 is Idle, 1 Idle with a delivery remembered, 2 Open, any other is read as Idle. What a phase has not
-/// is written as 0 and not read.
+/// is written as 0 and not read. Its misses are one of `misses`.
 #[repr(C)]
 #[derive(Clone, Copy, Debug, Default, PartialEq, Eq)]
 pub struct FlatReceiver {

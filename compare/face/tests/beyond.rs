@@ -1,5 +1,5 @@
-//! What `forged` leaves out: states of which document 01 says nothing, each with a call on which the face and the reference
-//! go their own ways. Should one of these become alike, `forged` can draw it.
+//! What `forged` leaves out: states of which documents 01 and 02 say nothing, each with a call on which the face and the
+//! reference go their own ways. Should one of these become alike, `forged` can draw it.
 #![cfg(feature = "proved")]
 
 use face::call::{Call, Pair, Part};
@@ -46,7 +46,7 @@ fn receiver(frames: u8, expected: u8) -> FlatReceiver {
         expected,
         last: 2,
         wait: 4,
-        misses: 0,
+        misses: misses::NONE_AFTER_ACK,
         held: false,
         holds: 0,
     }
@@ -87,17 +87,27 @@ fn counts_past_their_limits() {
         ..receiver(3, 1)
     };
     differs(Call::ReceiverTick(late));
-    let third = FlatReceiver {
-        misses: 3,
-        ..receiver(3, 1)
-    };
-    differs(Call::ReceiverTick(third));
     let held = FlatReceiver {
         held: true,
         holds: 21,
         ..receiver(3, 2)
     };
     differs(Call::ReceiverTick(held));
+}
+
+/// A wait after a frame where none has been accepted: an announcement that comes again leaves it in the face, and in the
+/// reference its LM_ACK is the later.
+#[test]
+fn a_wait_after_a_frame_before_the_first() {
+    let waiting = FlatReceiver {
+        misses: misses::NONE_AFTER_FRAME,
+        ..receiver(3, 1)
+    };
+    let announcement = FlatFrame {
+        kind: 1,
+        bytes: [0, 3, 20, 0, 0xFF, 0xFF, 0xFF, 0xFF],
+    };
+    differs(Call::ReceiverHear(waiting, announcement, 1785));
 }
 
 /// The reference counts N from L.

@@ -11,6 +11,7 @@ use face::forged;
 use face::holding::Met;
 use face::session::Step;
 use face::sessions;
+use face::typing::{Typing, NUMBERS};
 use face::values::{FlatFrame, FlatSender, FlatSenderAnswer};
 use face::Reference;
 
@@ -46,8 +47,8 @@ fn the_reference_is_alike_with_itself() {
     assert_eq!(uncalled, Vec::<&str>::new());
 }
 
-/// Every outcome that a function can have comes, and often enough; so does all that can be met of a hold and of a last
-/// frame's filler.
+/// Every outcome that a function can have comes, and often enough; so does all that can be met of a hold, of a last frame's
+/// filler and of misses.
 #[test]
 fn every_outcome_comes() {
     let (tally, _) = first_difference(&Reference, &Reference, SEED, COUNT);
@@ -89,6 +90,7 @@ fn every_outcome_comes() {
     }
     assert_eq!(tally.rare_holds(100), Vec::<String>::new());
     assert_eq!(tally.rare_fillings(100), Vec::<String>::new());
+    assert_eq!(tally.rare_typings(100), Vec::<String>::new());
     assert_eq!(tally.unmet(), Vec::<String>::new());
 }
 
@@ -98,12 +100,17 @@ fn what_is_not_met_is_named() {
     let mut tally = Tally::default();
     assert_eq!(tally.unmet(), Vec::<String>::new());
     tally.calls[0] = COUNT;
-    // 25 things of a hold, and of filler 12 by their places.
-    assert_eq!(tally.unmet().len(), 25 + 60);
+    // 25 things of a hold, of filler 12 by their places, and of misses 15 by their numbers, one of them not with each.
+    assert_eq!(tally.unmet().len(), 25 + 60 + 89);
     tally.met.fill(1);
     tally.fillings.fill([1; 8]);
+    tally.typings.fill([1; NUMBERS]);
     tally.fillings[Filling::RefusedForLast as usize][2] = 0;
-    assert_eq!(tally.unmet(), ["RefusedForLast with 2"]);
+    tally.typings[Typing::Timeout as usize][4] = 0;
+    assert_eq!(
+        tally.unmet(),
+        ["RefusedForLast with 2", "Timeout with misses 4"]
+    );
 }
 
 #[test]
@@ -195,6 +202,26 @@ fn dirty_last_frames_come_about() {
     assert_eq!(sessions.len(), 7);
     sessions.retain(|met| !met.starts_with("DirtyBeforeLast "));
     assert_eq!([sessions, forged], [const { Vec::<String>::new() }; 2]);
+}
+
+/// And of misses, by their numbers. But some only with states that a caller makes, and these never in sessions.
+#[test]
+fn timeouts_of_each_type_come_about() {
+    let [sessions, forged] = met_apart();
+    let mut wrong = forged.rare_typings(50);
+    for typing in Typing::ALL {
+        let place = typing as usize;
+        let counts = [sessions.typings[place], forged.typings[place]];
+        println!("{typing:?}: {counts:?}");
+        wrong.extend((0..NUMBERS).filter_map(|number| {
+            let right = match typing.comes_about(number) {
+                true => counts[0][number] >= 50,
+                false => counts[0][number] == 0,
+            };
+            (!right).then(|| format!("in sessions {typing:?} with misses {number}"))
+        }));
+    }
+    assert_eq!(wrong, Vec::<String>::new());
 }
 
 /// The seed that is named shows the difference at once.

@@ -1,5 +1,6 @@
 //! The declarations in `src/ffi.rs`, `src/values.rs` and `include/kospelna.h` are those of `crates/kospelna/src/`: the same
-//! structs with the same fields and the same functions with the same parameters and results, by name, type and order.
+//! structs with the same fields and the same functions with the same parameters and results, by name, type and order; and the
+//! same numbers of a receiver's misses, by name.
 
 use std::collections::BTreeMap;
 use std::path::Path;
@@ -9,6 +10,8 @@ type Named = Vec<(String, String)>;
 type Structs = BTreeMap<String, Named>;
 /// Parameters and result.
 type Functions = BTreeMap<String, (Named, String)>;
+/// Constants by their names.
+type Numbers = BTreeMap<String, u8>;
 
 fn text(folder: &str, ending: &str) -> String {
     let folder = Path::new(env!("CARGO_MANIFEST_DIR")).join(folder);
@@ -95,22 +98,54 @@ fn lent(name: String, pointer: &str) -> Named {
     ]
 }
 
+/// `NoneAfterAck` is `NONE_AFTER_ACK`.
+fn capitals(name: &str) -> String {
+    let parted = name.chars().map(|letter| match letter {
+        'A'..='Z' => format!("_{letter}"),
+        _ => letter.to_uppercase().collect(),
+    });
+    parted.collect::<String>().trim_start_matches('_').into()
+}
+
+/// Names and numbers with this between them.
+fn numbers(declared: Vec<&str>, between: &str) -> Numbers {
+    let parts = declared
+        .into_iter()
+        .filter_map(|part| part.split_once(between));
+    parts
+        .map(|(name, number)| (name.to_string(), number.parse().expect("a number")))
+        .collect()
+}
+
+/// The numbers that the crate writes for the cases of misses: `Misses::NoneAfterAck => 0`.
+fn misses_of_the_crate(text: &str) -> Numbers {
+    let written = numbers(after(text, "Misses::", ','), " => ");
+    let named = written.into_iter();
+    named
+        .map(|(name, number)| (capitals(&name), number))
+        .collect()
+}
+
 /// What the crate declares.
-fn declared_by_the_crate() -> (Structs, Functions) {
+fn declared_by_the_crate() -> (Structs, Functions, Numbers) {
     let text = text("../../crates/kospelna/src", "rt");
-    (structs(&text), functions(&text, "pub extern \"C\" fn "))
+    let functions = functions(&text, "pub extern \"C\" fn ");
+    (structs(&text), functions, misses_of_the_crate(&text))
 }
 
 #[test]
 fn declarations_are_those_of_the_crate() {
-    let (structs_there, functions_there) = declared_by_the_crate();
+    let (structs_there, functions_there, misses_there) = declared_by_the_crate();
     assert_eq!((structs_there.len(), functions_there.len()), (25, 30));
+    assert_eq!(misses_there.len(), 5);
     let here = text("src", "rs");
     assert_eq!(structs(&here), structs_there);
     let block = after(&here, "extern \"C\" {", '}')[0];
     // Each declaration ends in a semicolon: make it end as a function's head does.
     let heads = block.replace(';', " {");
     assert_eq!(functions(&heads, "fn "), functions_there);
+    let constants = after(after(&here, "pub mod misses {", '}')[0], "pub const ", ';');
+    assert_eq!(numbers(constants, ": u8 = "), misses_there);
 }
 
 fn header() -> String {
@@ -199,17 +234,30 @@ fn functions_in_c(code: &str) -> Functions {
         .collect()
 }
 
+/// The names of which one side has another declaration, or none.
+fn unlike<T: PartialEq>(there: BTreeMap<String, T>, here: BTreeMap<String, T>) -> Vec<String> {
+    let names = there.keys().chain(here.keys());
+    names
+        .filter(|&name| there.get(name) != here.get(name))
+        .cloned()
+        .collect()
+}
+
 /// What differs between a header and the crate.
 fn differences(header: &str) -> Vec<String> {
-    let (structs, functions) = declared_by_the_crate();
+    let (structs, functions, misses) = declared_by_the_crate();
     let code = code(header);
-    let mut found = Vec::new();
-    let (structs_here, functions_here) = (structs_in_c(&code), functions_in_c(&code));
-    let names = structs.keys().chain(structs_here.keys());
-    found.extend(names.filter(|&name| structs.get(name) != structs_here.get(name)));
-    let names = functions.keys().chain(functions_here.keys());
-    found.extend(names.filter(|&name| functions.get(name) != functions_here.get(name)));
-    found.into_iter().cloned().collect()
+    let constants = after(&code, "KOSPELNA_MISSES_", '\n');
+    let named: Vec<&str> = constants
+        .into_iter()
+        .map(|constant| constant.trim_end_matches([',', ' ']))
+        .collect();
+    [
+        unlike(structs, structs_in_c(&code)),
+        unlike(functions, functions_in_c(&code)),
+        unlike(misses, numbers(named, " = ")),
+    ]
+    .concat()
 }
 
 #[test]
@@ -217,7 +265,8 @@ fn the_header_is_that_of_the_crate() {
     assert_eq!(differences(&header()), Vec::<String>::new());
 }
 
-/// A field or parameter of another name, type or place, and one left out or added.
+/// A field or parameter of another name, type or place, and one left out or added; a constant of another name or number, and
+/// one left out or added.
 #[test]
 fn another_header_is_found() {
     let header = header();
@@ -253,6 +302,13 @@ fn another_header_is_found() {
         (
             "uint32_t kospelna_charger_address(void);",
             "uint32_t kospelna_charger_addresses(void);",
+        ),
+        ("MISSES_NONE_AFTER_FRAME = 3", "MISSES_NONE_AFTER_FRAME = 5"),
+        ("MISSES_ONE_AFTER_ACK = 1", "MISSES_ONCE_AFTER_ACK = 1"),
+        ("    KOSPELNA_MISSES_TWO_AFTER_ACK = 2,", "    "),
+        (
+            "    KOSPELNA_MISSES_TWO_AFTER_ACK = 2,",
+            "    KOSPELNA_MISSES_TWO_AFTER_ACK = 2,\n    KOSPELNA_MISSES_TWO_AFTER_FRAME = 5,",
         ),
     ] {
         assert!(header.contains(old), "{old}");

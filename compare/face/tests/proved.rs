@@ -30,6 +30,7 @@ fn the_program() {
     assert!(text.contains("calls: kospelna_receiver_hear "));
     assert!(text.contains("calls: of a hold: HeldTimeout "));
     assert!(text.contains("calls: of filler: RefusedForFirst "));
+    assert!(text.contains("calls: of misses: HeldTimeout "));
 
     let (status, text) = calls(&["--mistake", "filler copied past L"]);
     assert_eq!(status, Some(1));

@@ -10,6 +10,7 @@ use face::differences::first_difference;
 use face::ffi::Proved;
 use face::filling::Filling;
 use face::holding::Met;
+use face::typing::Typing;
 use face::Reference;
 
 const USAGE: &str = "usage: calls [--count N] [--seed S] [--mistake NAME]
@@ -45,8 +46,7 @@ fn options(mut words: impl Iterator<Item = String>) -> Option<Options> {
     Some(options)
 }
 
-/// A line for each function: calls, and answers by outcome. Then one for each thing met of a hold, and of a last frame's
-/// filler by the places behind the message.
+/// A line for each function: calls, and answers by outcome.
 fn print(tally: &Tally) {
     for (place, name) in NAMES.iter().enumerate() {
         let outcomes: Vec<String> = tally.outcomes[place]
@@ -61,6 +61,10 @@ fn print(tally: &Tally) {
             outcomes.join(", ")
         );
     }
+}
+
+/// A line for each thing met of a hold, of a last frame's filler by the places behind the message, and of misses by number.
+fn print_met(tally: &Tally) {
     for met in Met::ALL {
         println!("calls: of a hold: {met:24?} {:9}", tally.met[met as usize]);
     }
@@ -68,6 +72,13 @@ fn print(tally: &Tally) {
         let counts = tally.fillings[filling as usize];
         println!(
             "calls: of filler: {filling:24?} {:9}   by places 0 to 7: {counts:?}",
+            counts.iter().sum::<u64>()
+        );
+    }
+    for typing in Typing::ALL {
+        let counts = tally.typings[typing as usize];
+        println!(
+            "calls: of misses: {typing:24?} {:9}   by numbers 0 to 4, and others: {counts:?}",
             counts.iter().sum::<u64>()
         );
     }
@@ -89,6 +100,7 @@ fn main() -> ExitCode {
         return ExitCode::from(1);
     }
     print(&tally);
+    print_met(&tally);
     let unmet = tally.unmet();
     if !unmet.is_empty() {
         println!("calls: never met: {}", unmet.join(", "));

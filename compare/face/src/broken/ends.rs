@@ -191,7 +191,7 @@ fn silent_at_last(r: FlatReceiver, _: FlatFrame, _: &mut [u8], a: &mut FlatRecei
 /// At e = 1, where it shows in wait and misses.
 fn reopens(r: FlatReceiver, f: FlatFrame, _: &mut [u8], a: &mut FlatReceiverAnswer) {
     if r.phase == OPEN && f.kind == 1 && f.bytes[0] == 0 && a.emits {
-        (a.next.wait, a.next.misses) = (0, 0);
+        (a.next.wait, a.next.misses) = (0, misses::NONE_AFTER_ACK);
     }
 }
 
@@ -411,8 +411,11 @@ fn old_window(r: FlatReceiver, a: &mut FlatReceiverAnswer) {
     }
 }
 
-fn forgets_misses(_: FlatReceiver, a: &mut FlatReceiverAnswer) {
-    a.next.misses = a.next.misses.min(1);
+/// None is counted at a timeout.
+fn forgets_misses(r: FlatReceiver, a: &mut FlatReceiverAnswer) {
+    if r.phase == OPEN && !r.held && a.emits && a.outcome == 0 {
+        a.next.misses = misses::NONE_AFTER_ACK;
+    }
 }
 
 fn nack_1_first(r: FlatReceiver, f: FlatFrame, _: &mut [u8], a: &mut FlatReceiverAnswer) {

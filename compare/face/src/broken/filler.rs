@@ -237,7 +237,7 @@ fn wait_restarted(_: FlatReceiver, _: FlatFrame, _: &mut [u8], a: &mut FlatRecei
 
 fn misses_cleared(_: FlatReceiver, _: FlatFrame, _: &mut [u8], a: &mut FlatReceiverAnswer) {
     if a.refusal == 14 {
-        a.next.misses = 0;
+        a.next.misses = misses::NONE_AFTER_ACK;
     }
 }
 

@@ -221,7 +221,7 @@ fn pause(r: FlatReceiver) -> FlatFrame {
     filled(2, &[r.expected.saturating_sub(1), 1])
 }
 
-fn fail(r: FlatReceiver, a: &mut FlatReceiverAnswer, cause: u8) {
+pub(super) fn fail(r: FlatReceiver, a: &mut FlatReceiverAnswer, cause: u8) {
     (a.outcome, a.cause) = (3, cause);
     (a.emits, a.frame) = (true, filled(3, &[cause]));
     a.next = FlatReceiver {
@@ -265,7 +265,7 @@ fn wait_by_hold(_: FlatReceiver, a: &mut FlatReceiverAnswer) {
 
 fn misses_by_hold(_: FlatReceiver, a: &mut FlatReceiverAnswer) {
     if is_taken(a) {
-        a.next.misses = 0;
+        a.next.misses = misses::NONE_AFTER_ACK;
     }
 }
 
@@ -313,7 +313,7 @@ fn wait_by_resume(_: FlatReceiver, a: &mut FlatReceiverAnswer) {
 
 fn misses_by_resume(_: FlatReceiver, a: &mut FlatReceiverAnswer) {
     if is_taken(a) {
-        a.next.misses = 0;
+        a.next.misses = misses::NONE_AFTER_ACK;
     }
 }
 
@@ -359,15 +359,19 @@ fn twenty_first_goes(r: FlatReceiver, a: &mut FlatReceiverAnswer) {
     }
 }
 
+/// As ones after an LM_ACK; two of them stay two.
 fn misses_while_held(r: FlatReceiver, a: &mut FlatReceiverAnswer) {
     if held_timeout(r, a) {
-        a.next.misses += 1;
+        a.next.misses = match a.next.misses {
+            misses::ONE_AFTER_ACK | misses::TWO_AFTER_ACK => misses::TWO_AFTER_ACK,
+            _ => misses::ONE_AFTER_ACK,
+        };
     }
 }
 
 fn misses_cleared(r: FlatReceiver, a: &mut FlatReceiverAnswer) {
     if held_timeout(r, a) {
-        a.next.misses = 0;
+        a.next.misses = misses::NONE_AFTER_ACK;
     }
 }
 
@@ -484,8 +488,8 @@ fn mark_after_nack(r: FlatReceiver, _: FlatFrame, _: &mut [u8], a: &mut FlatRece
     }
 }
 
-/// A receiver that is Idle has neither mark nor count: a caller may leave anything there.
-fn opens(r: FlatReceiver, a: &FlatReceiverAnswer) -> bool {
+/// A receiver that is Idle has neither mark nor count nor misses: a caller may leave anything there.
+pub(super) fn opens(r: FlatReceiver, a: &FlatReceiverAnswer) -> bool {
     r.phase != OPEN && a.next.phase == OPEN
 }
 

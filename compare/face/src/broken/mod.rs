@@ -5,6 +5,7 @@ pub mod clean;
 mod ends;
 pub mod filler;
 pub mod hold;
+pub mod types;
 
 use crate::interface::{Around, Ends};
 use crate::values::*;
@@ -53,6 +54,7 @@ pub fn mistakes() -> Vec<(&'static str, Mistake)> {
         ends::MISTAKES,
         hold::MISTAKES,
         filler::MISTAKES,
+        types::MISTAKES,
         clean::MISTAKES,
         around::MISTAKES,
     ]

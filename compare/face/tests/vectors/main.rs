@@ -6,7 +6,7 @@ mod talk;
 mod transfer;
 mod words;
 
-use face::broken::{around, clean, filler, hold, Broken};
+use face::broken::{around, clean, filler, hold, types, Broken};
 use face::interface::Face;
 use face::Reference;
 
@@ -42,7 +42,7 @@ fn the_proved_code_answers_as_the_table_says() {
     check(&face::ffi::Proved);
 }
 
-/// All but four that show in states alone which no calls make, one that shows with another buffer, which no line has, and two
+/// All but nine that show in states alone which no calls make, one that shows with another buffer, which no line has, and two
 /// in lists and places above 255, which none has either.
 #[test]
 fn the_table_catches_every_mistake() {
@@ -50,6 +50,7 @@ fn the_table_catches_every_mistake() {
         clean::MISTAKES,
         hold::MISTAKES,
         filler::MISTAKES,
+        types::MISTAKES,
         around::MISTAKES,
     ]
     .concat()
@@ -63,6 +64,11 @@ fn the_table_catches_every_mistake() {
         "the rule goes before NACK 4",
         "a frame before the last is judged",
         "14 before 5",
+        "a held timeout leaves the wait after a frame",
+        "a resume leaves the wait after a frame",
+        "an opening takes up old misses",
+        "another number of misses is kept",
+        "another number of misses is the last one",
         "a list is counted modulo 256",
         "a place is taken modulo 256",
     ];
@@ -76,6 +82,7 @@ fn an_altered_table_is_found() {
         ("clean 9 1: 2 3", "clean 9 1: 2 2"),
         ("R hold: Idle refused 13", "R hold: Idle"),
         ("misses 2 holds 19", "misses 2 holds 18"),
+        ("wait 0 misses 4 holds", "wait 0 misses 1 holds"),
         ("S wait 5: Waiting", "S wait 4: Waiting"),
         ("find 71: 71 2 charger", "find 71: 71 3 charger"),
         ("list 01 01: refused 11", "list 01 01: refused 10"),

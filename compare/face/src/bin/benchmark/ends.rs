@@ -332,9 +332,22 @@ fn receiver_hear(name: &str, receiver: FlatReceiver, frame: FlatFrame, lent: usi
     )
 }
 
+/// Open with these misses.
+fn missing(misses: u8) -> FlatReceiver {
+    FlatReceiver { misses, ..open() }
+}
+
+/// A timeout by the misses before it, which tell its type.
+fn timeout(name: &str, misses: u8) -> Row {
+    let late = FlatReceiver {
+        wait: 9,
+        ..missing(misses)
+    };
+    receiver_tick(name, late)
+}
+
 /// Everything but hearings.
 fn receiver_calls() -> Vec<Row> {
-    let late = FlatReceiver { wait: 9, ..open() };
     let late_held = FlatReceiver { wait: 9, ..held() };
     vec![
         Row::new(
@@ -347,9 +360,14 @@ fn receiver_calls() -> Vec<Row> {
         ),
         receiver_tick("tick, Idle", idle_receiver()),
         receiver_tick("tick, Open", open()),
-        receiver_tick("tick, Open: LM_ACK again", late),
+        timeout("tick, Open: LM_ACK again", misses::NONE_AFTER_ACK),
+        timeout("tick, Open: second after LM_ACK", misses::ONE_AFTER_ACK),
+        timeout("tick, Open: third, failed", misses::TWO_AFTER_ACK),
+        timeout("tick, Open: first after a frame", misses::NONE_AFTER_FRAME),
+        timeout("tick, Open: of another type", misses::ONE_AFTER_FRAME),
         receiver_tick("tick, held: LM_ACK again", late_held),
         hold("hold", open()),
+        hold("hold, after a frame", missing(misses::NONE_AFTER_FRAME)),
         hold("hold, refused 13", held()),
         resume("resume", held()),
         resume("resume, refused 13", open()),
