@@ -204,8 +204,8 @@ enum {
 };
 
 /* The timeouts in a row that an open connection counts, all of one type: the wait was one after an own LM_ACK, or one after an
- * accepted frame that drew none. Of the two the later decides, and a timeout of another type than the one before starts the
- * count at 1. The third of one type fails the connection, KOSPELNA_CAUSE_TIMEOUTS; every other timeout emits an LM_ACK, and so
+ * accepted frame that drew none. Of the two the later decides, and a timeout whose predecessor was of the other type is counted
+ * as the first. The third of one type fails the connection, KOSPELNA_CAUSE_TIMEOUTS; every other timeout emits an LM_ACK, and so
  * do a hold and a resume. Timeouts while held are not among them. Every other number is read as NONE_AFTER_ACK. */
 enum {
     KOSPELNA_MISSES_NONE_AFTER_ACK = 0,   /* none; since the last accepted frame, or at it, an LM_ACK has gone out */

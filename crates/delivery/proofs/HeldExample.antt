@@ -1,12 +1,14 @@
--- The lists of calls with holds, computed: the conditions of demand 3 can be met by a transfer that is held and delivered, and
--- by one whose 21st held timeout falls due.
+-- The lists of calls with holds, and those of the latest reports, computed: the conditions of demand 3 can be met by a transfer
+-- that is held and delivered, by one whose 21st held timeout falls due, and by the longest connections of two frames.
 -- Assumes nothing.
 use mathlib.Core.Bool.{Bool, true, false, false≢true}
-use mathlib.Core.List.{List, [], _∷_}
+use mathlib.Core.List.{List, [], _∷_, _++_}
 use mathlib.Core.Path.{_≡_, refl}
+use lib.ListN.{replicate}
 use Rattle.delivery.specs.Demand3.{Conditions}
 use Rattle.delivery.specs.Example.{shownBefore, exampleBuffer}
 use Rattle.delivery.specs.HeldExample.{startAt, heldCalls, begunCalls, heldTicks, HeldExamples}
+use Rattle.delivery.specs.LateExample.{wideStart, openedCalls, hearsFirst, lateCalls, lateHeldCalls, LateExamples}
 use Rattle.delivery.specs.Run.{Past, next, runOf}
 use Rattle.delivery.specs.Seen.{begunIn, begunAfter, openedIn, openedAfter}
 use Rattle.frame.specs.Choice.{pick}
@@ -26,11 +28,11 @@ use Rattle.transport.specs.World.{hearForward, repeatForward, loseForward, hear
 
 -- what is asked of a call, before what is asked of the calls after it
 infixr 5 _then_
-pub _then_ : {A B : Type 0} → A → B → A × B
+_then_ : {A B : Type 0} → A → B → A × B
 here then after = (here, after)
 
 -- of these calls demand 3 asks nothing
-unfoldable pub allReceivers : List Call → Bool
+allReceivers : List Call → Bool
 allReceivers [] = true
 allReceivers (receiverTick ∷ calls) = allReceivers calls
 allReceivers (hold ∷ calls) = allReceivers calls
@@ -44,7 +46,7 @@ allReceivers (hearBack ∷ calls) = false
 allReceivers (repeatBack ∷ calls) = false
 allReceivers (loseBack ∷ calls) = false
 
-pub free : (calls : List Call) → allReceivers calls ≡ true → (p : Past) → Conditions stepOf p calls
+free : (calls : List Call) → allReceivers calls ≡ true → (p : Past) → Conditions stepOf p calls
 unfolding allReceivers
 free [] e p = tt
 free (receiverTick ∷ calls) e p = (tt, free calls e (next stepOf p receiverTick))
@@ -59,9 +61,9 @@ free (hearBack ∷ calls) e p = absurd (false≢true e)
 free (repeatBack ∷ calls) e p = absurd (false≢true e)
 free (loseBack ∷ calls) e p = absurd (false≢true e)
 
-pub held-examples : HeldExamples
+computed : HeldExamples × LateExamples
 unfolding
-    shownBefore exampleBuffer heldCalls begunCalls heldTicks allReceivers
+    shownBefore exampleBuffer heldCalls begunCalls heldTicks openedCalls lateCalls lateHeldCalls allReceivers
     runOf stepOf givenForward givenBack begunIn begunAfter openedIn openedAfter
     pick frameCountOf incrementOf
     fillTo blankOf announcementOf informationOf lmAckOf lmNackOf endOfAckOf
@@ -78,42 +80,93 @@ unfolding
     receiver-hold.holdOf receiver-hold.holdPhase receiver-hold.holdOpen
     receiver-hold.resumeOf receiver-hold.resumePhase receiver-hold.resumeOpen
     receiver-tick.tickOf receiver-tick.tickPhase receiver-tick.tickOpen receiver-tick.timeoutFree receiver-tick.timeoutHeld
-held-examples =
-    record {
-      held =
-          record {
+computed = (
+  record {
+    held =
+        record {
+          shows = refl;
+          meets =
+              (λ _. (refl, refl, refl))
+              then tt
+              then (λ _. refl)
+              then tt
+              then tt
+              then tt
+              then (λ _. λ _. refl)
+              then (λ _. refl)
+              then tt
+              then tt
+              then tt
+              then tt
+              then (λ _. λ _. refl)
+              then (λ _. refl)
+              then tt
+              then tt
+              then tt
+              then (λ _. λ _. refl)
+              then tt
+              then tt
+              then tt
+              then (λ _. λ _. refl)
+              then (λ _. refl)
+              then tt
+              then tt
+              then tt;
+        };
+    expired =
+        record {
+          shows = refl;
+          meets = (λ _. (refl, refl, refl), (λ _. refl, (tt, (λ _. λ _. refl, (λ _. refl, free heldTicks refl (runOf stepOf (startAt 1) begunCalls))))));
+        };
+  },
+  record {
+    free =
+        record {
+          run = record {
             shows = refl;
             meets =
                 (λ _. (refl, refl, refl))
-                then tt
                 then (λ _. refl)
-                then tt
-                then tt
-                then tt
-                then (λ _. λ _. refl)
-                then (λ _. refl)
-                then tt
-                then tt
-                then tt
-                then tt
-                then (λ _. λ _. refl)
-                then (λ _. refl)
-                then tt
-                then tt
                 then tt
                 then (λ _. λ _. refl)
                 then tt
                 then tt
                 then tt
-                then (λ _. λ _. refl)
+                then tt
+                then tt
+                then tt
+                then tt
+                then tt
                 then (λ _. refl)
-                then tt
-                then tt
-                then tt;
+                then free (replicate 12 receiverTick) refl
+                (runOf stepOf (wideStart 3) (openedCalls ++ replicate 8 receiverTick ++ hearsFirst ∷ []));
           };
-      expired =
-          record {
+          before = refl;
+          reported = refl;
+        };
+    held =
+        record {
+          run = record {
             shows = refl;
-            meets = (λ _. (refl, refl, refl), (λ _. refl, (tt, (λ _. λ _. refl, (λ _. refl, free heldTicks refl (runOf stepOf (startAt 1) begunCalls))))));
+            meets =
+                (λ _. (refl, refl, refl))
+                then (λ _. refl)
+                then tt
+                then (λ _. λ _. refl)
+                then tt
+                then tt
+                then (λ _. refl)
+                then free (receiverTick ∷ hold ∷ replicate 20 receiverTick ++ resume ∷ replicate 3 receiverTick) refl
+                (runOf stepOf (wideStart 1) (openedCalls ++ receiverTick ∷ receiverTick ∷ hearsFirst ∷ []));
           };
-    }
+          before = refl;
+          reported = refl;
+        };
+  },
+)
+
+pub held-examples : HeldExamples
+held-examples = computed .0
+
+pub late-examples : LateExamples
+late-examples = computed .1

@@ -9,7 +9,6 @@ pub mod Lives
 pub mod Theorem
 pub mod Example
 pub mod HeldExample
-pub mod LateExample
 pub mod Keeps
 pub mod Climbs
 pub mod Unmet

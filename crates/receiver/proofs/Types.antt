@@ -18,7 +18,7 @@ use Rattle.receiver.specs.Misses.{acknowledged}
 use Rattle.receiver.specs.Tick.{timeoutFree, tickOpen, tickPhase, tickOf}
 use Rattle.receiver.specs.Told as told
 use Rattle.receiver.specs.Told.{Told, quiet, failed}
-use Rattle.receiver.specs.Types.{countOf, numberOf, acknowledges, timesOut, countAfter, Ticked, Paused, Heard, ThirdFails, CountsByType}
+use Rattle.receiver.specs.Types.{countOf, numberOf, acknowledges, timesOut, countAfter, CountsTick, CountsPause, CountsHear, ThirdFails, CountsByType}
 use Rattle.receiver.specs.declared.Connection.{Connection}
 use Rattle.receiver.specs.declared.Misses.{Misses}
 use Rattle.receiver.specs.declared.Misses.the-variants.{NoneAfterAck, OneAfterAck, TwoAfterAck, NoneAfterFrame, OneAfterFrame}
@@ -45,13 +45,13 @@ counted-counts first-again = refl
 module _ (s : Settings) where
   -- ---- a tick, a hold or a resume
 
-  unchanged-ticked : (p : Phase) → Ticked p (told.silently (receiverIn s p))
+  unchanged-ticked : (p : Phase) → CountsTick p (told.silently (receiverIn s p))
   unfolding pick
   unchanged-ticked Idle = tt
   unchanged-ticked (Done y) = tt
   unchanged-ticked (Open x) = refl
 
-  ticks-count : {p : Phase} {t : Told} → Ticks s p t → Ticked p t
+  ticks-count : {p : Phase} {t : Told} → Ticks s p t → CountsTick p t
   unfolding pick
   ticks-count (rests {p} shut) = unchanged-ticked p
   ticks-count (waits early) = refl
@@ -59,13 +59,13 @@ module _ (s : Settings) where
   ticks-count (repeats {x} due held more) = rw held (acknowledged-counts (x .misses))
   ticks-count expires = tt
 
-  unchanged-paused : (p : Phase) → Paused p (told.refusing (receiverIn s p) 13)
+  unchanged-paused : (p : Phase) → CountsPause p (told.refusing (receiverIn s p) 13)
   unfolding pick
   unchanged-paused Idle = tt
   unchanged-paused (Done y) = tt
   unchanged-paused (Open x) = refl
 
-  pauses-count : {k : Pause} {p : Phase} {t : Told} → Pauses s k p t → Paused p t
+  pauses-count : {k : Pause} {p : Phase} {t : Told} → Pauses s k p t → CountsPause p t
   unfolding pick
   pauses-count (denied {p = p}) = unchanged-paused p
   pauses-count (holds {x} begun free) = acknowledged-counts (x .misses)
@@ -75,18 +75,18 @@ module _ (s : Settings) where
 
   -- which leaves the state as it was: no next frame is expected
   unchanged : (p : Phase) (emits : Bool) (f : Frame) (o : told.Outcome) (bytes : List ℕ)
-      → Heard p (record { next = receiverIn s p; emits = emits; frame = f; outcome = o; bytes = bytes })
+      → CountsHear p (record { next = receiverIn s p; emits = emits; frame = f; outcome = o; bytes = bytes })
   unfolding pick
   unchanged Idle emits f o bytes = tt
   unchanged (Done y) emits f o bytes = tt
   unchanged (Open x) emits f o bytes = rw (ne-eqb (x .expected) (x .expected + 1) (omega arith)) refl
 
-  opens-count : (p : Phase) → Shut p → (frames length : ℕ) → Heard p (opening (receiverIn s p) frames length)
+  opens-count : (p : Phase) → Shut p → (frames length : ℕ) → CountsHear p (opening (receiverIn s p) frames length)
   opens-count Idle shut frames length = refl
   opens-count (Done y) shut frames length = refl
   opens-count (Open x) shut frames length = absurd shut
 
-  hears-count : {f : Frame} {buffer : List ℕ} {p : Phase} {h : told.Heard} → Hears s f buffer p h → Heard p (h .told)
+  hears-count : {f : Frame} {buffer : List ℕ} {p : Phase} {h : told.Heard} → Hears s f buffer p h → CountsHear p (h .told)
   unfolding pick
   hears-count (refuses {p} number _) = unchanged p _ _ _ _
   hears-count (ignores {p}) = unchanged p _ _ _ _

@@ -96,21 +96,21 @@ Counts count (Done y) = Unit
 Counts count (Open y) = countOf (y .misses) ≡ count y
 
 -- after a tick, a hold or a resume that told t
-abbrev pub Ticked : Phase → Told → Type 0
-Ticked Idle t = Unit
-Ticked (Done x) t = Unit
-Ticked (Open x) t = Counts (λ y. countAfter (tickedAs x t) (countOf (x .misses))) (t .next .phase)
+abbrev pub CountsTick : Phase → Told → Type 0
+CountsTick Idle t = Unit
+CountsTick (Done x) t = Unit
+CountsTick (Open x) t = Counts (λ y. countAfter (tickedAs x t) (countOf (x .misses))) (t .next .phase)
 
-abbrev pub Paused : Phase → Told → Type 0
-Paused Idle t = Unit
-Paused (Done x) t = Unit
-Paused (Open x) t = Counts (λ y. countAfter (pausedAs t) (countOf (x .misses))) (t .next .phase)
+abbrev pub CountsPause : Phase → Told → Type 0
+CountsPause Idle t = Unit
+CountsPause (Done x) t = Unit
+CountsPause (Open x) t = Counts (λ y. countAfter (pausedAs t) (countOf (x .misses))) (t .next .phase)
 
 -- after a hearing that told t; a connection that it opens waits after the opening's LM_ACK
-abbrev pub Heard : Phase → Told → Type 0
-Heard Idle t = Counts (λ y. countOf NoneAfterAck) (t .next .phase)
-Heard (Done x) t = Counts (λ y. countOf NoneAfterAck) (t .next .phase)
-Heard (Open x) t = Counts (λ y. countAfter (heardAs x t y) (countOf (x .misses))) (t .next .phase)
+abbrev pub CountsHear : Phase → Told → Type 0
+CountsHear Idle t = Counts (λ y. countOf NoneAfterAck) (t .next .phase)
+CountsHear (Done x) t = Counts (λ y. countOf NoneAfterAck) (t .next .phase)
+CountsHear (Open x) t = Counts (λ y. countAfter (heardAs x t y) (countOf (x .misses))) (t .next .phase)
 
 -- a wait that is over, not held: the third timeout of one type fails, every other goes on
 abbrev pub ThirdFails : Receiver → Phase → Type 0
@@ -122,8 +122,8 @@ ThirdFails r (Open x) =
     → tickOf r .outcome ≡ pick (leb 3 (numberOf (countOf (x .misses) .waits) (countOf (x .misses) .timeouts))) (failed 2) quiet
 
 pub record CountsByType : Type 0 where
-  pub tick : (r : Receiver) → Ticked (r .phase) (tickOf r)
-  pub hold : (r : Receiver) → Paused (r .phase) (holdOf r)
-  pub resume : (r : Receiver) → Paused (r .phase) (resumeOf r)
-  pub hear : (r : Receiver) (f : Frame) (buffer : List ℕ) → Heard (r .phase) (hearOf r f buffer .told)
+  pub tick : (r : Receiver) → CountsTick (r .phase) (tickOf r)
+  pub hold : (r : Receiver) → CountsPause (r .phase) (holdOf r)
+  pub resume : (r : Receiver) → CountsPause (r .phase) (resumeOf r)
+  pub hear : (r : Receiver) (f : Frame) (buffer : List ℕ) → CountsHear (r .phase) (hearOf r f buffer .told)
   pub third : (r : Receiver) → ThirdFails r (r .phase)
