@@ -177,11 +177,15 @@ fn receiver(random: &mut Random) -> FlatReceiver {
         wait: below(random, timeout),
         misses: any_misses(random),
         held,
-        holds: match (random.percent(50), held) {
-            (true, _) => random.pick(&[0, 19, 20]),
-            (false, true) => random.between(0, 20) as u8,
-            (false, false) => random.byte(),
-        },
+        holds: any_holds(random, held),
+    }
+}
+
+fn any_holds(random: &mut Random, held: bool) -> u8 {
+    match (random.percent(50), held) {
+        (true, _) => random.pick(&[0, 19, 20]),
+        (false, true) => random.between(0, 20) as u8,
+        (false, false) => random.byte(),
     }
 }
 

@@ -82,6 +82,11 @@ fn counts_past_their_limits() {
         ..sender(1)
     };
     tick(third);
+}
+
+/// The same at the receiver: "At T", "a 21st".
+#[test]
+fn counts_of_the_receiver_past_their_limits() {
     let late = FlatReceiver {
         wait: 5,
         ..receiver(3, 1)

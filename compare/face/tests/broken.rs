@@ -47,6 +47,21 @@ fn the_reference_is_alike_with_itself() {
     assert_eq!(uncalled, Vec::<&str>::new());
 }
 
+/// Functions that answer a value or a refusal.
+const TAKEN_OR_REFUSED: [&str; 11] = [
+    "sender_make",
+    "receiver_make",
+    "clean_figures_of",
+    "identifier_join",
+    "identifier_split",
+    "version_list",
+    "version_message_write",
+    "version_message_read",
+    "talker_make",
+    "group_read",
+    "group_write",
+];
+
 /// Every outcome that a function can have comes, and often enough; so does all that can be met of a hold, of a last frame's
 /// filler and of misses.
 #[test]
@@ -73,19 +88,7 @@ fn every_outcome_comes() {
     come("talker_hear", &[0, 1, 3, 6]);
     come("talker_stop", &[0, 7]);
     come("talker_greet", &[0, 3]);
-    for name in [
-        "sender_make",
-        "receiver_make",
-        "clean_figures_of",
-        "identifier_join",
-        "identifier_split",
-        "version_list",
-        "version_message_write",
-        "version_message_read",
-        "talker_make",
-        "group_read",
-        "group_write",
-    ] {
+    for name in TAKEN_OR_REFUSED {
         come(name, &[0, 1]);
     }
     assert_eq!(tally.rare_holds(100), Vec::<String>::new());
