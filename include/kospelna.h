@@ -91,7 +91,7 @@ typedef struct kospelna_frame {
 /* The cause in an LM_NACK, its d0. */
 enum {
     KOSPELNA_NACK_NO_SPACE = 1,     /* the receiver: L is above its capacity */
-    KOSPELNA_NACK_TIMEOUTS = 2,     /* the sender: three timeouts; the receiver: three of one type, or one too many while held */
+    KOSPELNA_NACK_TIMEOUTS = 2,     /* the sender: three timeouts; the receiver: three of one type or one too many while held */
     KOSPELNA_NACK_SENDING_TIME = 3, /* the sender: the sending time is over */
     KOSPELNA_NACK_FRAME_NUMBER = 4, /* either: a number above N */
     KOSPELNA_NACK_ANNOUNCEMENT = 5  /* the receiver: an announcement whose N and L do not fit */
@@ -204,15 +204,16 @@ enum {
 };
 
 /* The timeouts in a row that an open connection counts, all of one type: the wait was one after an own LM_ACK, or one after an
- * accepted frame that drew none. Of the two the later decides, and a timeout whose predecessor was of the other type is counted
- * as the first. The third of one type fails the connection, KOSPELNA_CAUSE_TIMEOUTS; every other timeout emits an LM_ACK, and so
- * do a hold and a resume. Timeouts while held are not among them. Every other number is read as NONE_AFTER_ACK. */
+ * accepted frame that drew none. Of the two the later decides, and a timeout whose predecessor was of the other type is
+ * counted as the first. The third of one type fails the connection, KOSPELNA_CAUSE_TIMEOUTS; every other timeout emits an
+ * LM_ACK, and so do a hold and a resume. Timeouts while held are not among them. Every other number is read as
+ * NONE_AFTER_ACK. */
 enum {
     KOSPELNA_MISSES_NONE_AFTER_ACK = 0,   /* none; since the last accepted frame, or at it, an LM_ACK has gone out */
     KOSPELNA_MISSES_ONE_AFTER_ACK = 1,    /* one after an LM_ACK */
     KOSPELNA_MISSES_TWO_AFTER_ACK = 2,    /* two after an LM_ACK: the next one fails */
     KOSPELNA_MISSES_NONE_AFTER_FRAME = 3, /* none; since the last accepted frame no LM_ACK has gone out */
-    KOSPELNA_MISSES_ONE_AFTER_FRAME = 4   /* one after a frame; its LM_ACK has gone out, so that the next is of the other type */
+    KOSPELNA_MISSES_ONE_AFTER_FRAME = 4   /* one after a frame; its LM_ACK has gone out, so that the next is of another type */
 };
 
 /* A receiver. Beside each field the phases that have it; in every other phase it is not read, and is written as 0. */
@@ -264,7 +265,8 @@ kospelna_receiver_answer kospelna_receiver_tick(kospelna_receiver receiver);
 kospelna_receiver_answer kospelna_receiver_hold(kospelna_receiver receiver);
 
 /* Ends the hold: asks for a window from the frame expected on. Refused 13 where the transfer is not held. Neither hold nor
- * resume alters wait or misses. */
+ * resume alters wait or the timeouts that are counted. From either on the wait is one after its LM_ACK: of `misses`,
+ * NONE_AFTER_FRAME becomes NONE_AFTER_ACK. */
 kospelna_receiver_answer kospelna_receiver_resume(kospelna_receiver receiver);
 
 /* A frame is heard: kind 1, 3, 5 or 7. Message bytes go to their place in the buffer, the rest of it stays: lend the same
