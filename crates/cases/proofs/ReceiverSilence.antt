@@ -15,8 +15,9 @@ use Rattle.frame.specs.Frames.{announcementOf, lmAckOf, lmNackOf}
 use Rattle.frame.specs.Reading.{namedOf, allFiller, readOf}
 use Rattle.receiver.specs.Hear.{hearOf, hearRead, hearKind, isHeld, hearUnlessHeld, hearNumbered, hearAnnouncement, announceIdle, opening}
 use Rattle.receiver.specs.Make.{idleWith, makeOf}
+use Rattle.receiver.specs.Misses.{timedOut}
 use Rattle.receiver.specs.State.{inPhase}
-use Rattle.receiver.specs.Tick.{waiting, askingAgain, tickOf, tickPhase, timeoutFree, tickOpen}
+use Rattle.receiver.specs.Tick.{waiting, askingAgain, tickOf, tickPhase, timeoutBy, timeoutFree, tickOpen}
 use Rattle.receiver.specs.Told.{Told, failingWith}
 use Rattle.receiver.specs.declared.Connection.{Connection}
 use Rattle.receiver.specs.declared.Misses.{Misses}
@@ -70,7 +71,7 @@ fails-shows r tick ticks = ap {B = List ℕ} (λ rest. at tick (nack 2) ++ rest)
 -- where no hold stands, a tick makes this test
 free-tick : (r : Receiver) (x : Connection) → x .held ≡ false
     → tickOf (inPhase r (Open x))
-    ≡ pick (leb (r .settings .timeout) (incrementOf (x .wait))) (timeoutFree (inPhase r (Open x)) x (x .misses)) (waiting (inPhase r (Open x)) x)
+    ≡ pick (leb (r .settings .timeout) (incrementOf (x .wait))) (timeoutFree (inPhase r (Open x)) x) (waiting (inPhase r (Open x)) x)
 unfolding tickOf tickPhase tickOpen pick
 free-tick r x free = rw free
 
@@ -79,11 +80,11 @@ timeout-shows : (r : Receiver) (x : Connection) (tick ticks : ℕ) (misses : Mis
     → ((counted : Misses)
     → receiverTicks (askingAgain (inPhase r (Open x)) x counted .next) (suc tick) ticks
     ≡ openNumbers (r .settings .timeout) (x .expected) 0 counted (suc tick) ticks)
-    → after (timeoutFree (inPhase r (Open x)) x misses) tick ticks
+    → after (timeoutBy (inPhase r (Open x)) x (timedOut misses)) tick ticks
     ≡ counting misses
     (λ counted. at tick (2 ∷ x .expected ∷ []) ++ openNumbers (r .settings .timeout) (x .expected) 0 counted (suc tick) ticks)
     (at tick (nack 2))
-unfolding counting after timeoutFree lmAckOf pick
+unfolding counting after timeoutBy lmAckOf pick
 timeout-shows r x tick ticks NoneAfterAck later = ap {B = List ℕ} (λ rest. at tick (2 ∷ x .expected ∷ []) ++ rest) (later OneAfterAck)
 timeout-shows r x tick ticks OneAfterAck later = ap {B = List ℕ} (λ rest. at tick (2 ∷ x .expected ∷ []) ++ rest) (later TwoAfterAck)
 timeout-shows r x tick ticks TwoAfterAck later = fails-shows (inPhase r (Open x)) tick ticks

@@ -79,7 +79,7 @@ unfolding
     receiver-hear.informationExpected receiver-hear.informationOpen receiver-hear.stored receiver-hear.storing receiver-window.windowOf
     receiver-hold.holdOf receiver-hold.holdPhase receiver-hold.holdOpen
     receiver-hold.resumeOf receiver-hold.resumePhase receiver-hold.resumeOpen
-    receiver-tick.tickOf receiver-tick.tickPhase receiver-tick.tickOpen receiver-tick.timeoutFree receiver-tick.timeoutHeld
+    receiver-tick.tickOf receiver-tick.tickPhase receiver-tick.tickOpen receiver-tick.timeoutBy receiver-tick.timeoutHeld
 computed = (
   record {
     held =

@@ -28,17 +28,20 @@ use Rattle.frame.specs.declared.Reading.the-variants.{Read, Refused}
 use Rattle.receiver.specs.Hear.{announcesWell, opening, announceIdle, announcedAgain, openingAgain, announceOpen, hearAnnouncement, ending, askingNext, expectingNext, stored, storing, isUnclean, informationExpected, informationOpen, endingAgain, informationDone, hearInformation, hearNack, hearNumbered, isHeld, hearUnlessHeld, hearKind, hearRead, awaited, hearOf}
 use Rattle.receiver.specs.Hold.{mayHold, holding, holdOpen, holdPhase, holdOf, resuming, resumeOpen, resumePhase, resumeOf}
 use Rattle.receiver.specs.Make.{settingsFit, idleWith, makeOf}
+use Rattle.receiver.specs.Misses.{timedOut}
 use Rattle.receiver.specs.Reachable.{SettingsWithin}
 use Rattle.receiver.specs.State.{inPhase}
-use Rattle.receiver.specs.Tick.{waiting, askingAgain, timeoutFree, holdingOn, timeoutHeld, tickOpen, tickPhase, tickOf}
+use Rattle.receiver.specs.Tick.{waiting, askingAgain, timeoutBy, timeoutFree, holdingOn, timeoutHeld, tickOpen, tickPhase, tickOf}
 use Rattle.receiver.specs.Told.{Told, Heard, heard, refusing, silently, emitting, failingWith, failing, shortWith, shortOnly}
 use Rattle.receiver.specs.declared.Connection.{Connection}
 use Rattle.receiver.specs.declared.Delivery.{Delivery}
-use Rattle.receiver.specs.declared.Misses.the-variants.{NoneAfterAck, OneAfterAck, TwoAfterAck, NoneAfterFrame, OneAfterFrame}
+use Rattle.receiver.specs.declared.Misses.{Misses}
 use Rattle.receiver.specs.declared.Phase.{Phase}
 use Rattle.receiver.specs.declared.Phase.the-variants.{Idle, Done, Open}
 use Rattle.receiver.specs.declared.Receiver.{Receiver}
 use Rattle.receiver.specs.declared.Settings.{Settings}
+use Rattle.receiver.specs.declared.Timeout.{Timeout}
+use Rattle.receiver.specs.declared.Timeout.the-variants.{Third, Counts}
 
 -- ---- making
 
@@ -94,25 +97,14 @@ pub ruleset makes = (make-made, make-refused)
 -- ---- a tick
 
 module _ (r : Receiver) (x : Connection) {a : Told} where
-  pub first-after-ack : a ≡ askingAgain r x OneAfterAck → x .misses ≡ NoneAfterAck → a ≡ timeoutFree r x (x .misses)
-  unfolding timeoutFree
-  first-after-ack e m = e ∙ ap (timeoutFree r x) (sym m)
+  module _ (t : Timeout) (which : t ≡ timedOut (x .misses)) where
+    pub free-fails : a ≡ failingWith r 2 → t ≡ Third → a ≡ timeoutFree r x
+    unfolding timeoutBy
+    free-fails e third = e ∙ ap (timeoutBy r x) (sym third ∙ which)
 
-  pub second-after-ack : a ≡ askingAgain r x TwoAfterAck → x .misses ≡ OneAfterAck → a ≡ timeoutFree r x (x .misses)
-  unfolding timeoutFree
-  second-after-ack e m = e ∙ ap (timeoutFree r x) (sym m)
-
-  pub third-after-ack : a ≡ failingWith r 2 → x .misses ≡ TwoAfterAck → a ≡ timeoutFree r x (x .misses)
-  unfolding timeoutFree
-  third-after-ack e m = e ∙ ap (timeoutFree r x) (sym m)
-
-  pub first-after-frame : a ≡ askingAgain r x OneAfterFrame → x .misses ≡ NoneAfterFrame → a ≡ timeoutFree r x (x .misses)
-  unfolding timeoutFree
-  first-after-frame e m = e ∙ ap (timeoutFree r x) (sym m)
-
-  pub first-again : a ≡ askingAgain r x OneAfterAck → x .misses ≡ OneAfterFrame → a ≡ timeoutFree r x (x .misses)
-  unfolding timeoutFree
-  first-again e m = e ∙ ap (timeoutFree r x) (sym m)
+    pub free-asks : (misses : Misses) → a ≡ askingAgain r x misses → t ≡ Counts misses → a ≡ timeoutFree r x
+    unfolding timeoutBy
+    free-asks misses e counts = e ∙ ap (timeoutBy r x) (sym counts ∙ which)
 
   pub held-fails : a ≡ failingWith r 2 → 20 ≤ x .holds → a ≡ timeoutHeld r x
   unfolding timeoutHeld
@@ -134,13 +126,11 @@ module _ (r : Receiver) (x : Connection) {wait : ℕ} (w : wait ≡ incrementOf 
   unfolding tickOpen
   tick-held e due held = pick-true _ (late due) (pick-true _ held e)
 
-  pub tick-free : {a : Told} → a ≡ timeoutFree r x (x .misses) → r .settings .timeout ≤ wait → x .held ≡ false → a ≡ tickOpen r x
+  pub tick-free : {a : Told} → a ≡ timeoutFree r x → r .settings .timeout ≤ wait → x .held ≡ false → a ≡ tickOpen r x
   unfolding tickOpen
   tick-free e due free = pick-true _ (late due) (pick-false _ free e)
 
-pub ruleset timeouts-free = (first-after-ack, second-after-ack, third-after-ack, first-after-frame, first-again)
-
-pub ruleset ticks-open = (held-fails, held-goes-on, tick-waits, tick-held, tick-free)
+pub ruleset ticks-open = (free-fails, free-asks, held-fails, held-goes-on, tick-waits, tick-held, tick-free)
 
 module _ (r : Receiver) {a : Told} where
   pub tick-idle : a ≡ silently r → r .phase ≡ Idle → a ≡ tickOf r

@@ -14,8 +14,8 @@ use Rattle.frame.specs.declared.Frame.{Frame}
 use Rattle.receiver.proofs.Laws.{tick-free}
 use Rattle.receiver.proofs.View.{receiverIn, Shut, Ticks, rests, waits, retries, repeats, expires, tick-does, Counted, first-after-ack, second-after-ack, first-after-frame, first-again, Pause, hold, resume, Pauses, denied, holds, resumes, pause-does, nacks, opens, again, ended, above, delivers, asks, goes-on, Hears, refuses, ignores, announced, informed, closes, short, short-only, hear-does}
 use Rattle.receiver.specs.Hear.{opening}
-use Rattle.receiver.specs.Misses.{acknowledged}
-use Rattle.receiver.specs.Tick.{timeoutFree, tickOpen, tickPhase, tickOf}
+use Rattle.receiver.specs.Misses.{acknowledged, timedOut}
+use Rattle.receiver.specs.Tick.{timeoutBy, tickOpen, tickPhase, tickOf}
 use Rattle.receiver.specs.Told as told
 use Rattle.receiver.specs.Told.{Told, quiet, failed}
 use Rattle.receiver.specs.Types.{countOf, numberOf, acknowledges, timesOut, countAfter, CountsTick, CountsPause, CountsHear, ThirdFails, CountsByType}
@@ -104,9 +104,9 @@ module _ (s : Settings) where
 
   -- ---- the third
 
-  by-misses : (r : Receiver) (x : Connection) (m : Misses) → timeoutFree r x m .outcome
+  by-misses : (r : Receiver) (x : Connection) (m : Misses) → timeoutBy r x (timedOut m) .outcome
       ≡ pick (leb 3 (numberOf (countOf m .waits) (countOf m .timeouts))) (failed 2) quiet
-  unfolding timeoutFree pick
+  unfolding timeoutBy pick
   by-misses r x NoneAfterAck = refl
   by-misses r x OneAfterAck = refl
   by-misses r x TwoAfterAck = refl

@@ -18,8 +18,9 @@ use Rattle.frame.specs.declared.Frame.{Frame}
 use Rattle.frame.specs.declared.Parsed.{Parsed}
 use Rattle.receiver.specs.Hear.{announcesWell, opening, announceIdle, openingAgain, announceOpen, hearAnnouncement, ending, askingNext, expectingNext, stored, storing, informationExpected, informationOpen, endingAgain, informationDone, hearInformation, hearNack, hearNumbered, isHeld, hearUnlessHeld, hearKind, hearRead, awaited, hearOf}
 use Rattle.receiver.specs.Hold.{holding, holdOpen, holdPhase, holdOf, resuming, resumeOpen, resumePhase, resumeOf}
+use Rattle.receiver.specs.Misses.{timedOut}
 use Rattle.receiver.specs.Refusals.{Unclean}
-use Rattle.receiver.specs.Tick.{waiting, askingAgain, timeoutFree, holdingOn, timeoutHeld, tickOpen, tickPhase, tickOf}
+use Rattle.receiver.specs.Tick.{waiting, askingAgain, timeoutBy, holdingOn, timeoutHeld, tickOpen, tickPhase, tickOf}
 use Rattle.receiver.specs.Told.{Told, Heard, heard, refusing, silently, emitting, failingWith, failing, shortWith, shortOnly}
 use Rattle.receiver.specs.declared.Connection.{Connection}
 use Rattle.receiver.specs.declared.Delivery.{Delivery}
@@ -168,8 +169,8 @@ module _ (s : Settings) where
 module _ (s : Settings) where
   -- at T, not held, by what is counted
   timeout-free : (x : Connection) (m : Misses) → x .misses ≡ m → s .timeout ≤ incrementOf (x .wait) → x .held ≡ false
-      → Ticks s (Open x) (timeoutFree (receiverIn s (Open x)) x m)
-  unfolding timeoutFree
+      → Ticks s (Open x) (timeoutBy (receiverIn s (Open x)) x (timedOut m))
+  unfolding timeoutBy
   timeout-free x NoneAfterAck e due free = retries {x = x} {misses = OneAfterAck} due free (rw e first-after-ack)
   timeout-free x OneAfterAck e due free = retries {x = x} {misses = TwoAfterAck} due free (rw e second-after-ack)
   timeout-free x TwoAfterAck e due free = expires

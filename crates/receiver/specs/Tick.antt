@@ -5,15 +5,17 @@ use lib.Dec.{leb}
 use Rattle.frame.specs.Choice.{pick}
 use Rattle.frame.specs.Count.{incrementOf}
 use Rattle.receiver.specs.Hold.{holdAck}
+use Rattle.receiver.specs.Misses.{timedOut}
 use Rattle.receiver.specs.State.{moved, marked, inPhase}
 use Rattle.receiver.specs.Told.{Told, silently, emitting, failingWith}
 use Rattle.receiver.specs.Window.{asking}
 use Rattle.receiver.specs.declared.Connection.{Connection}
 use Rattle.receiver.specs.declared.Misses.{Misses}
-use Rattle.receiver.specs.declared.Misses.the-variants.{NoneAfterAck, OneAfterAck, TwoAfterAck, NoneAfterFrame, OneAfterFrame}
 use Rattle.receiver.specs.declared.Phase.{Phase}
 use Rattle.receiver.specs.declared.Phase.the-variants.{Idle, Done, Open}
 use Rattle.receiver.specs.declared.Receiver.{Receiver}
+use Rattle.receiver.specs.declared.Timeout.{Timeout}
+use Rattle.receiver.specs.declared.Timeout.the-variants.{Third, Counts}
 
 -- before T: a tick more has been waited, and nothing else changes
 abbrev pub waiting : Receiver → Connection → Told
@@ -26,15 +28,13 @@ waiting r x =
 abbrev pub askingAgain : Receiver → Connection → Misses → Told
 askingAgain r x misses = asking r x (x .expected) misses
 
--- E4: a timeout is of the type of the wait that it ends. After an LM_ACK it is the first, the second or the third of its type in
--- a row, and the third fails the connection with NACK 2; after a frame it is the first. After the LM_ACK that one after a frame
--- drew it is of another type than that one, and the first again.
-unfoldable pub timeoutFree : Receiver → Connection → Misses → Told
-timeoutFree r x NoneAfterAck = askingAgain r x OneAfterAck
-timeoutFree r x OneAfterAck = askingAgain r x TwoAfterAck
-timeoutFree r x TwoAfterAck = failingWith r 2
-timeoutFree r x NoneAfterFrame = askingAgain r x OneAfterFrame
-timeoutFree r x OneAfterFrame = askingAgain r x OneAfterAck
+-- E4: the third of one type in a row fails the connection with NACK 2
+unfoldable pub timeoutBy : Receiver → Connection → Timeout → Told
+timeoutBy r x Third = failingWith r 2
+timeoutBy r x (Counts misses) = askingAgain r x misses
+
+abbrev pub timeoutFree : Receiver → Connection → Told
+timeoutFree r x = timeoutBy r x (timedOut (x .misses))
 
 -- E2, at T while held: the hold's LM_ACK goes out again and is counted, wait starts again; misses and w stay. E4 passes it over.
 abbrev pub holdingOn : Receiver → Connection → Told
@@ -49,7 +49,7 @@ timeoutHeld r x = pick (leb 21 (x .holds + 1)) (failingWith r 2) (holdingOn r x)
 -- at T by the held mark. A state that no calls make may be past T or the 21st held timeout; it does as one that is at it.
 unfoldable pub tickOpen : Receiver → Connection → Told
 tickOpen r x =
-    pick (leb (r .settings .timeout) (incrementOf (x .wait))) (pick (x .held) (timeoutHeld r x) (timeoutFree r x (x .misses)))
+    pick (leb (r .settings .timeout) (incrementOf (x .wait))) (pick (x .held) (timeoutHeld r x) (timeoutFree r x))
     (waiting r x)
 
 -- by the state; where none is open a tick changes nothing

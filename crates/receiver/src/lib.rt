@@ -34,6 +34,12 @@ pub enum Misses {
     OneAfterFrame,
 }
 
+// What a timeout comes to: it is the third of its type in a row, or these misses stand after it.
+pub enum Timeout {
+    Third,
+    Counts(Misses),
+}
+
 // An open connection: N and L as announced, the frame number expected (e) and the last of the window (w), the timeouts
 // counted and the ticks waited; whether it is held, and how many timeouts it has had while held. In this order it is laid
 // out without gaps.

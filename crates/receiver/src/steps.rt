@@ -1,6 +1,6 @@
 // The steps that the calls share: the changed state, and the answer of each kind.
 ghost use mathlib.Core.Path.{_≡_};
-ghost use Rattle.receiver.specs.Misses.{acknowledged};
+ghost use Rattle.receiver.specs.Misses.{acknowledged, timedOut};
 ghost use Rattle.receiver.specs.State.{opened, moved, marked, inPhase};
 ghost use Rattle.receiver.specs.Told.{
   told,
@@ -19,6 +19,7 @@ use crate::Misses;
 use crate::Outcome;
 use crate::Phase;
 use crate::Receiver;
+use crate::Timeout;
 use frame::Frame;
 use frame::build::blank;
 use frame::build::lm_nack;
@@ -37,6 +38,20 @@ impl Misses {
             Misses::TwoAfterAck => Misses::TwoAfterAck,
             Misses::NoneAfterFrame => Misses::NoneAfterAck,
             Misses::OneAfterFrame => Misses::OneAfterFrame,
+        }
+    }
+
+    // A timeout more: of the same type as those counted, the first, or of another type and so the first again.
+    pub(crate) fn timed_out(self) -> Timeout
+        ensures { λ r. ⌜ r ≡ timedOut self ⌝ }
+    {
+        let misses = self;
+        match misses {
+            Misses::NoneAfterAck => Timeout::Counts(Misses::OneAfterAck),
+            Misses::OneAfterAck => Timeout::Counts(Misses::TwoAfterAck),
+            Misses::TwoAfterAck => Timeout::Third,
+            Misses::NoneAfterFrame => Timeout::Counts(Misses::OneAfterFrame),
+            Misses::OneAfterFrame => Timeout::Counts(Misses::OneAfterAck),
         }
     }
 }

@@ -8,6 +8,7 @@ use crate::Connection;
 use crate::Misses;
 use crate::Phase;
 use crate::Receiver;
+use crate::Timeout;
 use frame::count::increment;
 
 impl Receiver {
@@ -28,18 +29,15 @@ impl Receiver {
         self.asking(x, x.expected, misses)
     }
 
-    // By what is counted: the window is asked for again; the third of one type fails the connection; one of another type
-    // than the one before is the first again.
+    // The third of one type fails the connection; before it the window is asked for again.
     fn timeout_free(self, x: Connection) -> Answer
-        ensures { λ r. ⌜ told r ≡ timeoutFree self x (x .misses) ⌝ }
+        ensures { λ r. ⌜ told r ≡ timeoutFree self x ⌝ }
     {
         let misses = x.misses;
-        match misses {
-            Misses::NoneAfterAck => self.asking_again(x, Misses::OneAfterAck),
-            Misses::OneAfterAck => self.asking_again(x, Misses::TwoAfterAck),
-            Misses::TwoAfterAck => self.failing_with(2),
-            Misses::NoneAfterFrame => self.asking_again(x, Misses::OneAfterFrame),
-            Misses::OneAfterFrame => self.asking_again(x, Misses::OneAfterAck),
+        let timeout = misses.timed_out();
+        match timeout {
+            Timeout::Third => self.failing_with(2),
+            Timeout::Counts(misses) => self.asking_again(x, misses),
         }
     }
 
