@@ -90,27 +90,27 @@ heardAs x t y = pick (eqb (y .expected) (x .expected + 1)) (accepts (t .emits)) 
 -- ---- the claim
 
 -- the connection, if it is still open, counts what it is to count
-abbrev pub Counts : (Connection → Count) → Phase → Type 0
-Counts count Idle = Unit
-Counts count (Done y) = Unit
-Counts count (Open y) = countOf (y .misses) ≡ count y
+abbrev pub OpenCounts : (Connection → Count) → Phase → Type 0
+OpenCounts count Idle = Unit
+OpenCounts count (Done y) = Unit
+OpenCounts count (Open y) = countOf (y .misses) ≡ count y
 
 -- after a tick, a hold or a resume that told t
 abbrev pub CountsTick : Phase → Told → Type 0
 CountsTick Idle t = Unit
 CountsTick (Done x) t = Unit
-CountsTick (Open x) t = Counts (λ y. countAfter (tickedAs x t) (countOf (x .misses))) (t .next .phase)
+CountsTick (Open x) t = OpenCounts (λ y. countAfter (tickedAs x t) (countOf (x .misses))) (t .next .phase)
 
 abbrev pub CountsPause : Phase → Told → Type 0
 CountsPause Idle t = Unit
 CountsPause (Done x) t = Unit
-CountsPause (Open x) t = Counts (λ y. countAfter (pausedAs t) (countOf (x .misses))) (t .next .phase)
+CountsPause (Open x) t = OpenCounts (λ y. countAfter (pausedAs t) (countOf (x .misses))) (t .next .phase)
 
 -- after a hearing that told t; a connection that it opens waits after the opening's LM_ACK
 abbrev pub CountsHear : Phase → Told → Type 0
-CountsHear Idle t = Counts (λ y. countOf NoneAfterAck) (t .next .phase)
-CountsHear (Done x) t = Counts (λ y. countOf NoneAfterAck) (t .next .phase)
-CountsHear (Open x) t = Counts (λ y. countAfter (heardAs x t y) (countOf (x .misses))) (t .next .phase)
+CountsHear Idle t = OpenCounts (λ y. countOf NoneAfterAck) (t .next .phase)
+CountsHear (Done x) t = OpenCounts (λ y. countOf NoneAfterAck) (t .next .phase)
+CountsHear (Open x) t = OpenCounts (λ y. countAfter (heardAs x t y) (countOf (x .misses))) (t .next .phase)
 
 -- a wait that is over, not held: the third timeout of one type fails, every other goes on
 abbrev pub ThirdFails : Receiver → Phase → Type 0
