@@ -49,7 +49,7 @@ unfolding
     receiver-hear.hearOf receiver-hear.hearRead receiver-hear.hearKind receiver-hear.hearUnlessHeld receiver-hear.hearNumbered
     receiver-hear.hearAnnouncement receiver-hear.announceIdle
     receiver-hear.hearInformation receiver-hear.informationOpen receiver-hear.informationExpected receiver-hear.stored
-    receiver-making.makeOf receiver-tick.tickOf receiver-tick.tickPhase receiver-tick.tickOpen receiver-tick.timeoutFree
+    receiver-making.makeOf receiver-tick.tickOf receiver-tick.tickPhase receiver-tick.tickOpen receiver-tick.timeoutBy
     shownJoined joinOf fitsOf numberOf
 all-right = tt
 
