@@ -1,5 +1,5 @@
 -- Document 02, E4: the latest tick at which a connection can have its report. It is a little before the tick by which demand 3
--- promises it, and no bound can be lower: the runs of `LateExample.antt` reach it.
+-- promises it, and the two runs of `LateExample.antt`, of two frames, reach it.
 use Prim.Native.Nat.{ℕ, _+_, _-_, _*_, _≤_}
 use mathlib.Core.List.{List}
 use mathlib.Core.Path.{_≡_}
