@@ -111,6 +111,14 @@ listed-stands bytes v h =
     let same : placed s ≡ v = cc (taken .1) in
     subst (λ (x : Versions). Standing x × (standing x ≡ s)) same (stands, standing-placed s (stands .few))
 
+-- it is kept in eight places
+pub listed-eight : (bytes : List ℕ) (v : Versions) → listOf bytes ≡ accepted v → length (v .numbers) ≡ 8
+unfolding listOf
+listed-eight bytes v h =
+    let s : List ℕ = versionsIn bytes in
+    let same : placed s ≡ v = cc (pick-accepted (isLent bytes s) (accepted (placed s)) 11 h .1) in
+    subst (λ (x : Versions). length (x .numbers) ≡ 8) same (placed-eight s)
+
 -- ---- the place of a version
 
 -- a place found, counted from n: the version stands there

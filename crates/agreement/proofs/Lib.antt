@@ -1,0 +1,6 @@
+pub mod Ends
+pub mod Hears
+pub mod Order
+pub mod Links
+pub mod Limit
+pub mod Theorem

@@ -1,0 +1,66 @@
+-- Document 02, E5, as one claim about every list of calls from fresh ends, refused ones and such as find nothing to do
+-- included:
+--   settled    where both ends have reported success, each names a version (001, tables 8 and 9: S2 or S3): it is one and the
+--              same, both lists have it, and whatever else both lists have is lower
+--   unshared   where an end has reported failure, and neither met the 15 s limit, a stop or a greeting, there is no version
+--              that both lists have
+--   Agreement  this of the events after any calls whatever, so at every moment of every run
+--   stepOf     the line gives messages in the order and shape in which they were emitted, and no others; it may lose any and
+--              repeat any
+use Prim.Native.Nat.{ℕ, _<_}
+use mathlib.Core.List.{List}
+use mathlib.Core.Path.{_≡_}
+use lib.ListN.{length, getD}
+use Rattle.version.specs.Told.{agreed, failed}
+use Rattle.version.specs.declared.Side.{Side}
+use Rattle.version.specs.declared.Side.the-variants.{Charger, Vehicle}
+use Rattle.agreement.specs.Run.{Past, runOf, FromFresh, FromLent}
+use Rattle.agreement.specs.Seen.{Never, Reported, MeetsLimit, MeetsStop, MeetsGreeting}
+use Rattle.agreement.specs.World.{Call, Event}
+
+-- a version stands in a list
+pub record Holds (versions : List ℕ) (version : ℕ) : Type 0 where
+  pub place : ℕ
+  pub inside : place < length versions
+  pub is : getD versions place 0 ≡ version
+
+-- no version stands in both lists
+abbrev pub NoneShared : List ℕ → List ℕ → Type 0
+NoneShared charger vehicle = (version : ℕ) → Holds charger version → Holds vehicle version → ⊥
+
+-- the version stands in both lists, and every other that does is lower
+pub record HighestShared (charger vehicle : List ℕ) (version : ℕ) : Type 0 where
+  pub ofCharger : Holds charger version
+  pub ofVehicle : Holds vehicle version
+  pub highest : (other : ℕ) → Holds charger other → Holds vehicle other → (other ≡ version → ⊥) → other < version
+
+-- what holds of the events of every list of calls, by the two lists of versions
+pub record Promise (charger vehicle : List ℕ) (events : List Event) : Type 0 where
+  pub settled : (v w : ℕ) → Reported Charger (agreed v) events → Reported Vehicle (agreed w) events
+      → (v ≡ w) × HighestShared charger vehicle v
+  pub unshared : (side : Side) → Reported side failed events
+      → Never MeetsLimit events
+      → Never MeetsStop events
+      → Never MeetsGreeting events
+      → NoneShared charger vehicle
+
+-- of a run
+abbrev pub Promised : List ℕ → List ℕ → Past → List Call → Type 0
+Promised charger vehicle p calls = Promise charger vehicle (runOf p calls .events)
+
+-- the claim
+abbrev pub Agreement : Type 0
+Agreement = FromFresh Promised
+
+-- and of lists as they are lent
+abbrev pub AgreementOfLent : Type 0
+AgreementOfLent = FromLent Promised
+
+-- E5 excepts a stop, too. It need not: a stopped end reports no failure and says nothing more, so that the other can fail by
+-- the limit alone.
+abbrev pub StopsAside : Type 0
+StopsAside =
+    FromFresh (λ charger vehicle p calls. (side : Side) → Reported side failed (runOf p calls .events)
+        → Never MeetsLimit (runOf p calls .events)
+        → Never MeetsGreeting (runOf p calls .events)
+        → NoneShared charger vehicle)

@@ -1,0 +1,7 @@
+pub mod World
+pub mod Step
+pub mod Run
+pub mod Seen
+pub mod Agreement
+pub mod Steady
+pub mod Limit
