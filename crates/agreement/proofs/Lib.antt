@@ -4,3 +4,5 @@ pub mod Order
 pub mod Links
 pub mod Limit
 pub mod Theorem
+pub mod Steady
+pub mod Example

@@ -22,7 +22,7 @@ use Rattle.version.specs.declared.Side.{Side}
 use Rattle.version.specs.declared.Side.the-variants.{Charger, Vehicle}
 use Rattle.version.specs.declared.Talker.{Talker}
 use Rattle.version.specs.declared.Versions.{Versions}
-use Rattle.agreement.specs.Agreement.{Holds, NoneShared, Promise, Promised, Agreement, AgreementOfLent, StopsAside}
+use Rattle.agreement.specs.Agreement.{NoneShared, HighestShared, Promise, Promised, Agreement, AgreementOfLent, EachSettled, StopsAside}
 use Rattle.agreement.specs.Limit.{LimitAt, LimitKept}
 use Rattle.agreement.specs.Run.{Past, fresh, next, runOf}
 use Rattle.agreement.specs.Seen.{Seen, now, before, Never, Reported, MeetsLimit, MeetsGreeting, talkIn}
@@ -221,6 +221,15 @@ met (l, k) (now {e} {past} x) =
 met (l, k) (before s) = ⊎-elim (λ m. inl (before m)) (λ m. inr (before m)) (met k s)
 
 module _ {a b : List ℕ} {w : World} {events : List Event} (i : Inv a b (Reason a b events) w events) where
+  named : (side : Side) (v : ℕ) → Reported side (agreed v) events → HighestShared a b v
+  named side v r =
+      let x = i .reported side (agreed v) r in
+      record {
+        ofCharger = x .0;
+        ofVehicle = x .1;
+        highest = λ other h k different. let le = x .2 other h k in omega arith;
+      }
+
   promised : Promise a b events
   promised =
       record {
@@ -228,14 +237,8 @@ module _ {a b : List ℕ} {w : World} {events : List Event} (i : Inv a b (Reason
             let x = i .reported Charger (agreed v) r in
             let y = i .reported Vehicle (agreed u) s in
             let down = y .2 v (x .0) (x .1) in
-            let up = x .2 u (y .0) (y .1) in (
-              omega arith,
-              record {
-                ofCharger = x .0;
-                ofVehicle = x .1;
-                highest = λ other h k different. let le = x .2 other h k in omega arith;
-              },
-            );
+            let up = x .2 u (y .0) (y .1) in
+            (omega arith, named Charger v r);
         unshared = λ side r no-limit no-stop no-greeting. i .reported side failed r no-limit no-greeting;
       }
 
@@ -258,6 +261,10 @@ module _ (versions versions′ : Versions) (eight : length (versions .numbers) �
 pub agreement : Agreement
 agreement versions versions′ eight eight′ control control′ charger vehicle made made′ calls =
     promised (reasoned versions versions′ eight eight′ control control′ charger vehicle made made′ calls)
+
+pub each-settled : EachSettled
+each-settled versions versions′ eight eight′ control control′ charger vehicle made made′ calls side v r =
+    named (reasoned versions versions′ eight eight′ control control′ charger vehicle made made′ calls) side v r
 
 pub stops-aside : StopsAside
 stops-aside versions versions′ eight eight′ control control′ charger vehicle made made′ calls side r no-limit no-greeting =

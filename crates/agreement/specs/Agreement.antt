@@ -56,11 +56,17 @@ Agreement = FromFresh Promised
 abbrev pub AgreementOfLent : Type 0
 AgreementOfLent = FromLent Promised
 
+-- More than E5 asks: a success of one end alone already names that version.
+abbrev pub EachSettled : Type 0
+EachSettled =
+    FromFresh (λ charger vehicle p calls. (side : Side) (version : ℕ) → Reported side (agreed version) (runOf p calls .events)
+    → HighestShared charger vehicle version)
+
 -- E5 excepts a stop, too. It need not: a stopped end reports no failure and says nothing more, so that the other can fail by
 -- the limit alone.
 abbrev pub StopsAside : Type 0
 StopsAside =
     FromFresh (λ charger vehicle p calls. (side : Side) → Reported side failed (runOf p calls .events)
-        → Never MeetsLimit (runOf p calls .events)
-        → Never MeetsGreeting (runOf p calls .events)
-        → NoneShared charger vehicle)
+    → Never MeetsLimit (runOf p calls .events)
+    → Never MeetsGreeting (runOf p calls .events)
+    → NoneShared charger vehicle)

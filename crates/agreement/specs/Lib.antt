@@ -5,3 +5,4 @@ pub mod Seen
 pub mod Agreement
 pub mod Steady
 pub mod Limit
+pub mod Example
