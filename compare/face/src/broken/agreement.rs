@@ -30,6 +30,10 @@ pub const BREAKING: &[(&str, Mistake)] = &[
         Mistake::TalkerHear(same_at_ns_alone),
     ),
     (
+        "a version heard is taken into the list",
+        Mistake::TalkerHear(taken_in),
+    ),
+    (
         "agreed names the highest version",
         Mistake::TalkerHear(names_the_highest),
     ),
@@ -126,6 +130,16 @@ fn same_at_ns_alone(t: FlatTalker, bytes: FlatVersionBytes, a: &mut FlatTalkerAn
     match a.next.place.checked_sub(1) {
         Some(below) => (a.next.place, a.next.verdict) = (below, t.verdict),
         None => *a = failing(t, bytes),
+    }
+}
+
+/// In the place of the version at Ns, where that is higher.
+fn taken_in(t: FlatTalker, bytes: FlatVersionBytes, a: &mut FlatTalkerAnswer) {
+    let own = version_at(&t.versions, t.place);
+    if let Some(version) = other_version(t, bytes).filter(|&version| version < own) {
+        let mut versions = t.versions;
+        versions.numbers[t.place.min(7) as usize] = version;
+        *a = Reference.talker_hear(FlatTalker { versions, ..t }, bytes);
     }
 }
 
