@@ -350,10 +350,9 @@ uint32_t kospelna_vehicle_version_identifier(void);
  *
  * What a charger and a vehicle guarantee together, if both were just made when the talk began, with nothing on the line, and
  * each hears only what the other says, in the order in which it was said, though messages may be lost or come again:
- *   - where both report agreed, in S2 or S3, both name the same version. It is in both lists, and every other version that is
- *     in both is lower.
- *   - where either reports failed, and neither failed by its limit (at a tick), was stopped or was greeted, no version is in
- *     both lists.
+ *   - two that report agreed, be it in S2 or in S3, report one version: the highest of those that stand in both lists;
+ *   - if one of them reports failed, the lists have no version in common, unless a talker had come to its limit (it fails at a
+ *     tick then), was stopped or was greeted.
  * Of one agreed alone nothing is promised: the charger's last message may be lost, and then the vehicle fails by its limit
  * though the charger has agreed. A failure by the limit, a stop or a greeting says nothing of the lists.
  */
