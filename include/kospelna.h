@@ -1,7 +1,7 @@
 /* Kospelna for programs in C: the two transport ends of GB/T 27930 category B, version talk, parameter groups.
  * Link target/staticlib/libkospelna.a, which `rt staticlib kospelna` makes for x86-64. examples/bench.c is a whole bench,
  * examples/hold.c a transfer that is held, examples/filler.c one whose last frame comes with old bytes behind the message,
- * examples/silence.c two over a line that falls silent.
+ * examples/silence.c two over a line that falls silent, examples/versions.c two version talks.
  *
  * Every function takes every value of its parameters and is proved to answer by the rules of document 01, and of document
  * 02 as far as docs/landings/ has it (the equations stand in crates/kospelna/specs/; 001 is the source of version talk and
@@ -347,6 +347,14 @@ uint32_t kospelna_vehicle_version_identifier(void);
  * A version is a number: major, minor and temporary version as its three bytes, compared as it stands. A talker's tick is
  * 1 ms. A message is eight bytes: CAN type 0, result, version (major, minor, temporary), the control-pilot byte, 0x01, 0xFF;
  * the last three are not judged when heard. A failure names version FF FF FF.
+ *
+ * What a charger and a vehicle guarantee together, if both were just made when the talk began, with nothing on the line, and
+ * each hears only what the other says, in the order in which it was said, though messages may be lost or come again:
+ *   - two that report agreed, be it in S2 or in S3, report one version: the highest of those that stand in both lists;
+ *   - if one of them reports failed, the lists have no version in common, unless a talker had come to its limit (it fails at a
+ *     tick then), was stopped or was greeted.
+ * Of one agreed alone nothing is promised: the charger's last message may be lost, and then the vehicle fails by its limit
+ * though the charger has agreed. A failure by the limit, a stop or a greeting says nothing of the lists.
  */
 #define KOSPELNA_VERSION(major, minor, temporary) \
     ((uint32_t)(major) << 16 | (uint32_t)(minor) << 8 | (uint32_t)(temporary))

@@ -3,6 +3,7 @@
 //! that it follows; a few words in double quotes are document 01's, and Chinese ones the cells of
 //! 001's tables.
 
+pub mod agreement;
 pub mod packs;
 pub mod reference;
 pub mod sessions;

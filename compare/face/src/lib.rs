@@ -1,5 +1,6 @@
 //! The proved code behind its C face, and what it is compared with: random calls on both, held to each other whole.
 
+pub mod agreement;
 pub mod around;
 pub mod behind;
 pub mod broken;
@@ -13,6 +14,7 @@ mod groups;
 pub mod holding;
 pub mod interface;
 pub mod lists;
+pub mod options;
 pub mod session;
 pub mod sessions;
 pub mod shrink;

@@ -4,12 +4,13 @@
 use std::process::ExitCode;
 use std::time::Instant;
 
-use face::broken::{mistakes, Broken, Mistake};
+use face::broken::Broken;
 use face::call::{Tally, NAMES};
 use face::differences::first_difference;
 use face::ffi::Proved;
 use face::filling::Filling;
 use face::holding::Met;
+use face::options::Options;
 use face::typing::Typing;
 use face::Reference;
 
@@ -18,33 +19,6 @@ const USAGE: &str = "usage: calls [--count N] [--seed S] [--mistake NAME]
     --seed S         the first case's seed (default 1)
     --mistake NAME   in place of the proved code a reference with this mistake, to see a difference; the names are in
                      src/broken/";
-
-struct Options {
-    count: u64,
-    seed: u64,
-    mistake: Option<Mistake>,
-}
-
-fn options(mut words: impl Iterator<Item = String>) -> Option<Options> {
-    let mut options = Options {
-        count: 10_000_000,
-        seed: 1,
-        mistake: None,
-    };
-    while let Some(name) = words.next() {
-        let value = words.next()?;
-        match name.as_str() {
-            "--count" => options.count = value.parse().ok()?,
-            "--seed" => options.seed = value.parse().ok()?,
-            "--mistake" => {
-                let named = mistakes().into_iter().find(|(name, _)| *name == value);
-                options.mistake = Some(named?.1);
-            }
-            _ => return None,
-        }
-    }
-    Some(options)
-}
 
 /// A line for each function: calls, and answers by outcome.
 fn print(tally: &Tally) {
@@ -85,7 +59,7 @@ fn print_met(tally: &Tally) {
 }
 
 fn main() -> ExitCode {
-    let Some(options) = options(std::env::args().skip(1)) else {
+    let Some(options) = Options::read(std::env::args().skip(1), 10_000_000) else {
         eprintln!("{USAGE}");
         return ExitCode::from(2);
     };

@@ -1,5 +1,6 @@
 //! References with one mistake each, to test that the comparison catches it.
 
+pub mod agreement;
 pub mod around;
 pub mod clean;
 mod ends;
@@ -57,6 +58,8 @@ pub fn mistakes() -> Vec<(&'static str, Mistake)> {
         types::MISTAKES,
         clean::MISTAKES,
         around::MISTAKES,
+        agreement::BREAKING,
+        agreement::DIFFERING,
     ]
     .concat()
 }
