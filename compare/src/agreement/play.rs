@@ -59,7 +59,7 @@ pub struct Fault {
 pub enum Error {
     Fault(Box<Fault>),
     /// No fault, but these were never reached.
-    Empty(Vec<Reached>, Counts),
+    Empty(Vec<Reached>, Box<Counts>),
 }
 
 impl fmt::Display for Error {
@@ -166,7 +166,7 @@ pub fn play_with(
     }
     match counts.missing() {
         missing if missing.is_empty() => Ok(counts),
-        missing => Err(Error::Empty(missing, counts)),
+        missing => Err(Error::Empty(missing, Box::new(counts))),
     }
 }
 

@@ -46,7 +46,7 @@ impl Run {
     pub fn calls(&self) -> impl Iterator<Item = (Side, Act)> + '_ {
         self.turns
             .iter()
-            .flat_map(|turn| std::iter::repeat((turn.side, turn.act)).take(usize::from(turn.times)))
+            .flat_map(|turn| std::iter::repeat_n((turn.side, turn.act), usize::from(turn.times)))
     }
 }
 

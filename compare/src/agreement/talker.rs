@@ -58,7 +58,7 @@ pub trait VersionTalker: Sized {
 
 /// The versions of a list lent as bytes; none where they are no whole number of versions.
 pub fn versions(list: &[u8]) -> Option<Vec<Version>> {
-    let whole = list.len() % 3 == 0;
+    let whole = list.chunks_exact(3).remainder().is_empty();
     whole.then(|| list.chunks(3).map(|v| [v[0], v[1], v[2]]).collect())
 }
 

@@ -175,7 +175,7 @@ fn violation(
 ) -> Option<Violation> {
     let each = calls
         .iter()
-        .flat_map(|&(side, act, times)| std::iter::repeat((side, act)).take(times));
+        .flat_map(|&(side, act, times)| std::iter::repeat_n((side, act), times));
     for (side, act) in each {
         let event = bench.call(side, act);
         assert!(!matches!(event.report, Report::Refused(_)));
