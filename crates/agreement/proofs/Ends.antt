@@ -8,11 +8,11 @@ use mathlib.Core.List.{List, [], _∷_, _++_}
 use mathlib.Core.Logic.{_⊎_, inl, inr}
 use mathlib.Core.Path.{_≡_, refl}
 use native.Mathlib.Omega.{arith}
-use lib.ListN.{length, getD, length-take}
-use lib.Seq.{getD-take}
+use lib.ListN.{length, getD}
 use Rattle.frame.specs.Result.{Result, accepted, refused}
 use Rattle.version.proofs.Cells.{Cell, rests, negotiates, starts, declines, goes-on}
 use Rattle.version.proofs.Inverse.{read-written}
+use Rattle.version.proofs.Places.{at-standing}
 use Rattle.version.specs.List.{at, standing, find, findBelow}
 use Rattle.version.specs.Message.{named, readOf}
 use Rattle.version.specs.Table.{Trigger, Entry, nothing, opens, repeats, resumes, settlesBelow2, settles, fails, accepts, stays, lowers, leaves, vehicleS1}
@@ -25,7 +25,6 @@ use Rattle.version.specs.declared.State.the-variants.{S1, S2, S3, S4, S5}
 use Rattle.version.specs.declared.Talker.{Talker}
 use Rattle.version.specs.declared.Verdict.{Verdict}
 use Rattle.version.specs.declared.Verdict.the-variants.{Continue, Success, Failure}
-use Rattle.version.specs.declared.Versions.{Versions}
 use Rattle.agreement.specs.Agreement.{Holds}
 
 -- every message on the line is of the sort P
@@ -44,10 +43,6 @@ Above mine theirs v = (c : ℕ) → Holds mine c → Holds theirs c → c ≤ v
 -- the versions of a list have three bytes
 abbrev pub Small : List ℕ → Type 0
 Small mine = (i : ℕ) → getD mine i 0 < 0x1000000
-
--- the version at a place that stands
-pub at-standing : (v : Versions) (p : ℕ) → p < length (standing v) → getD (standing v) p 0 ≡ at v p
-at-standing v p h = getD-take (v .count) (v .numbers) p 0 (omega (arith, length-take (v .count) (v .numbers)))
 
 -- the own list and the other end's; the reason of a failure
 module _ (mine theirs : List ℕ) (P : Type 0) where

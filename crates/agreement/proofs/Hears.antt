@@ -11,7 +11,7 @@ use lib.ListN.{getD}
 use Rattle.frame.proofs.Choice.{pick-elim}
 use Rattle.frame.specs.Result.{Result, accepted, refused}
 use Rattle.version.proofs.Cells.{Cell, rests, negotiates, starts, declines, goes-on, cell-is}
-use Rattle.version.proofs.Places.{place-of-holds, place-of-none, place-below-highest, place-below-none}
+use Rattle.version.proofs.Places.{at-standing, place-of-holds, place-of-none, place-below-highest, place-below-none}
 use Rattle.version.specs.List.{at, standing, rising, Place, nowhere, here, placeOf, find, findBelow}
 use Rattle.version.specs.Message.{readOf}
 use Rattle.version.specs.Table.{Trigger, connected, periodDue, greeted, stopped, limitDue, Entry, fails, vehicleS1, cellOf}
@@ -23,9 +23,8 @@ use Rattle.version.specs.declared.State.the-variants.{S0, S1, S2, S3, S4, S5}
 use Rattle.version.specs.declared.Talker.{Talker}
 use Rattle.version.specs.declared.Verdict.{Verdict}
 use Rattle.version.specs.declared.Verdict.the-variants.{Continue, Success, Failure}
-use Rattle.version.specs.declared.Versions.{Versions}
-use Rattle.agreement.specs.Agreement.{Holds}
-use Rattle.agreement.proofs.Ends.{at-standing, Above, Sure, End, FairOf, Fair, FairBytes, Good, Allows, allowed, does, quiet-good, in-place, owns, Points}
+use Rattle.agreement.specs.Agreement.{Holds, NoneShared}
+use Rattle.agreement.proofs.Ends.{Above, Sure, End, FairOf, Fair, FairBytes, Good, Allows, allowed, does, quiet-good, in-place, owns, Points}
 
 -- no place of the list holds it
 pub missing : (s : List ℕ) (v : ℕ) → placeOf s v 0 ≡ nowhere → Holds s v → ⊥
@@ -43,7 +42,7 @@ module _ (H : ℕ → Type 0) where
   Names (refused number) = Unit
 
 module _ (mine theirs : List ℕ) (P : Type 0) (H : ℕ → Type 0) (rises : rising mine ≡ true)
-    (lone : ((c : ℕ) → Holds mine c → Holds theirs c → ⊥) → P) where
+    (lone : NoneShared mine theirs → P) where
   -- the own list, as it is kept
   kept : (t : Talker) (c : ℕ) → End mine theirs P H t → Holds mine c → Holds (standing (t .versions)) c
   kept t c e h = rw (e .list) h
@@ -134,7 +133,7 @@ module _ (mine theirs : List ℕ) (P : Type 0) (H : ℕ → Type 0) (rises : ris
   heard-allows t v Success e f x = agreeing t v e (f .0) (f .1) x
   heard-allows t v Failure e f x = f
 
-  -- a trigger whose asking is known
+  -- a trigger, where what its cell asks is known
   triggered-good : (t : Talker) (v : ℕ) → End mine theirs P H t → (k : Trigger) → Allows mine theirs P H t v (vehicleS1 k)
       → Good mine theirs P H t (triggered t v k)
   triggered-good t v e k h =

@@ -5,4 +5,5 @@ pub mod Links
 pub mod Limit
 pub mod Theorem
 pub mod Steady
+pub mod Unseen
 pub mod Example

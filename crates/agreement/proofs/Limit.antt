@@ -7,15 +7,15 @@ use mathlib.Core.List.{List, [], _∷_}
 use mathlib.Core.Path.{_≡_, refl, sym, subst}
 use native.Mathlib.Omega.{arith}
 use borrow.Author.Tests.{leb-true, leb-false}
-use Rattle.frame.proofs.Choice.{pick-elim, pick-accepted}
+use Rattle.frame.proofs.Choice.{pick-elim}
 use Rattle.frame.specs.Count.{incrementOf}
 use Rattle.frame.specs.Result.{Result, accepted, refused}
 use Rattle.version.proofs.Cells.{Cell, rests, negotiates, starts, declines, goes-on, cell-is}
-use Rattle.version.specs.List.{isList, Place, nowhere, here, find, findBelow}
+use Rattle.version.proofs.Places.{made-is}
+use Rattle.version.specs.List.{Place, nowhere, here, find, findBelow}
 use Rattle.version.specs.Message.{readOf}
 use Rattle.version.specs.Table.{Trigger, connected, periodDue, successOther, successBelow2, success2, failureHeard, continueSame, continueLower, continueHigher, continueNone, greeted, stopped, limitDue, Entry, fails, vehicleS1, cellOf}
-use Rattle.version.specs.Talk as talking
-use Rattle.version.specs.Talk.{makeOf, doing, triggered, connectOf, stopOf, greetOf, functionsState, functionsHeardOf, successTrigger, higherTrigger, elseTrigger, continueAt, continueTrigger, heardTrigger, hearJudged, hearOf, nextAge, nextPeriod, limitIsDue, periodIsDue, aged, tickTalking, tickSettled, tickState, tickOf}
+use Rattle.version.specs.Talk.{makeOf, doing, triggered, connectOf, stopOf, greetOf, functionsState, functionsHeardOf, successTrigger, higherTrigger, elseTrigger, continueAt, continueTrigger, heardTrigger, hearJudged, hearOf, nextAge, limitIsDue, periodIsDue, aged, tickTalking, tickSettled, tickState, tickOf}
 use Rattle.version.specs.Told.{Told, Outcome, quiet, agreed, failed, left}
 use Rattle.version.specs.Told as told
 use Rattle.version.specs.declared.Message.{Message}
@@ -29,7 +29,7 @@ use Rattle.version.specs.declared.Verdict.the-variants.{Continue, Success, Fail
 use Rattle.version.specs.declared.Versions.{Versions}
 use Rattle.agreement.specs.Limit.{LimitAt, LimitKept, Limit}
 use Rattle.agreement.specs.Run.{Past, fresh, next, runOf}
-use Rattle.agreement.specs.Seen.{Talk, unconnected, since, over, opened, ticked, talkAfter, unlessReported, talkIn}
+use Rattle.agreement.specs.Seen.{Talk, unconnected, since, over, beforeLimit, opened, ticked, talkAfter, unlessReported, talkIn}
 use Rattle.agreement.specs.Step.{Rest, gone, still, givenOf, doneOf, stepAt}
 use Rattle.agreement.specs.World.{World, Action, connect, tick, hear, repeat, lose, stop, greet, functionsHeard, Call, Event}
 
@@ -171,9 +171,13 @@ module _ (talk : Talk) (t : Talker) where
 
 -- ---- a tick
 
+-- what a tick reports, by how far the talk had come
+abbrev FailsAt : Outcome → Talk → Type 0
+FailsAt o talk = (o ≡ failed → talk ≡ beforeLimit) × (talk ≡ beforeLimit → o ≡ failed)
+
 -- the talk one tick later, or over at the limit
 abbrev Ticks : Talk → Told → Type 0
-Ticks talk a = Stands (unlessReported (a .outcome) (ticked talk)) (a .next) × LimitAt tick (a .outcome) talk
+Ticks talk a = Stands (unlessReported (a .outcome) (ticked talk)) (a .next) × FailsAt (a .outcome) talk
 
 -- a report of nothing is no failure
 abbrev Fails : Outcome → Type 0
@@ -196,7 +200,7 @@ at-tick : {n : ℕ} {talk : Talk} → talk ≡ since n → At n talk
 at-tick {n} e = subst (At n) (sym e) refl
 
 -- a tick of which nothing is reported, where the talk is not at the limit
-silent : (talk : Talk) → (At 14999 talk → ⊥) → LimitAt tick quiet talk
+silent : (talk : Talk) → (At 14999 talk → ⊥) → FailsAt quiet talk
 silent talk none = ((λ e. absurd (no-failure e)), (λ e. absurd (none (at-tick e))))
 
 module _ (t : Talker) where
@@ -251,9 +255,26 @@ module _ (t : Talker) where
 
 -- ---- every call
 
+-- of one event, by its action: only a tick is asked
+abbrev LimitOf : Action → Outcome → Talk → Type 0
+LimitOf connect o talk = Unit
+LimitOf tick o talk = FailsAt o talk
+LimitOf hear o talk = Unit
+LimitOf repeat o talk = Unit
+LimitOf lose o talk = Unit
+LimitOf stop o talk = Unit
+LimitOf greet o talk = Unit
+LimitOf functionsHeard o talk = Unit
+
+kept-at : (e : Event) (past : List Event) → LimitOf (e .action) (e .outcome) (talkIn (e .side) past) → LimitAt e past
+kept-at e past l =
+    let of : e .action ≡ tick → FailsAt (e .outcome) (talkIn (e .side) past) =
+    λ q. subst (λ (x : Action). LimitOf x (e .outcome) (talkIn (e .side) past)) q l in
+    record { fails = λ m. of (m .0) .1 (m .1); only = λ q f. (q, of q .0 f) }
+
 abbrev Counted : Talk → Action → Told → Type 0
 Counted talk action a =
-    Stands (unlessReported (a .outcome) (talkAfter action talk)) (a .next) × LimitAt action (a .outcome) talk
+    Stands (unlessReported (a .outcome) (talkAfter action talk)) (a .next) × LimitOf action (a .outcome) talk
 
 done-counted : (talk : Talk) (t : Talker) (line : List (List ℕ)) (action : Action) → Stands talk t
     → Counted talk action (doneOf t line action .told)
@@ -277,10 +298,10 @@ step : (w : World) (events : List Event) → Times w events → (side : Side) (a
 unfolding stepAt talkIn
 step w events i Charger action =
     let k = done-counted (talkIn Charger events) (w .charger) (w .toCharger) action (i .charger) in
-    record { charger = k .0; vehicle = i .vehicle; limit = (k .1, i .limit) }
+    record { charger = k .0; vehicle = i .vehicle; limit = (kept-at _ events (k .1), i .limit) }
 step w events i Vehicle action =
     let k = done-counted (talkIn Vehicle events) (w .vehicle) (w .toVehicle) action (i .vehicle) in
-    record { charger = i .charger; vehicle = k .0; limit = (k .1, i .limit) }
+    record { charger = i .charger; vehicle = k .0; limit = (kept-at _ events (k .1), i .limit) }
 
 run : (calls : List Call) (p : Past) → Times (p .world) (p .events)
     → Times (runOf p calls .world) (runOf p calls .events)
@@ -291,11 +312,7 @@ run (c ∷ calls) p i = run calls (next p c) (step (p .world) (p .events) i (c .
 -- making answers S0
 made-stands : (side : Side) (v : Versions) (control : ℕ) (t : Talker) → makeOf side v control ≡ accepted t
     → Stands unconnected t
-unfolding makeOf
-made-stands side v control t e =
-    let taken = pick-accepted (isList v) (accepted (talking.fresh side v control)) 11 e in
-    let same : talking.fresh side v control ≡ t = cc (taken .1) in
-    subst (Stands unconnected) same refl
+made-stands side v control t e = subst (Stands unconnected) (made-is side v control t e .1) refl
 
 pub limit : Limit
 unfolding talkIn

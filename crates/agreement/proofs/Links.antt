@@ -60,10 +60,10 @@ emitted Q a (inr e) z o = rw (e .0, e .1) o
 
 -- what the end t answers, and what is left on the line to it from the other end, which is at version own
 record Kept (mine theirs : List ℕ) (P : Type 0) (own : ℕ) (t : Talker) (d : Done) : Type 0 where
-  good : Good mine theirs P (Caught own (d .left)) t (d .told)
-  fair : Line (FairBytes theirs mine P) (d .left)
-  falling : Falling own (d .left)
-  reaching : Line (AtLeast (ownVersion t)) (d .left)
+  good : Good mine theirs P (Caught own (d .rest)) t (d .told)
+  fair : Line (FairBytes theirs mine P) (d .rest)
+  falling : Falling own (d .rest)
+  reaching : Line (AtLeast (ownVersion t)) (d .rest)
 
 module _ (mine theirs : List ℕ) (P : Type 0) (small : Small mine) (rises : rising mine ≡ true)
     (lone : NoneShared mine theirs → P) where
@@ -131,7 +131,7 @@ module _ (mine theirs : List ℕ) (P : Type 0) (small : Small mine) (rises : ris
 
   -- after a call at the end t beside the other end, with the messages to t and from it
   pub record Acted (t peer : Talker) (out : List (List ℕ)) (d : Done) : Type 0 where
-    pub incoming : Link theirs mine P peer (d .told .next) (d .left)
+    pub incoming : Link theirs mine P peer (d .told .next) (d .rest)
     pub outgoing : Link mine theirs P (d .told .next) peer (out ++ emission (d .told .emits) (d .told .bytes))
     pub reports : Reports mine theirs P (d .told .outcome)
     pub falls : ownVersion (d .told .next) ≤ ownVersion t
@@ -140,7 +140,7 @@ module _ (mine theirs : List ℕ) (P : Type 0) (small : Small mine) (rises : ris
   module _ (t peer : Talker) (out : List (List ℕ)) (d : Done) (o : Link mine theirs P t peer out)
       (k : Kept mine theirs P (ownVersion peer) t d) where
     abbrev G : ℕ → Type 0
-    G = Caught (ownVersion peer) (d .left)
+    G = Caught (ownVersion peer) (d .rest)
 
     abbrev a : Told
     a = d .told

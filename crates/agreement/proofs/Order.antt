@@ -1,6 +1,6 @@
 -- Versions on the line fall: no message names a higher version than one before it, and the end that sent them names none
 -- higher now. So an end whose success stands, on a version that it heard, hears no other afterwards. And a success on the
--- line names no lower version than the end has that is to hear it.
+-- line names no lower version than the one at Ns of the end that is to hear it.
 -- Assumes nothing.
 use Prim.Native.Nat.{ℕ, _≤_}
 use mathlib.Core.List.{List, [], _∷_, _++_}

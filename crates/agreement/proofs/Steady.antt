@@ -3,9 +3,9 @@
 -- list, is a place that does not rise.
 -- Assumes nothing.
 use Prim.Native.Nat.{ℕ, _<_, _≤_}
-use mathlib.Core.Bool.{true}
+use mathlib.Core.Bool.{Bool, true, false, false≢true}
 use mathlib.Core.List.{List, _∷_}
-use mathlib.Core.Path.{_≡_, refl, subst}
+use mathlib.Core.Path.{_≡_, refl, ap, subst}
 use native.Mathlib.Omega.{arith}
 use borrow.Author.Tests.{eqb-false}
 use lib.Dec.{eqb}
@@ -24,10 +24,10 @@ use Rattle.version.specs.declared.Talker.{Talker}
 use Rattle.version.specs.declared.Verdict.{Verdict}
 use Rattle.version.specs.declared.Verdict.the-variants.{Continue, Success, Failure}
 use Rattle.agreement.specs.Agreement.{Holds}
-use Rattle.agreement.specs.Steady.{endOf, lineTo, unquestioned, First, Understood, Steadiness}
+use Rattle.agreement.specs.Steady.{endOf, unquestioned, First, Understood, Steadiness}
 use Rattle.agreement.specs.Step.{stepAt}
 use Rattle.agreement.specs.World.{World, Action, Event}
-use Rattle.agreement.proofs.Ends.{Line, more, Sure, End, owns, owns-at, FairOf, Fair, FairBytes}
+use Rattle.agreement.proofs.Ends.{Line, more, Sure, End, owns, owns-at, FairOf, Fair}
 use Rattle.agreement.proofs.Hears.{missing, NamesOf, Names}
 use Rattle.agreement.proofs.Links.{Link}
 use Rattle.agreement.proofs.Order.{AtMost, Caught, ReachesOf, Reaches}
@@ -35,6 +35,12 @@ use Rattle.agreement.proofs.Theorem.{Inv, Lists, by-charger, by-vehicle
 
 first : {Q : List ℕ → Type 0} {b : List ℕ} {bs : List (List ℕ)} → Line Q (b ∷ bs) → Q b
 first (more p l) = p
+
+-- a continue and a success are no failure
+abbrev isFailure : Verdict → Bool
+isFailure Continue = false
+isFailure Success = false
+isFailure Failure = true
 
 -- ---- the first message on the line to an end
 
@@ -46,23 +52,29 @@ module _ (mine theirs : List ℕ) (P : Type 0) (H : ℕ → Type 0) (t : Talker)
   same-place v same nowhere q = absurd (missing (standing (t .versions)) v q (rw same (rw (e .list) (owns mine theirs P H e))))
   same-place v same (here n) q = refl
 
+  -- where the own success stands, every version heard is the own one
+  own-again : Holds theirs (ownVersion t) → (verdict : Verdict) (v : ℕ) → NamesOf (λ w. w ≤ ownVersion t) verdict v
+      → FairOf theirs mine P verdict v
+      → (verdict ≡ Failure → ⊥)
+      → v ≡ ownVersion t
+  own-again k Continue v le f other = let ge = f .1 (ownVersion t) k (owns mine theirs P H e) in omega arith
+  own-again k Success v le f other = let ge = f .1 (ownVersion t) k (owns mine theirs P H e) in omega arith
+  own-again k Failure v le f other = absurd (other refl)
+
   own-success : (v : ℕ) → v ≡ ownVersion t → Quiet (successTrigger t v)
   unfolding successTrigger
   own-success v same =
       pick-elim Quiet (eqb v (ownVersion t)) (λ yes. pick-elim Quiet _ (λ low. refl) (λ high. refl))
       (λ other. absurd (eqb-false v (ownVersion t) other same))
 
-  -- where the own success stands
+  -- so that the column is that of the same version
   own-heard : Holds theirs (ownVersion t) → (verdict : Verdict) (v : ℕ) → NamesOf (λ w. w ≤ ownVersion t) verdict v
       → FairOf theirs mine P verdict v
       → Quiet (heardTrigger t v verdict)
   unfolding heardTrigger continueTrigger
   own-heard k Continue v le f =
-      let ge = f .1 (ownVersion t) k (owns mine theirs P H e) in
-      same-place v (omega arith) (find (t .versions) v) refl
-  own-heard k Success v le f =
-      let ge = f .1 (ownVersion t) k (owns mine theirs P H e) in
-      own-success v (omega arith)
+      same-place v (own-again k Continue v le f (λ q. false≢true (ap isFailure q))) (find (t .versions) v) refl
+  own-heard k Success v le f = own-success v (own-again k Success v le f (λ q. false≢true (ap isFailure q)))
   own-heard k Failure v le f = refl
 
   -- where a success is heard
@@ -80,15 +92,26 @@ module _ (mine theirs : List ℕ) (P : Type 0) (peer t : Talker) (bytes : List �
   abbrev H : ℕ → Type 0
   H = Caught (ownVersion peer) (bytes ∷ rest)
 
-  standing-hears : t .verdict ≡ Success → (m : Message) → readOf bytes ≡ accepted m
-      → unquestioned (heardTrigger t (m .version) (m .verdict)) ≡ true
-  standing-hears s m q =
-      let sure : Sure mine theirs P H Success (ownVersion t) =
-      subst (λ (x : Verdict). Sure mine theirs P H x (ownVersion t)) s (k .end .sure) in
-      let low : AtMost (ownVersion t) bytes = first (sure .1 .1) in
-      own-heard mine theirs P H t (k .end) (sure .0) (m .verdict) (m .version)
-      (subst (Names (λ w. w ≤ ownVersion t)) q low)
-      (subst (Fair theirs mine P) q (first (k .fair)))
+  standing-sure : t .verdict ≡ Success → Sure mine theirs P H Success (ownVersion t)
+  standing-sure s = subst (λ (x : Verdict). Sure mine theirs P H x (ownVersion t)) s (k .end .sure)
+
+  -- what is known of the first message, as it is read
+  module _ (s : t .verdict ≡ Success) (m : Message) (q : readOf bytes ≡ accepted m) where
+    named-low : NamesOf (λ w. w ≤ ownVersion t) (m .verdict) (m .version)
+    named-low =
+        let low : AtMost (ownVersion t) bytes = first (standing-sure s .1 .1) in
+        subst (Names (λ w. w ≤ ownVersion t)) q low
+
+    fair-as-read : FairOf theirs mine P (m .verdict) (m .version)
+    fair-as-read = subst (Fair theirs mine P) q (first (k .fair))
+
+    stands-on : unquestioned (heardTrigger t (m .version) (m .verdict)) ≡ true
+    stands-on =
+        own-heard mine theirs P H t (k .end) (standing-sure s .0) (m .verdict) (m .version) named-low fair-as-read
+
+    hears-again : (m .verdict ≡ Failure → ⊥) → m .version ≡ ownVersion t
+    hears-again other =
+        own-again mine theirs P H t (k .end) (standing-sure s .0) (m .verdict) (m .version) named-low fair-as-read other
 
   success-named : (m : Message) → readOf bytes ≡ accepted m → m .verdict ≡ Success → m .version ≡ ownVersion t
   success-named m q s =
@@ -155,7 +178,11 @@ steady versions versions′ eight eight′ control control′ charger vehicle ma
       stands = λ side s bytes f.
           of (λ t x. t .verdict ≡ Success → (m : Message) → readOf x ≡ accepted m
           → unquestioned (heardTrigger t (m .version) (m .verdict)) ≡ true)
-          (λ mine theirs peer t x rest k. standing-hears mine theirs Unit peer t x rest k) side bytes f s;
+          (λ mine theirs peer t x rest k. stands-on mine theirs Unit peer t x rest k) side bytes f s;
+      again = λ side s bytes f.
+          of (λ t x. t .verdict ≡ Success → (m : Message) → readOf x ≡ accepted m → (m .verdict ≡ Failure → ⊥)
+          → m .version ≡ ownVersion t)
+          (λ mine theirs peer t x rest k. hears-again mine theirs Unit peer t x rest k) side bytes f s;
       consistent =
           of (λ t x. (m : Message) → readOf x ≡ accepted m → m .verdict ≡ Success → m .version ≡ ownVersion t)
           (λ mine theirs peer t x rest k. success-named mine theirs Unit peer t x rest k);

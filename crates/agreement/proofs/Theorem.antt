@@ -1,19 +1,18 @@
 -- E5: what holds of both ends and of both lists of messages between them holds from the start on along every list of calls
 -- (Links), and the promise is read off it: each version reported stands in both lists and is at or above every shared one, so
--- that two of them are equal; and a failure has its reason. The reason is one for the whole run.
+-- that two of them are equal; and a failure has its reason: no version is shared, unless a limit or a greeting was met. The
+-- reason is stated once, of the events of the whole run.
 -- Assumes nothing.
 use Prim.Native.Nat.{ℕ, _<_, _≤_, _-_}
 use mathlib.Core.Bool.{true}
 use mathlib.Core.List.{List, [], _∷_}
 use mathlib.Core.Logic.{_⊎_, inl, inr, ⊎-elim}
-use mathlib.Core.Path.{_≡_, refl, ap, _∙_, subst}
-use native.Mathlib.Nat.{eq-or-lt-of-le}
+use mathlib.Core.Path.{_≡_, refl, subst}
 use native.Mathlib.Omega.{arith}
 use lib.ListN.{length, getD}
-use Rattle.frame.proofs.Choice.{pick-accepted}
 use Rattle.frame.specs.Result.{accepted}
-use Rattle.version.proofs.Places.{Standing, list-stands, listed-stands, listed-eight}
-use Rattle.version.specs.List.{at, standing, rising, isList, listOf, versionsIn}
+use Rattle.version.proofs.Places.{Standing, at-standing, made-is, most-by, list-stands, listed-stands, listed-eight}
+use Rattle.version.specs.List.{at, standing, rising, versionsIn}
 use Rattle.version.specs.Talk as talking
 use Rattle.version.specs.Talk.{makeOf}
 use Rattle.version.specs.Told as told
@@ -25,10 +24,10 @@ use Rattle.version.specs.declared.Versions.{Versions}
 use Rattle.agreement.specs.Agreement.{NoneShared, HighestShared, Promise, Promised, Agreement, AgreementOfLent, EachSettled, StopsAside}
 use Rattle.agreement.specs.Limit.{LimitAt, LimitKept}
 use Rattle.agreement.specs.Run.{Past, fresh, next, runOf}
-use Rattle.agreement.specs.Seen.{Seen, now, before, Never, Reported, MeetsLimit, MeetsGreeting, talkIn}
+use Rattle.agreement.specs.Seen.{Seen, now, before, Never, Reported, MeetsLimit, MeetsGreeting}
 use Rattle.agreement.specs.Step.{doneOf, stepAt}
-use Rattle.agreement.specs.World.{World, Action, tick, Call, Event}
-use Rattle.agreement.proofs.Ends.{none, End, Reports, Small, at-standing}
+use Rattle.agreement.specs.World.{World, Action, Call, Event}
+use Rattle.agreement.proofs.Ends.{none, End, Reports, Small}
 use Rattle.agreement.proofs.Limit.{limit}
 use Rattle.agreement.proofs.Links.{Excused, Link, Acted, act}
 use Rattle.agreement.proofs.Order as order
@@ -130,12 +129,6 @@ seen-some (before s) = tt
 
 -- the last version of a rising list is at or above every other
 module _ (v : Versions) (s : Standing v) where
-  at-last : (i : ℕ) → i < length (standing v) → getD (standing v) i 0 ≤ getD (standing v) (v .count - 1) 0
-  at-last i h =
-      ⊎-elim (λ same. omega (arith, ap (λ (x : ℕ). getD (standing v) x 0) same))
-      (λ less. omega (arith, s .below i (v .count - 1) less (omega (arith, s .whole, s .some))))
-      (eq-or-lt-of-le {n = i} {m = v .count - 1} (omega (arith, s .whole)))
-
   made-end : (side : Side) (control : ℕ) (theirs : List ℕ) (P : Type 0) (H : ℕ → Type 0)
       → End (standing v) theirs P H (talking.fresh side v control)
   made-end side control theirs P H =
@@ -144,24 +137,21 @@ module _ (v : Versions) (s : Standing v) where
       record {
         list = refl;
         inside = inside;
-        above = λ c h k. let le = at-last (h .place) (h .inside) in omega (arith, is, h .is);
+        above = λ c h k.
+            let le =
+            most-by (standing v) (s .rises) (h .place) (v .count - 1) (h .inside) inside
+            (λ beyond. omega (arith, s .whole, h .inside)) in
+            omega (arith, is, h .is);
         sure = tt;
       }
 
 module _ (side : Side) (v : Versions) (eight : length (v .numbers) ≡ 8) (control : ℕ) (t : Talker)
     (made : makeOf side v control ≡ accepted t) where
-  taken : (isList v ≡ true) × (talking.fresh side v control ≡ t)
-  unfolding makeOf
-  taken =
-      let both = pick-accepted (isList v) (accepted (talking.fresh side v control)) 11 made in
-      let same : talking.fresh side v control ≡ t = cc (both .1) in
-      (both .0, same)
-
   pub stood : Standing v
-  stood = list-stands v eight (taken .0)
+  stood = list-stands v eight (made-is side v control t made .0)
 
   started : (theirs : List ℕ) (P : Type 0) (H : ℕ → Type 0) → End (standing v) theirs P H t
-  started theirs P H = subst (End (standing v) theirs P H) (taken .1) (made-end v stood side control theirs P H)
+  started theirs P H = subst (End (standing v) theirs P H) (made-is side v control t made .1) (made-end v stood side control theirs P H)
 
 -- what holds after every list of calls from fresh ends
 module _ (versions versions′ : Versions) (eight : length (versions .numbers) ≡ 8) (eight′ : length (versions′ .numbers) ≡ 8)
@@ -205,19 +195,15 @@ module _ (versions versions′ : Versions) (eight : length (versions .numbers) �
 abbrev Reason : List ℕ → List ℕ → List Event → Type 0
 Reason a b events = Never MeetsLimit events → Never MeetsGreeting events → NoneShared a b
 
--- a failure that a tick made met the limit
-tick-met : (action : Action) (o : Outcome) (e : Event) (past : List Event) → e .action ≡ action → e .outcome ≡ o
-    → LimitAt action o (talkIn (e .side) past)
-    → Excused action o
+-- a failure that a tick made met the limit, one that a greeting made met a greeting
+tick-met : (e : Event) (past : List Event) → LimitAt e past → Excused (e .action) (e .outcome)
     → MeetsLimit e past ⊎ MeetsGreeting e past
-tick-met action o e past q r l (inl is, f) =
-    let kept : LimitAt tick o (talkIn (e .side) past) = rw is at l in
-    inl (q ∙ is, kept .0 f)
-tick-met action o e past q r l (inr is, f) = inr (q ∙ is, r ∙ f)
+tick-met e past l (inl is, f) = inl (l .only is f)
+tick-met e past l (inr is, f) = inr (is, f)
 
 met : {events : List Event} → LimitKept events → ExcusedIn events → Seen MeetsLimit events ⊎ Seen MeetsGreeting events
 met (l, k) (now {e} {past} x) =
-    ⊎-elim (λ m. inl (now m)) (λ m. inr (now m)) (tick-met (e .action) (e .outcome) e past refl refl l x)
+    ⊎-elim (λ m. inl (now m)) (λ m. inr (now m)) (tick-met e past l x)
 met (l, k) (before s) = ⊎-elim (λ m. inl (before m)) (λ m. inr (before m)) (met k s)
 
 module _ {a b : List ℕ} {w : World} {events : List Event} (i : Inv a b (Reason a b events) w events) where

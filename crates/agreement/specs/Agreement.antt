@@ -1,12 +1,12 @@
--- Document 02, E5, as one claim about every list of calls from fresh ends, refused ones and such as find nothing to do
--- included:
---   settled    where both ends have reported success, each names a version (001, tables 8 and 9: S2 or S3): it is one and the
---              same, both lists have it, and whatever else both lists have is lower
---   unshared   where an end has reported failure, and neither met the 15 s limit, a stop or a greeting, there is no version
---              that both lists have
---   Agreement  this of the events after any calls whatever, so at every moment of every run
---   stepOf     the line gives messages in the order and shape in which they were emitted, and no others; it may lose any and
---              repeat any
+-- Document 02, E5, as one claim about every list of calls from fresh ends; calls that find nothing to do are among them:
+--   settled    where both ends have reported success, each names a version with it (001, tables 8 and 9: S2 or S3). It is one
+--              and the same, both lists have it, and whatever else both lists have is lower
+--   unshared   where an end has reported failure, and no limit, stop or greeting was met at either, there is no version that
+--              both lists have
+--   Agreement  this of the events after any calls whatever, so at every moment of every run; what is met later takes nothing
+--              back, since the lists stay
+--   stepOf     (Step.antt) the line gives messages in the order and shape in which they were emitted, and no others; it may
+--              lose any and repeat any
 use Prim.Native.Nat.{ℕ, _<_}
 use mathlib.Core.List.{List}
 use mathlib.Core.Path.{_≡_}
@@ -18,7 +18,7 @@ use Rattle.agreement.specs.Run.{Past, runOf, FromFresh, FromLent}
 use Rattle.agreement.specs.Seen.{Never, Reported, MeetsLimit, MeetsStop, MeetsGreeting}
 use Rattle.agreement.specs.World.{Call, Event}
 
--- a version stands in a list
+-- E5, "in both lists": a version stands in a list
 pub record Holds (versions : List ℕ) (version : ℕ) : Type 0 where
   pub place : ℕ
   pub inside : place < length versions
@@ -56,17 +56,22 @@ Agreement = FromFresh Promised
 abbrev pub AgreementOfLent : Type 0
 AgreementOfLent = FromLent Promised
 
--- More than E5 asks: a success of one end alone already names that version.
-abbrev pub EachSettled : Type 0
-EachSettled =
-    FromFresh (λ charger vehicle p calls. (side : Side) (version : ℕ) → Reported side (agreed version) (runOf p calls .events)
-    → HighestShared charger vehicle version)
+-- ---- more than E5 asks
 
--- E5 excepts a stop, too. It need not: a stopped end reports no failure and says nothing more, so that the other can fail by
--- the limit alone.
+-- a success of one end alone already names the highest shared version
+abbrev pub EachNames : List ℕ → List ℕ → List Event → Type 0
+EachNames charger vehicle events =
+    (side : Side) (version : ℕ) → Reported side (agreed version) events → HighestShared charger vehicle version
+
+abbrev pub EachSettled : Type 0
+EachSettled = FromFresh (λ charger vehicle p calls. EachNames charger vehicle (runOf p calls .events))
+
+-- A stop need not be excepted: a stopped end reports no failure and says nothing more. Where a version is shared, the other
+-- can then fail by the limit or a greeting alone.
+abbrev pub UnsharedThoughStopped : List ℕ → List ℕ → List Event → Type 0
+UnsharedThoughStopped charger vehicle events =
+    (side : Side) → Reported side failed events → Never MeetsLimit events → Never MeetsGreeting events
+    → NoneShared charger vehicle
+
 abbrev pub StopsAside : Type 0
-StopsAside =
-    FromFresh (λ charger vehicle p calls. (side : Side) → Reported side failed (runOf p calls .events)
-    → Never MeetsLimit (runOf p calls .events)
-    → Never MeetsGreeting (runOf p calls .events)
-    → NoneShared charger vehicle)
+StopsAside = FromFresh (λ charger vehicle p calls. UnsharedThoughStopped charger vehicle (runOf p calls .events))

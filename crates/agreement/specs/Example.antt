@@ -15,6 +15,7 @@ use Rattle.version.specs.declared.Side.the-variants.{Charger, Vehicle}
 use Rattle.version.specs.declared.State.{State}
 use Rattle.version.specs.declared.State.the-variants.{S0, S2, S3, S4}
 use Rattle.agreement.specs.Run.{Past, fresh, runOf}
+use Rattle.agreement.specs.Seen.{Never, MeetsLimit, MeetsStop, MeetsGreeting}
 use Rattle.agreement.specs.World.{Action, connect, tick, hear, repeat, lose, Call, Event}
 
 -- what an end reported
@@ -25,6 +26,7 @@ pub record Report : Type 0 where
 abbrev pub reports : Side → Outcome → Report
 reports side outcome = record { side = side; outcome = outcome }
 
+-- what a call reports, before what comes after; a refusal would be seen here, too
 abbrev pub reportedBefore : Side → Outcome → List Report → List Report
 reportedBefore side quiet after = after
 reportedBefore side (refused number) after = reports side (refused number) ∷ after
@@ -59,6 +61,12 @@ pub record Witness (versions versions′ : List ℕ) (calls : List Call) (ends :
   pub made′ : makeOf Vehicle (placed versions′) 0 ≡ accepted (talking.fresh Vehicle (placed versions′) 0)
   pub is : endingOf (runOf (versus versions versions′) calls) ≡ ends
 
+-- no limit, stop or greeting is met
+pub record Uncut (events : List Event) : Type 0 where
+  pub limit : Never MeetsLimit events
+  pub stop : Never MeetsStop events
+  pub greeting : Never MeetsGreeting events
+
 -- ---- the calls
 
 abbrev pub charger : Action → Call
@@ -83,17 +91,17 @@ talkCalls =
     ∷ vehicle hear
     ∷ []
 
--- The vehicle's first message is heard twice, the first time before the charger has connected. The charger's first is lost,
--- and then the vehicle finds nothing to hear; the charger's second is heard twice. The vehicle's first success is lost; its
--- second is heard twice, the second time after the charger has settled.
+-- The vehicle's first message is heard twice, the first time before the charger has connected; then the charger finds nothing
+-- to hear. The charger's first message is lost, its second is heard twice. The vehicle's first success is lost; its second is
+-- heard twice, the second time after the charger has settled.
 abbrev pub lossyCalls : List Call
 lossyCalls =
     vehicle connect
     ∷ charger repeat
     ∷ charger connect
     ∷ charger hear
+    ∷ charger hear
     ∷ vehicle lose
-    ∷ vehicle hear
     ∷ replicate 50 (charger tick)
     ++ vehicle repeat
     ∷ vehicle hear
@@ -132,5 +140,7 @@ pub record Examples : Type 0 where
   -- no version is in both lists
   pub apart : Witness (0x020000 ∷ []) (0x010100 ∷ []) apartCalls
       (ending (reports Charger failed ∷ reports Vehicle failed ∷ []) S4 S4)
+  -- and there no limit, stop or greeting is met
+  pub uncut : Uncut (runOf (versus (0x020000 ∷ []) (0x010100 ∷ [])) apartCalls .events)
   -- both have the same list, and the charger meets the limit
   pub silent : Witness (0x020000 ∷ []) (0x020000 ∷ []) silentCalls (ending (reports Charger failed ∷ []) S4 S0)

@@ -1,4 +1,4 @@
--- Document 02, E5, "from fresh ends": a whole list of calls, begun by two talkers just made.
+-- Document 02, E5, "from fresh ends": a whole list of calls that starts from two talkers just made and an empty line.
 use Prim.Native.Nat.{ℕ}
 use mathlib.Core.List.{List, [], _∷_}
 use mathlib.Core.Path.{_≡_}
@@ -29,8 +29,8 @@ unfoldable pub runOf : Past → List Call → Past
 runOf p [] = p
 runOf p (c ∷ calls) = runOf (next p c) calls
 
--- What is said of two lists of versions, the charger's first, and of every list of calls: by the ends that making answers,
--- from whatever versions in eight places it takes, with any control-pilot bytes.
+-- What is said of any two lists of versions that making takes (document 01, Refusals, by place, version list), the charger's
+-- first, each in its array of eight places, and of any control-pilot bytes and every list of calls.
 abbrev pub FromFresh : (List ℕ → List ℕ → Past → List Call → Type 0) → Type 0
 FromFresh Says =
     (versions versions′ : Versions)
@@ -42,7 +42,7 @@ FromFresh Says =
     → (calls : List Call)
     → Says (standing versions) (standing versions′) (fresh charger vehicle) calls
 
--- the same of lists lent as bytes, three for each version, that listing takes
+-- the same of lists lent as bytes, three for each version, that listing takes: they are spoken of as they were lent
 abbrev pub FromLent : (List ℕ → List ℕ → Past → List Call → Type 0) → Type 0
 FromLent Says =
     (lent lent′ : List ℕ) (versions versions′ : Versions)

@@ -1,5 +1,6 @@
 -- What the events of a run show: what an end has reported, and whether one met the 15 s limit, a stop or an old-protocol
--- greeting (document 02, E5). Nothing here looks at an end's state.
+-- greeting (document 02, E5). Nothing here looks at an end's state. Each of the three is read as narrowly as it can be, so that
+-- least is excused.
 use Prim.Native.Nat.{ℕ, _+_}
 use mathlib.Core.List.{List, [], _∷_}
 use mathlib.Core.Path.{_≡_}
@@ -22,8 +23,8 @@ Reported side o events = Seen (λ e past. (e .side ≡ side) × (e .outcome ≡ 
 
 -- ---- the 15 s limit
 
--- how far an end's talk has come: it is not connected; or so many ticks of its own have passed since its connect; or it is
--- over, since the end has reported
+-- How far an end's talk has come: it is not connected; or so many ticks of its own have passed since its connect, which sends
+-- its first message and starts Tout0 (001, tables 8 and 9, S0); or it is over, since the end has reported.
 pub data Talk : Type 0 where
   unconnected : Talk
   since : (ticks : ℕ) → Talk
@@ -35,7 +36,7 @@ opened unconnected = since 0
 opened (since ticks) = since ticks
 opened over = over
 
--- a tick, which is 1 ms
+-- a tick is 1 ms (document 01, Around the transport, version talk)
 abbrev pub ticked : Talk → Talk
 ticked unconnected = unconnected
 ticked (since ticks) = since (ticks + 1)
@@ -51,7 +52,7 @@ talkAfter stop talk = talk
 talkAfter greet talk = talk
 talkAfter functionsHeard talk = talk
 
--- a report ends it
+-- a report ends it: success, failure, or that the end has left
 abbrev pub unlessReported : Outcome → Talk → Talk
 unlessReported quiet talk = talk
 unlessReported (refused number) talk = talk
@@ -70,16 +71,22 @@ unfoldable pub talkIn : Side → List Event → Talk
 talkIn side [] = unconnected
 talkIn side (e ∷ past) = talkAt side (e .side) (e .action) (e .outcome) (talkIn side past)
 
+-- 14999 ticks have passed: the next, tick 15000, is at 15 s
+abbrev pub beforeLimit : Talk
+beforeLimit = since 14999
+
 -- an end meets the limit: this is its tick 15000 since its connect, and it has not reported before
 abbrev pub MeetsLimit : Event → List Event → Type 0
-MeetsLimit e past = (e .action ≡ tick) × (talkIn (e .side) past ≡ since 14999)
+MeetsLimit e past = (e .action ≡ tick) × (talkIn (e .side) past ≡ beforeLimit)
 
 -- ---- a stop, a greeting
 
--- a stop ends an end's talk; one that finds it not begun, or over, changes nothing and is not met
+-- A stop (001, tables 8 and 9, the fault's column) ends an end's talk. One that finds it not begun, or over, changes nothing
+-- and is not met.
 abbrev pub MeetsStop : Event → List Event → Type 0
 MeetsStop e past = (e .action ≡ stop) × (e .outcome ≡ left)
 
--- the old protocol's greeting ends an end's talk, in the same sense
+-- The old protocol's greeting (001, table 9, the CHM's column) ends the vehicle's talk, begun or not. At the charger, and once
+-- the talk is over, it changes nothing and is not met.
 abbrev pub MeetsGreeting : Event → List Event → Type 0
 MeetsGreeting e past = (e .action ≡ greet) × (e .outcome ≡ failed)

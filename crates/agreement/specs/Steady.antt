@@ -1,6 +1,8 @@
--- What follows for both ends at every moment of a run from fresh ends; tables 8 and 9 of 001.
---   stands      an end whose result is success hears that version again, or a failure: no continue that is lower or higher,
---               so that what the result becomes there makes no difference between two such ends
+-- What follows for both ends at every moment of a run from fresh ends. E5 does not ask it; it says which cells of 001, tables 8
+-- and 9, two such ends never come to.
+--   stands      an end whose result is success hears no continue that is lower or higher, and no other success: so what the
+--               result becomes in the cells of lower and higher, which document 01 leaves open, makes no difference here
+--   again       it hears the version at Ns again, or a failure
 --   consistent  a success that is heard names the version at Ns
 --   understood  no message is refused
 --   falls       Ns never rises, whatever is called
@@ -17,7 +19,7 @@ use Rattle.version.specs.declared.Message.{Message}
 use Rattle.version.specs.declared.Side.{Side}
 use Rattle.version.specs.declared.Side.the-variants.{Charger, Vehicle}
 use Rattle.version.specs.declared.Talker.{Talker}
-use Rattle.version.specs.declared.Verdict.the-variants.{Success}
+use Rattle.version.specs.declared.Verdict.the-variants.{Success, Failure}
 use Rattle.agreement.specs.Run.{runOf, FromFresh}
 use Rattle.agreement.specs.Step.{stepOf}
 use Rattle.agreement.specs.World.{World, Call}
@@ -31,7 +33,7 @@ abbrev pub lineTo : World → Side → List (List ℕ)
 lineTo w Charger = w .toCharger
 lineTo w Vehicle = w .toVehicle
 
--- the columns of a hearing that leave a success as it is, or end the talk
+-- the columns of a hearing in which the result stays success, or the talk ends
 abbrev pub unquestioned : Trigger → Bool
 unquestioned connected = false
 unquestioned periodDue = false
@@ -61,6 +63,10 @@ pub record Steady (w : World) : Type 0 where
   pub stands : (side : Side) → endOf w side .verdict ≡ Success
       → (bytes : List ℕ) → First w side bytes → (m : Message) → readOf bytes ≡ accepted m
       → unquestioned (heardTrigger (endOf w side) (m .version) (m .verdict)) ≡ true
+  pub again : (side : Side) → endOf w side .verdict ≡ Success
+      → (bytes : List ℕ) → First w side bytes → (m : Message) → readOf bytes ≡ accepted m
+      → (m .verdict ≡ Failure → ⊥)
+      → m .version ≡ ownVersion (endOf w side)
   pub consistent : (side : Side) (bytes : List ℕ) → First w side bytes → (m : Message) → readOf bytes ≡ accepted m
       → m .verdict ≡ Success
       → m .version ≡ ownVersion (endOf w side)

@@ -13,10 +13,10 @@ use Rattle.agreement.specs.World.{World, Action, connect, tick, hear, re
 -- what an end told, and what is left of the messages on their way to it
 pub record Done : Type 0 where
   pub told : Told
-  pub left : List (List ℕ)
+  pub rest : List (List ℕ)
 
 abbrev pub done : Told → List (List ℕ) → Done
-done told left = record { told = told; left = left }
+done told rest = record { told = told; rest = rest }
 
 -- what is left of a list whose first message was given: hear removes it, repeat does not
 pub data Rest : Type 0 where
@@ -59,8 +59,7 @@ pub record Stepped : Type 0 where
   pub event : Event
 
 abbrev pub seenOf : Side → Action → Told → Event
-seenOf side action t =
-    record { side = side; action = action; emitted = emission (t .emits) (t .bytes); outcome = t .outcome }
+seenOf side action t = record { side = side; action = action; outcome = t .outcome }
 
 -- a call at the charger: what it emits is the last on its way to the vehicle
 abbrev pub byCharger : World → Action → Done → Stepped
@@ -70,7 +69,7 @@ byCharger w action d =
           record {
             charger = d .told .next;
             vehicle = w .vehicle;
-            toCharger = d .left;
+            toCharger = d .rest;
             toVehicle = w .toVehicle ++ emission (d .told .emits) (d .told .bytes);
           };
       event = seenOf Charger action (d .told);
@@ -85,11 +84,12 @@ byVehicle w action d =
             charger = w .charger;
             vehicle = d .told .next;
             toCharger = w .toCharger ++ emission (d .told .emits) (d .told .bytes);
-            toVehicle = d .left;
+            toVehicle = d .rest;
           };
       event = seenOf Vehicle action (d .told);
     }
 
+-- a call, by the end at which it is made
 unfoldable pub stepAt : World → Side → Action → Stepped
 stepAt w Charger action = byCharger w action (doneOf (w .charger) (w .toCharger) action)
 stepAt w Vehicle action = byVehicle w action (doneOf (w .vehicle) (w .toVehicle) action)

@@ -12,12 +12,15 @@ use native.Mathlib.Omega.{arith}
 use borrow.Author.Tests.{leb-true, ltb-true, ltb-false, eqb-true, eqb-false}
 use lib.Dec.{eqb, leb, ltb}
 use lib.ListN.{length, getD, replicate, length-take, length-append, length-replicate}
-use lib.Seq.{take-take, take-append-seam}
+use lib.Seq.{getD-take, take-take, take-append-seam}
 use Rattle.frame.proofs.Choice.{pick-accepted, both-left, both-right}
 use Rattle.frame.specs.Choice.{pick}
 use Rattle.frame.specs.Count.{within}
 use Rattle.frame.specs.Result.{accepted}
-use Rattle.version.specs.List.{versionsIn, rising, threeBytes, placed, standing, isList, isLent, listOf, Place, nowhere, here, orElse, placeOf, placeBelow}
+use Rattle.version.specs.List.{at, versionsIn, rising, threeBytes, placed, standing, isList, isLent, listOf, Place, nowhere, here, orElse, placeOf, placeBelow}
+use Rattle.version.specs.Talk.{fresh, makeOf}
+use Rattle.version.specs.declared.Side.{Side}
+use Rattle.version.specs.declared.Talker.{Talker}
 use Rattle.version.specs.declared.Versions.{Versions}
 
 -- ---- an accepted list
@@ -118,6 +121,19 @@ listed-eight bytes v h =
     let s : List ℕ = versionsIn bytes in
     let same : placed s ≡ v = cc (pick-accepted (isLent bytes s) (accepted (placed s)) 11 h .1) in
     subst (λ (x : Versions). length (x .numbers) ≡ 8) same (placed-eight s)
+
+-- the version at a place that stands
+pub at-standing : (v : Versions) (p : ℕ) → p < length (standing v) → getD (standing v) p 0 ≡ at v p
+at-standing v p h = getD-take (v .count) (v .numbers) p 0 (omega (arith, length-take (v .count) (v .numbers)))
+
+-- what making takes is a list, and what it answers is fresh
+pub made-is : (side : Side) (v : Versions) (control : ℕ) (t : Talker) → makeOf side v control ≡ accepted t
+    → (isList v ≡ true) × (fresh side v control ≡ t)
+unfolding makeOf
+made-is side v control t h =
+    let taken = pick-accepted (isList v) (accepted (fresh side v control)) 11 h in
+    let same : fresh side v control ≡ t = cc (taken .1) in
+    (taken .0, same)
 
 -- ---- the place of a version
 
@@ -257,7 +273,8 @@ pub record Highest (s : List ℕ) (version p : ℕ) : Type 0 where
   pub most : (i : ℕ) → i < length s → getD s i 0 < version → getD s i 0 ≤ getD s p 0
 
 module _ (s : List ℕ) (up : rising s ≡ true) where
-  most-by : (i k : ℕ) → i < length s → k < length s → (k < i → ⊥) → getD s i 0 ≤ getD s k 0
+  -- the later place has the higher version
+  pub most-by : (i k : ℕ) → i < length s → k < length s → (k < i → ⊥) → getD s i 0 ≤ getD s k 0
   most-by i k l m other =
       ⊎-elim (λ same. omega (arith, ap (λ (x : ℕ). getD s x 0) same)) (λ less. omega (arith, rising-below s up i k less m))
       (eq-or-lt-of-le {n = i} {m = k} (omega arith))

@@ -11,12 +11,12 @@ use borrow.Author.Tests.{leb-false, ltb-true, ltb-false, eqb-true, eqb-false, le
 use lib.Dec.{eqb, leb, ltb}
 use lib.ListN.{length-take}
 use lib.Seq.{getD-take}
-use Rattle.frame.proofs.Choice.{pick-elim, pick-accepted}
+use Rattle.frame.proofs.Choice.{pick-elim}
 use Rattle.frame.specs.Count.{incrementOf}
 use Rattle.frame.specs.Result.{Result, accepted, refused}
 use Rattle.version.proofs.Cells.{Cell, rests, negotiates, starts, declines, goes-on, cell-is}
 use Rattle.version.proofs.Inverse.{read-written}
-use Rattle.version.proofs.Places.{list-is, three-bytes, place-of-holds, place-below-highest}
+use Rattle.version.proofs.Places.{made-is, list-is, three-bytes, place-of-holds, place-below-highest}
 use Rattle.version.specs.Calls.{Call, connect, tick, hear, stop, greet, functionsHeard, answerOf}
 use Rattle.version.specs.List.{versionOf, isList, standing, Place, nowhere, here, find, findBelow}
 use Rattle.version.specs.Message.{readOf}
@@ -42,12 +42,10 @@ Keeps a = Within (a .next)
 
 makes : (side : Side) (v : Versions) (control : ℕ) (t : Talker) → makeOf side v control ≡ accepted t
     → Within t
-unfolding makeOf
 makes side v control t e =
-    let taken = pick-accepted (isList v) (accepted (fresh side v control)) 11 e in
-    let same : fresh side v control ≡ t = cc (taken .1) in
+    let taken = made-is side v control t e in
     let list = list-is v (taken .0) in
-    subst Within same
+    subst Within (taken .1)
     (record {
       versions = taken .0;
       place = omega (arith, list .some);
