@@ -353,8 +353,8 @@ uint32_t kospelna_vehicle_version_identifier(void);
  *   - two that report agreed, be it in S2 or in S3, report one version: the highest of those that stand in both lists;
  *   - if one of them reports failed, the lists have no version in common, unless a talker had come to its limit (it fails at a
  *     tick then), was stopped or was greeted.
- * Of one agreed alone nothing is promised: the charger's last message may be lost, and then the vehicle fails by its limit
- * though the charger has agreed. A failure by the limit, a stop or a greeting says nothing of the lists.
+ * One that reports agreed alone names that version, too, but the other may still fail: the charger's last message may be lost,
+ * and then the vehicle fails by its limit. A failure by the limit, a stop or a greeting says nothing of the lists.
  */
 #define KOSPELNA_VERSION(major, minor, temporary) \
     ((uint32_t)(major) << 16 | (uint32_t)(minor) << 8 | (uint32_t)(temporary))

@@ -15,7 +15,7 @@ use Rattle.version.proofs.Places.{at-standing, place-of-holds, place-of-none, p
 use Rattle.version.specs.List.{at, standing, rising, Place, nowhere, here, placeOf, find, findBelow}
 use Rattle.version.specs.Message.{readOf}
 use Rattle.version.specs.Table.{Trigger, connected, periodDue, greeted, stopped, limitDue, Entry, fails, vehicleS1, cellOf}
-use Rattle.version.specs.Talk.{doing, triggered, connectOf, stopOf, greetOf, functionsState, functionsHeardOf, successTrigger, higherTrigger, elseTrigger, continueAt, continueTrigger, heardTrigger, hearJudged, hearOf, aged, tickTalking, tickSettled, tickState, tickOf}
+use Rattle.version.specs.Talk.{placeOr, doing, triggered, connectOf, stopOf, greetOf, functionsState, functionsHeardOf, successTrigger, higherTrigger, elseTrigger, continueAt, continueTrigger, heardTrigger, hearJudged, hearOf, aged, tickTalking, tickSettled, tickState, tickOf}
 use Rattle.version.specs.Told.{Told, failed, ownVersion}
 use Rattle.version.specs.declared.Message.{Message}
 use Rattle.version.specs.declared.State.{State}
@@ -47,7 +47,8 @@ module _ (mine theirs : List ℕ) (P : Type 0) (H : ℕ → Type 0) (rises : ris
   kept : (t : Talker) (c : ℕ) → End mine theirs P H t → Holds mine c → Holds (standing (t .versions)) c
   kept t c e h = rw (e .list) h
 
-  lower-sure : (verdict : Verdict) (v w : ℕ) → (Holds theirs v → ⊥) → Sure mine theirs P H verdict v → Sure mine theirs P H verdict w
+  lower-sure : (verdict : Verdict) (v w : ℕ) → (Holds theirs v → ⊥) → Sure mine theirs P H verdict v
+      → Sure mine theirs P H verdict w
   lower-sure Continue v w no-other s = tt
   lower-sure Success v w no-other s = absurd (no-other (s .0))
   lower-sure Failure v w no-other s = s
@@ -89,7 +90,7 @@ module _ (mine theirs : List ℕ) (P : Type 0) (H : ℕ → Type 0) (rises : ris
           sure = lower-sure (t .verdict) (ownVersion t) (at (t .versions) n) alone (e .sure);
           falls = omega (arith, is, top .less);
         } in
-        rw q points
+        subst (λ (x : Place). Points mine theirs P H t (placeOr x (t .place)) (t .verdict)) (sym q) points
 
     not-found : find (t .versions) v ≡ nowhere → AllowsFor (elseTrigger t v)
     unfolding elseTrigger
@@ -111,7 +112,7 @@ module _ (mine theirs : List ℕ) (P : Type 0) (H : ℕ → Type 0) (rises : ris
           sure = rw is (h, x);
           falls = rw is (e .above v mine-too h);
         } in
-        rw q points
+        subst (λ (x : Place). Points mine theirs P H t (placeOr x (t .place)) Success) (sym q) points
 
     agreeing : AllowsFor (successTrigger t v)
     unfolding successTrigger
@@ -137,14 +138,19 @@ module _ (mine theirs : List ℕ) (P : Type 0) (H : ℕ → Type 0) (rises : ris
   triggered-good : (t : Talker) (v : ℕ) → End mine theirs P H t → (k : Trigger) → Allows mine theirs P H t v (vehicleS1 k)
       → Good mine theirs P H t (triggered t v k)
   triggered-good t v e k h =
-      does mine theirs P H t v e (cellOf (t .side) (t .state) k) (allowed mine theirs P H t v (cell-is (t .side) (t .state) k) h)
+      does mine theirs P H t v e (cellOf (t .side) (t .state) k)
+      (allowed mine theirs P H t v (cell-is (t .side) (t .state) k) h)
 
-  hear-judged : (t : Talker) (j : Result Message) → End mine theirs P H t → Fair theirs mine P j → Names H j → Good mine theirs P H t (hearJudged t j)
+  hear-judged : (t : Talker) (j : Result Message) → End mine theirs P H t → Fair theirs mine P j → Names H j
+      → Good mine theirs P H t (hearJudged t j)
   unfolding hearJudged
-  hear-judged t (accepted m) e f x = triggered-good t (m .version) e (heardTrigger t (m .version) (m .verdict)) (heard-allows t (m .version) (m .verdict) e f x)
+  hear-judged t (accepted m) e f x =
+      triggered-good t (m .version) e (heardTrigger t (m .version) (m .verdict))
+      (heard-allows t (m .version) (m .verdict) e f x)
   hear-judged t (refused number) e f x = absurd f
 
-  pub hear-good : (t : Talker) (bytes : List ℕ) → End mine theirs P H t → FairBytes theirs mine P bytes → Names H (readOf bytes) → Good mine theirs P H t (hearOf t bytes)
+  pub hear-good : (t : Talker) (bytes : List ℕ) → End mine theirs P H t → FairBytes theirs mine P bytes → Names H (readOf bytes)
+      → Good mine theirs P H t (hearOf t bytes)
   unfolding hearOf
   hear-good t bytes e f x = hear-judged t (readOf bytes) e f x
 
@@ -184,7 +190,9 @@ module _ (mine theirs : List ℕ) (P : Type 0) (H : ℕ → Type 0) (rises : ris
 
   pub greet-good : (t : Talker) → End mine theirs P H t → (greetOf t .outcome ≡ failed → P) → Good mine theirs P H t (greetOf t)
   unfolding greetOf
-  greet-good t e h = does mine theirs P H t 0 e (cellOf (t .side) (t .state) greeted) (failing-allows t refl (cell-is (t .side) (t .state) greeted) h)
+  greet-good t e h =
+      does mine theirs P H t 0 e (cellOf (t .side) (t .state) greeted)
+      (failing-allows t refl (cell-is (t .side) (t .state) greeted) h)
 
   -- a tick's answer, where a failure has its reason
   abbrev Ticked : Talker → Told → Type 0
@@ -197,7 +205,9 @@ module _ (mine theirs : List ℕ) (P : Type 0) (H : ℕ → Type 0) (rises : ris
   unfolding tickTalking
   talking-good t e =
       pick-elim (Ticked t) _
-      (λ late h. does mine theirs P H t 0 e (cellOf (t .side) (t .state) limitDue) (failing-allows t refl (cell-is (t .side) (t .state) limitDue) h))
+      (λ late h.
+      does mine theirs P H t 0 e (cellOf (t .side) (t .state) limitDue)
+      (failing-allows t refl (cell-is (t .side) (t .state) limitDue) h))
       (λ early.
       pick-elim (Ticked t) _
       (λ due h.

@@ -57,7 +57,8 @@ module _ {x y : ℕ} (le : y ≤ x) where
   line-reaches none = none
   line-reaches (more {m} p l) = more (reaches (readOf m) p) (line-reaches l)
 
-pub names-of : {H G : ℕ → Type 0} → ((x : ℕ) → H x → G x) → (verdict : Verdict) (v : ℕ) → NamesOf H verdict v → NamesOf G verdict v
+pub names-of : {H G : ℕ → Type 0} → ((x : ℕ) → H x → G x) → (verdict : Verdict) (v : ℕ) → NamesOf H verdict v
+    → NamesOf G verdict v
 names-of k Continue v h = k v h
 names-of k Success v h = k v h
 names-of k Failure v h = tt
@@ -77,7 +78,8 @@ self-of Success v = omega arith
 self-of Failure v = tt
 
 module _ (own : ℕ) (m : List ℕ) (ms : List (List ℕ)) where
-  self-named : (verdict : Verdict) (v : ℕ) → AtMost v m → NamesOf (Caught own ms) verdict v → NamesOf (Caught own (m ∷ ms)) verdict v
+  self-named : (verdict : Verdict) (v : ℕ) → AtMost v m → NamesOf (Caught own ms) verdict v
+      → NamesOf (Caught own (m ∷ ms)) verdict v
   self-named Continue v p h = (h .0, more p (h .1))
   self-named Success v p h = (h .0, more p (h .1))
   self-named Failure v p h = tt
@@ -99,7 +101,8 @@ module _ {own new : ℕ} {ns : List (List ℕ)} (less : new ≤ own) (low : (x :
   falling-joins f (then {m} {ms} h l) = then (names (caught-joins ms) (readOf m) h) (falling-joins f l)
 
 -- the own message
-module _ (mine theirs : List ℕ) (P : Type 0) (H : ℕ → Type 0) (small : Small mine) (t : Talker) (e : End mine theirs P H t) where
+module _ (mine theirs : List ℕ) (P : Type 0) (H : ℕ → Type 0) (small : Small mine) (t : Talker)
+    (e : End mine theirs P H t) where
   own-named : (G : ℕ → Type 0) → G (ownVersion t) → (verdict : Verdict) → NamesOf G verdict (named verdict (ownVersion t))
   own-named G g Continue = g
   own-named G g Success = g

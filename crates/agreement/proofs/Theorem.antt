@@ -151,7 +151,8 @@ module _ (side : Side) (v : Versions) (eight : length (v .numbers) ≡ 8) (contr
   stood = list-stands v eight (made-is side v control t made .0)
 
   started : (theirs : List ℕ) (P : Type 0) (H : ℕ → Type 0) → End (standing v) theirs P H t
-  started theirs P H = subst (End (standing v) theirs P H) (made-is side v control t made .1) (made-end v stood side control theirs P H)
+  started theirs P H =
+      subst (End (standing v) theirs P H) (made-is side v control t made .1) (made-end v stood side control theirs P H)
 
 -- what holds after every list of calls from fresh ends
 module _ (versions versions′ : Versions) (eight : length (versions .numbers) ≡ 8) (eight′ : length (versions′ .numbers) ≡ 8)
