@@ -1,44 +1,31 @@
 -- What is met is met at an event of its action: where no event has it, nothing is met.
 -- Assumes nothing.
+use Prim.Native.Nat.{ℕ}
 use mathlib.Core.Bool.{Bool, true, false, _||_, true≢false, false≢true}
 use mathlib.Core.List.{List, [], _∷_}
 use mathlib.Core.Path.{_≡_, refl, sym, ap, _∙_}
+use lib.Dec.{eqb}
 use Rattle.agreement.specs.Seen.{Seen, now, before, Never, MeetsLimit, MeetsStop, MeetsGreeting}
 use Rattle.agreement.specs.World.{Action, connect, tick, hear, repeat, lose, stop, greet, functionsHeard, Event}
 
-abbrev pub isTick : Action → Bool
-isTick connect = false
-isTick tick = true
-isTick hear = false
-isTick repeat = false
-isTick lose = false
-isTick stop = false
-isTick greet = false
-isTick functionsHeard = false
+-- each action has a number of its own
+abbrev pub number : Action → ℕ
+number connect = 0
+number tick = 1
+number hear = 2
+number repeat = 3
+number lose = 4
+number stop = 5
+number greet = 6
+number functionsHeard = 7
 
-abbrev pub isStop : Action → Bool
-isStop connect = false
-isStop tick = false
-isStop hear = false
-isStop repeat = false
-isStop lose = false
-isStop stop = true
-isStop greet = false
-isStop functionsHeard = false
+abbrev pub is : Action → Action → Bool
+is a b = eqb (number a) (number b)
 
-abbrev pub isGreet : Action → Bool
-isGreet connect = false
-isGreet tick = false
-isGreet hear = false
-isGreet repeat = false
-isGreet lose = false
-isGreet stop = false
-isGreet greet = true
-isGreet functionsHeard = false
-
-unfoldable pub any : (Action → Bool) → List Event → Bool
-any f [] = false
-any f (e ∷ past) = f (e .action) || any f past
+-- some event has this action
+unfoldable pub any : Action → List Event → Bool
+any a [] = false
+any a (e ∷ past) = is (e .action) a || any a past
 
 or-left : (a b : Bool) → a ≡ true → (a || b) ≡ true
 or-left true b h = refl
@@ -48,7 +35,8 @@ or-right : (a b : Bool) → b ≡ true → (a || b) ≡ true
 or-right true b h = refl
 or-right false b h = h
 
-abbrev pub Some : List Event → Type 0
+-- nothing is seen where there is no event
+abbrev Some : List Event → Type 0
 Some [] = ⊥
 Some (e ∷ past) = Unit
 
@@ -56,22 +44,29 @@ pub some : {P : Event → List Event → Type 0} {events : List Event} → Seen 
 some (now p) = tt
 some (before s) = tt
 
-module _ (f : Action → Bool) where
-  any-seen : {P : Event → List Event → Type 0} → ((e : Event) (past : List Event) → P e past → f (e .action) ≡ true)
+module _ (a : Action) (itself : is a a ≡ true) where
+  any-seen : {P : Event → List Event → Type 0} → ((e : Event) (past : List Event) → P e past → e .action ≡ a)
       → (events : List Event)
       → Seen P events
-      → any f events ≡ true
+      → any a events ≡ true
   unfolding any
   any-seen h [] s = absurd (some s)
-  any-seen h (e ∷ past) (now p) = or-left (f (e .action)) (any f past) (h e past p)
-  any-seen h (e ∷ past) (before s) = or-right (f (e .action)) (any f past) (any-seen h past s)
+  any-seen h (e ∷ past) (now p) =
+      or-left (is (e .action) a) (any a past) (ap (λ (x : Action). is x a) (h e past p) ∙ itself)
+  any-seen h (e ∷ past) (before s) = or-right (is (e .action) a) (any a past) (any-seen h past s)
+
+  none-seen : {P : Event → List Event → Type 0} → ((e : Event) (past : List Event) → P e past → e .action ≡ a)
+      → (events : List Event)
+      → any a events ≡ false
+      → Never P events
+  none-seen h events none s = true≢false (sym (any-seen h events s) ∙ none)
 
 -- no tick, no stop, no greeting is among the events
-pub no-tick : (events : List Event) → any isTick events ≡ false → Never MeetsLimit events
-no-tick events h s = true≢false (sym (any-seen isTick (λ e past p. ap isTick (p .0)) events s) ∙ h)
+pub no-tick : (events : List Event) → any tick events ≡ false → Never MeetsLimit events
+no-tick events h = none-seen tick refl (λ e past p. p .0) events h
 
-pub no-stop : (events : List Event) → any isStop events ≡ false → Never MeetsStop events
-no-stop events h s = true≢false (sym (any-seen isStop (λ e past p. ap isStop (p .0)) events s) ∙ h)
+pub no-stop : (events : List Event) → any stop events ≡ false → Never MeetsStop events
+no-stop events h = none-seen stop refl (λ e past p. p .0) events h
 
-pub no-greeting : (events : List Event) → any isGreet events ≡ false → Never MeetsGreeting events
-no-greeting events h s = true≢false (sym (any-seen isGreet (λ e past p. ap isGreet (p .0)) events s) ∙ h)
+pub no-greeting : (events : List Event) → any greet events ≡ false → Never MeetsGreeting events
+no-greeting events h = none-seen greet refl (λ e past p. p .0) events h

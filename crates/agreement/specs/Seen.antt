@@ -1,6 +1,6 @@
--- What the events of a run show: what an end has reported, and whether one met the 15 s limit, a stop or an old-protocol
--- greeting (document 02, E5). Nothing here looks at an end's state. Each of the three is read as narrowly as it can be, so that
--- least is excused.
+-- What the events of a run show: what an end has reported, and what document 02, E5, excepts, the 15 s limit, a stop, and the
+-- greeting of the old protocol. Nothing here looks at an end's state. Each of the three is read as narrowly as it can be, so
+-- that least is excused.
 use Prim.Native.Nat.{ℕ, _+_}
 use mathlib.Core.List.{List, [], _∷_}
 use mathlib.Core.Path.{_≡_}
