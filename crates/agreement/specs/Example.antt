@@ -1,6 +1,6 @@
 -- Runs that show what the claim speaks of: both ends settle in S2, and in S3; they settle although messages are lost and
--- repeated; both fail, since their lists share no version; and one fails by the limit although they do. Each was worked out
--- by hand from tables 8 and 9 of 001. `proofs/Example.antt` computes them.
+-- repeated; both fail, since their lists share no version; and one fails by the limit although the lists share one. Each was
+-- worked out by hand from tables 8 and 9 of 001. `proofs/Example.antt` computes them.
 use Prim.Native.Nat.{ℕ}
 use mathlib.Core.List.{List, [], _∷_, _++_}
 use mathlib.Core.Path.{_≡_}
