@@ -3,7 +3,7 @@ pub mod Hears
 pub mod Order
 pub mod Links
 pub mod Limit
+pub mod Unseen
 pub mod Theorem
 pub mod Steady
-pub mod Unseen
 pub mod Example

@@ -203,20 +203,20 @@ at-tick {n} e = subst (At n) (sym e) refl
 silent : (talk : Talk) → (At 14999 talk → ⊥) → FailsAt quiet talk
 silent talk none = ((λ e. absurd (no-failure e)), (λ e. absurd (none (at-tick e))))
 
+-- T1 is due: a message goes out, and the state stays
+period-cell : (talk : Talk) (x : Talker) {state : State} {e : Entry} → Cell state periodDue e → (At 14999 talk → ⊥)
+    → Stands (ticked talk) x
+    → Ticks talk (doing x 0 e)
+unfolding doing
+period-cell talk x rests none h = (h, silent talk none)
+period-cell talk x negotiates none h = (h, silent talk none)
+period-cell talk x goes-on none h = (h, silent talk none)
+
+limit-fails : (side : Side) (state : State) → state ≡ S1 → cellOf side state limitDue ≡ fails
+limit-fails Charger state q = rw q
+limit-fails Vehicle state q = rw q
+
 module _ (t : Talker) where
-  -- T1 is due: a message goes out, and the state stays
-  period-cell : (talk : Talk) (x : Talker) {state : State} {e : Entry} → Cell state periodDue e → (At 14999 talk → ⊥)
-      → Stands (ticked talk) x
-      → Ticks talk (doing x 0 e)
-  unfolding doing
-  period-cell talk x rests none h = (h, silent talk none)
-  period-cell talk x negotiates none h = (h, silent talk none)
-  period-cell talk x goes-on none h = (h, silent talk none)
-
-  limit-fails : (side : Side) (state : State) → state ≡ S1 → cellOf side state limitDue ≡ fails
-  limit-fails Charger state q = rw q
-  limit-fails Vehicle state q = rw q
-
   talking-ticks : t .state ≡ S1 → t .age < 15000 → Ticks (since (t .age)) (tickTalking t)
   unfolding tickTalking doing incrementOf
   talking-ticks q young =

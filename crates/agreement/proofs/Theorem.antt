@@ -3,7 +3,7 @@
 -- that two of them are equal; and a failure has its reason: no version is shared, unless a limit or a greeting was met. The
 -- reason is stated once, of the events of the whole run.
 -- Assumes nothing.
-use Prim.Native.Nat.{ℕ, _<_, _≤_, _-_}
+use Prim.Native.Nat.{ℕ, _<_, _-_}
 use mathlib.Core.Bool.{true}
 use mathlib.Core.List.{List, [], _∷_}
 use mathlib.Core.Logic.{_⊎_, inl, inr, ⊎-elim}
@@ -31,6 +31,7 @@ use Rattle.agreement.proofs.Ends.{none, End, Reports, Small}
 use Rattle.agreement.proofs.Limit.{limit}
 use Rattle.agreement.proofs.Links.{Excused, Link, Acted, act}
 use Rattle.agreement.proofs.Order as order
+use Rattle.agreement.proofs.Unseen.{some}
 
 -- what the vehicle reports, from the charger's side
 turned : (mine theirs : List ℕ) (P : Type 0) (o : Outcome) → Reports theirs mine P o → Reports mine theirs P o
@@ -118,15 +119,6 @@ module _ (a b : List ℕ) (lists : Lists a b) (P : Type 0) (lone : NoneShared a 
 
 -- ---- from fresh ends
 
--- nothing is seen at first
-abbrev Some : List Event → Type 0
-Some [] = ⊥
-Some (e ∷ past) = Unit
-
-seen-some : {P : Event → List Event → Type 0} {events : List Event} → Seen P events → Some events
-seen-some (now p) = tt
-seen-some (before s) = tt
-
 -- the last version of a rising list is at or above every other
 module _ (v : Versions) (s : Standing v) where
   made-end : (side : Side) (control : ℕ) (theirs : List ℕ) (P : Type 0) (H : ℕ → Type 0)
@@ -186,7 +178,7 @@ module _ (versions versions′ : Versions) (eight : length (versions .numbers) �
               reaching = none;
               end = started Charger versions eight control charger made (standing versions′) P _;
             };
-        reported = λ side o r. absurd (seen-some r);
+        reported = λ side o r. absurd (some r);
       })
       h
 

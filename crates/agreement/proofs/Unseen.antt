@@ -36,7 +36,7 @@ or-right true b h = refl
 or-right false b h = h
 
 -- nothing is seen where there is no event
-abbrev Some : List Event → Type 0
+abbrev pub Some : List Event → Type 0
 Some [] = ⊥
 Some (e ∷ past) = Unit
 
