@@ -1,7 +1,8 @@
 /* Kospelna for programs in C: the two transport ends of GB/T 27930 category B, version talk, parameter groups.
  * Link target/staticlib/libkospelna.a, which `rt staticlib kospelna` makes for x86-64. examples/bench.c is a whole bench,
  * examples/hold.c a transfer that is held, examples/filler.c one whose last frame comes with old bytes behind the message,
- * examples/silence.c two over a line that falls silent, examples/versions.c two version talks.
+ * examples/silence.c two over a line that falls silent, examples/summary.c one of which frames go out more than once,
+ * examples/versions.c two version talks.
  *
  * Every function takes every value of its parameters and is proved to answer by the rules of document 01, and of document
  * 02 as far as docs/landings/ has it (the equations stand in crates/kospelna/specs/; 001 is the source of version talk and
@@ -9,7 +10,7 @@
  *
  * The caller's part: a pointer is not null and has as many bytes behind it as the length beside it says, also where that
  * is 0; nobody else writes these bytes during the call. A function writes its answer and the bytes that it is lent to write
- * (a receiver's buffer, a group's eight), nothing else.
+ * (a receiver's buffer, a summary's counts, a group's eight), nothing else.
  *
  * In every answer `refusal` is 0 where the call was accepted, else a number below: then nothing goes out, the state and
  * the lent bytes are what they were, and a value in the answer is all zeros: what a refused making answers is not for use.
@@ -33,7 +34,8 @@ enum {
     KOSPELNA_REFUSAL_LENGTH = 2,        /* begin, post, clean figures: the message's length */
     KOSPELNA_REFUSAL_BUSY = 3,          /* begin: the sender is not Idle */
     KOSPELNA_REFUSAL_OTHER_MESSAGE = 4, /* sender tick: the lent length is not the begun one */
-    KOSPELNA_REFUSAL_BUFFER = 5,        /* receiver hears: the buffer's length is not KOSPELNA_BUFFER_LENGTH */
+    KOSPELNA_REFUSAL_BUFFER = 5,        /* receiver hears: the buffer's length is not KOSPELNA_BUFFER_LENGTH; summary: the
+                                           counts' is not KOSPELNA_COUNTS_LENGTH */
     KOSPELNA_REFUSAL_FRAME = 6,         /* hearing: no such kind, or filler that is not 0xFF; a last frame's is 14 */
     KOSPELNA_REFUSAL_OTHER_END = 7,     /* hearing: a kind for the other end */
     KOSPELNA_REFUSAL_IDENTIFIER = 8,    /* identifier: over 29 bits, a part over its width, EDP or DP not 0 */
@@ -193,6 +195,43 @@ kospelna_sender_answer kospelna_sender_tick(kospelna_sender sender, const uint8_
 
 /* A frame is heard: kind 2, 3, 4 or 6. Refused 6, then 7. */
 kospelna_sender_answer kospelna_sender_hear(kospelna_sender sender, kospelna_frame frame);
+
+/* ---- The summary ----
+ *
+ * How often each information frame went out: beside a sender, for each number 0 to 255, how many information frames with
+ * it have been emitted since the begin (0 is the announcement). The counts lie in KOSPELNA_COUNTS_LENGTH bytes that the
+ * caller owns and lends to each call, all 0 at first: the word of number n is in bytes 2n and 2n + 1, its low byte first.
+ *
+ * Each of the four calls answers as the sender's own call does and keeps the counts. Lend the same bytes to every call of
+ * a sender, and make every call of it here: what a plain call of the sender emits is not counted. A begin that is accepted
+ * clears the counts, and then counts its own frame if the message is long; short messages, posts, NACKs and refused calls
+ * add nothing. So after a report the counts are those of the transfer that it ended, and their sum is how many information
+ * frames are among the report's `frames`: all of them where a long message was sent, all but the closing NACK where it
+ * failed with one, none where the message was short. No count comes near 65535, where it would stay.
+ */
+enum { KOSPELNA_COUNTS_LENGTH = 512 };
+
+/* Each is refused 5 where the counts' length is another, before all else; then as the sender's own call is. */
+kospelna_sender_answer kospelna_summary_begin(kospelna_sender sender, const uint8_t *message, size_t length,
+                                              uint8_t *counts, size_t counts_length);
+kospelna_sender_answer kospelna_summary_post(kospelna_sender sender, const uint8_t *message, size_t length,
+                                             uint8_t *counts, size_t counts_length);
+kospelna_sender_answer kospelna_summary_tick(kospelna_sender sender, const uint8_t *message, size_t length,
+                                             uint8_t *counts, size_t counts_length);
+kospelna_sender_answer kospelna_summary_hear(kospelna_sender sender, kospelna_frame frame, uint8_t *counts,
+                                             size_t counts_length);
+
+typedef struct kospelna_count {
+    uint8_t refusal;
+    uint8_t number; /* of the frames */
+    uint16_t count; /* how often it went out */
+} kospelna_count;
+
+/* How often frames with this number went out. Refused 5. */
+kospelna_count kospelna_summary_count(uint8_t number, const uint8_t *counts, size_t counts_length);
+
+/* The number that went out most often, of equals the lowest; 0 where no frame went out. Refused 5. */
+kospelna_count kospelna_summary_most(const uint8_t *counts, size_t counts_length);
 
 /* ---- The receiver ---- */
 

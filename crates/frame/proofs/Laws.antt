@@ -3,14 +3,14 @@
 use Prim.Native.Nat.{ℕ, zero, suc, _+_, _*_, _<_, _≤_, min}
 use mathlib.Core.Path.{_≡_, refl, sym, ap, _∙_}
 use mathlib.Core.Bool.{Bool, true, false, and-false, and-eq-true-iff}
-use mathlib.Core.List.{List, [], _∷_, map}
+use mathlib.Core.List.{List, [], _∷_, _++_, map, append-nil}
 use native.Mathlib.Nat.{le-of-suc-le-suc, not-suc-le-zero}
 use native.Mathlib.Omega.{arith}
 use native.Mathlib.Numerals.{add-one}
 use borrow.Author.Needs.{length-unmapped}
 use borrow.Author.Tests.{le-leb, lt-leb, leb-true, eq-eqb, ne-eqb, eqb-true}
 use lib.Dec.{eqb}
-use lib.ListN.{length, getD, take, drop, drop-of-length-le, List·getD-eq-default}
+use lib.ListN.{length, getD, take, drop, replicate, drop-of-length-le, List·getD-eq-default}
 use lib.Seq.{drop-cons, drop-drop}
 use Rattle.frame.specs.Count.{frameCountOf, incrementOf, lowByte, highByte, wordOf}
 use Rattle.frame.specs.Choice.{pick}
@@ -210,3 +210,10 @@ module _ (f : Frame) (l : ℕ) where
       read-dirty t = read-unfilled low high (named-judged (sym p ∙ t)) d
 
 pub ruleset reads = (read-low, read-high, read-clean, read-unclean, read-dirty)
+
+-- Filling goes byte by byte and ends at the length.
+pub filled : (s t : List ℕ) (i byte : ℕ) → i ≤ length s → length s ≤ i → t ≡ replicate i byte ++ drop i s
+    → t ≡ replicate (length s) byte
+filled s t i byte h k e =
+    let same : i ≡ length s = omega arith in
+    e ∙ rw (drop-of-length-le s k, append-nil, same)

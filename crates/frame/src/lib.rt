@@ -1,6 +1,7 @@
 // The frames that both ends hand about: what they are, how they are read and how they are built.
 pub mod build;
 pub mod count;
+pub mod fill;
 pub mod read;
 
 // What stands in a byte that a kind does not name.

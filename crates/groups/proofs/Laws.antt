@@ -9,7 +9,7 @@ use native.Mathlib.Nat.{add-zero, sub-zero, zero-sub, suc-sub-suc}
 use native.Mathlib.Numerals.{add-one}
 use borrow.Author.Tests.{eq-eqb, ne-eqb, le-leb, lt-leb}
 use lib.Dec.{eqb}
-use lib.ListN.{length, getD, drop, set, replicate, length-append, length-drop, drop-of-length-le}
+use lib.ListN.{length, getD, drop, set, replicate, length-append, length-drop}
 use lib.Seq.{sets, sets-eq, drop-drop, getD-drop, take-append-seam, drop-append-add}
 use Rattle.frame.specs.Choice.{pick}
 use Rattle.frame.specs.Reading.{allFiller}
@@ -101,13 +101,6 @@ store-whole code x p q r t a b c d n m l size filled headed one two three four h
     all
     ∙ store-all (kindsOf x) (a ∷ b ∷ c ∷ d ∷ []) (code ∷ []) (replicate 7 255) refl fit
     ∙ rw (drop-replicate (sizesOf (kindsOf x)) 7 255)
-
--- Filling goes byte by byte and ends at the length.
-pub fill-ends : (s t : List ℕ) (i : ℕ) → i ≤ length s → length s ≤ i → t ≡ replicate i 255 ++ drop i s
-    → t ≡ replicate (length s) 255
-fill-ends s t i h k e =
-    let same : i ≡ length s = omega arith in
-    e ∙ rw (drop-of-length-le s k, append-nil, same)
 
 -- A byte and a word, put at a place.
 pub put-byte : (w : Width) (s t : List ℕ) (at v : ℕ) → w ≡ Byte → t ≡ set s at (v % 256) → t ≡ sets s at (bytesOf w v)

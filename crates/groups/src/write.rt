@@ -1,7 +1,7 @@
 // Writing a group to eight bytes.
 ghost use mathlib.Core.Path.{_≡_};
 ghost use Prim.Native.Nat.{_≤_};
-ghost use lib.ListN.{set, length, replicate};
+ghost use lib.ListN.{set, length};
 ghost use lib.Seq.{sets};
 ghost use Rattle.groups.specs.Answer.{toldWriting};
 ghost use Rattle.groups.specs.Format.{bytesOf, values, sizesOf, kindsOf, bytesFor};
@@ -17,17 +17,7 @@ use crate::size;
 use crate::table::row_from;
 use crate::table::row_word;
 use crate::table::width_at;
-
-// Every byte becomes filler.
-fn fill(bytes: &mut [u8])
-    ensures { λ r. ⌜ now (bytes .exit) ≡ replicate (length (now (bytes .entry))) 255 ⌝ }
-{
-    let mut i = 0;
-    while i < bytes.len() {
-        bytes[i] = FILLER;
-        i += 1;
-    }
-}
+use frame::fill::fill;
 
 // A byte at a place, nothing past the end.
 fn put_byte(bytes: &mut [u8], at: usize, byte: u8)
@@ -67,7 +57,7 @@ fn store(bytes: &mut [u8], group: Group, row: Row)
     let at = 1 + size(one);
     let next = at + size(two);
     let last = next + size(three);
-    fill(bytes);
+    fill(bytes, FILLER);
     put_byte(bytes, 0, group.code);
     put(bytes, 1, one, group.first);
     put(bytes, at, two, group.second);

@@ -2,6 +2,7 @@ pub mod Numbers
 pub mod Refusals
 pub mod SendPaths
 pub mod SendInverse
+pub mod SummaryLaws
 pub mod ReceivePaths
 pub mod ReceiveInverse
 pub mod FiguresLaws

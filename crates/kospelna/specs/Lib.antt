@@ -1,6 +1,7 @@
 pub mod Frames
 pub mod Refusals
 pub mod Send
+pub mod Summary
 pub mod Receive
 pub mod Figures
 pub mod Identify

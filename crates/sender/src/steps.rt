@@ -116,7 +116,7 @@ impl Sender {
     }
 
     // A refusal: its number, no frame and no report.
-    pub(crate) fn refusing(self, number: u8) -> Answer
+    pub fn refusing(self, number: u8) -> Answer
         ensures { λ r. ⌜ told r ≡ refusing self number ⌝ }
     {
         let frame = blank();

@@ -1,0 +1,103 @@
+-- A law for each path through the summary's functions; what is written flat is read back, and the other way round.
+-- Assumes nothing.
+use Prim.Native.Nat.{ℕ}
+use mathlib.Core.Path.{_≡_, refl, ap, _∙_}
+use mathlib.Core.List.{List}
+use native.Mathlib.Omega.{arith}
+use Rattle.frame.proofs.Choice.{pick-elim}
+use Rattle.frame.specs.Result.{Result}
+use Rattle.frame.specs.declared.Frame.{Frame}
+use Rattle.sender.specs.Told.{Told}
+use Rattle.sender.specs.declared.Sender.{Sender}
+use Rattle.summary.specs.Calls.{Kept, kept, beginKept, tickKept, hearKept, postKept}
+use Rattle.summary.specs.Most.{toldCounted, countOf, mostOf}
+use Rattle.summary.specs.declared.Count.{Count}
+use Rattle.summary.specs.declared.Counted.{Counted}
+use Rattle.summary.specs.declared.Counted.the-variants.{Read, Refused}
+use Rattle.kospelna.specs.Frames.{frameFrom}
+use Rattle.kospelna.specs.Send.{senderFrom, flatAnswer}
+use Rattle.kospelna.specs.Refusals.{Numbered}
+use Rattle.kospelna.specs.Summary.{keeping, flatKept, keptFrom, flatCount, countIn, noCount, countOut, countedIn, CountMade, SummaryWhole}
+use Rattle.kospelna.proofs.Refusals.{result-back, result-made, number-again, value-again}
+use Rattle.kospelna.proofs.SendInverse.{answer-back}
+use Rattle.kospelna.specs.declared.frames.FlatFrame.{FlatFrame}
+use Rattle.kospelna.specs.declared.send.FlatSender.{FlatSender}
+use Rattle.kospelna.specs.declared.send.FlatSenderAnswer.{FlatSenderAnswer}
+use Rattle.kospelna.specs.declared.count.FlatCount.{FlatCount}
+
+-- ---- the calls: read, called, written
+
+module _ (a : FlatSenderAnswer) (t : Told) (s : FlatSender) (r : Sender) (before after : List ℕ) (answered : a ≡ flatAnswer t)
+    (read : r ≡ senderFrom s) where
+  pub begun : (m : List ℕ) → kept t after ≡ beginKept r m before
+      → keeping a after ≡ flatKept (beginKept (senderFrom s) m before)
+  unfolding flatKept
+  begun m e = cc
+
+  pub posted : (m : List ℕ) → kept t after ≡ postKept r m before
+      → keeping a after ≡ flatKept (postKept (senderFrom s) m before)
+  unfolding flatKept
+  posted m e = cc
+
+  pub ticked : (m : List ℕ) → kept t after ≡ tickKept r m before
+      → keeping a after ≡ flatKept (tickKept (senderFrom s) m before)
+  unfolding flatKept
+  ticked m e = cc
+
+  pub heard : (f : FlatFrame) (g : Frame) → g ≡ frameFrom f → kept t after ≡ hearKept r g before
+      → keeping a after ≡ flatKept (hearKept (senderFrom s) (frameFrom f) before)
+  unfolding flatKept
+  heard f g frame e = cc
+
+pub ruleset calls = (begun, posted, ticked, heard)
+
+-- ---- what is read of the counts
+
+module _ {a : Counted} where
+  pub count-read : {x : Count} → a ≡ Read x → flatCount 0 x ≡ countOut (toldCounted a)
+  count-read e = rw e
+
+  pub count-refused : {n : ℕ} → a ≡ Refused n → flatCount n noCount ≡ countOut (toldCounted a)
+  count-refused e = rw e
+
+pub count-through : {r : FlatCount} {a b : Result Count} → r ≡ countOut a → a ≡ b → r ≡ countOut b
+count-through w e = w ∙ ap countOut e
+
+pub ruleset counts = (count-read, count-refused, count-through)
+
+-- ---- back and forth
+
+-- every value comes back; a flat answer that writing makes comes back; and writing makes no others
+pub count-back : (r : Result Count) → Numbered r → countedIn (countOut r) ≡ r
+count-back = result-back (λ (x : Count). x) (λ (x : Count). x) noCount (λ x. refl)
+
+pub count-made : (r : Result Count) → Numbered r → CountMade (countOut r)
+count-made = result-made (λ (x : Count). x) noCount (λ (x : Count). Unit) (λ x. tt)
+
+pub count-written : (f : FlatCount) → CountMade f → countOut (countedIn f) ≡ f
+count-written f made =
+    rw (
+      number-again (λ (x : Count). x) (f .refusal) (countIn f),
+      value-again (λ (x : Count). x) (λ (x : Count). x) noCount (λ (x : Count). Unit) (λ x h. refl)
+          (f .refusal) (countIn f) made,
+    )
+
+-- no refusal is numbered 0
+count-numbered : (number : ℕ) (counts : List ℕ) → Numbered (countOf number counts)
+unfolding countOf
+count-numbered number counts = pick-elim Numbered _ (λ e. tt) (λ e. omega arith)
+
+most-numbered : (counts : List ℕ) → Numbered (mostOf counts)
+unfolding mostOf
+most-numbered counts = pick-elim Numbered _ (λ e. tt) (λ e. omega arith)
+
+kept-back : (k : Kept) → keptFrom (flatKept k) ≡ k
+unfolding flatKept
+kept-back k = ap (λ (t : Told). kept t (k .counts)) (answer-back (k .told))
+
+pub summary-whole : SummaryWhole
+summary-whole = (
+  kept-back,
+  λ number counts. count-back (countOf number counts) (count-numbered number counts),
+  λ counts. count-back (mostOf counts) (most-numbered counts),
+)

@@ -1,0 +1,26 @@
+-- `kospelna::count::kospelna_summary_begin` meets its contract. What is read, the summary's promise, what is written.
+-- Assumes nothing.
+use borrow.Author.Needs.{needs}
+use Rattle.kospelna.proofs.SummaryLaws.{calls}
+use Rattle.kospelna.proofs.count.kospelna_summary_begin.Statement.{statement}
+use Rattle.kospelna.proofs.count.kospelna_summary_begin.Tie as tie
+
+read-sender-requires : tie.Need-read-sender-requires
+read-sender-requires c κs = search needs
+
+begin-requires : tie.Need-begin-requires
+begin-requires c κs = search needs
+
+write-answer-requires : tie.Need-write-answer-requires
+write-answer-requires c κs = search needs
+
+same-length : tie.Need-same-length
+same-length c = search needs
+
+returns : tie.Need-returns
+returns c = search calls
+
+pub kospelna-summary-begin-spec : {M : Type 1} → statement M
+kospelna-summary-begin-spec =
+    tie.close
+    (tie.spec read-sender-requires begin-requires write-answer-requires same-length returns)

@@ -1,0 +1,108 @@
+// The summary over C's layouts: the sender's calls, which also keep the lent counts, and what is
+// read of these.
+ghost use mathlib.Core.Path.{_≡_};
+ghost use Rattle.kospelna.specs.Frames.{frameFrom};
+ghost use Rattle.kospelna.specs.Send.{senderFrom};
+ghost use Rattle.kospelna.specs.Summary.{keeping, flatKept, countOut};
+ghost use Rattle.summary.specs.Calls.{beginKept, tickKept, hearKept, postKept};
+ghost use Rattle.summary.specs.Most.{toldCounted, countOf, mostOf};
+use crate::frames::FlatFrame;
+use crate::frames::read_frame;
+use crate::send::FlatSender;
+use crate::send::FlatSenderAnswer;
+use crate::send::read_sender;
+use crate::send::write_answer;
+use summary::Counted;
+
+// The refusal's number, 0 where there is none; a number and its count, zeros where refused.
+#[repr(C)]
+pub struct FlatCount {
+    pub refusal: u8,
+    pub number: u8,
+    pub count: u16,
+}
+
+fn write_count(answer: Counted) -> FlatCount
+    ensures { λ r. ⌜ r ≡ countOut (toldCounted answer) ⌝ }
+{
+    match answer {
+        Counted::Read(x) => FlatCount {
+            refusal: 0,
+            number: x.number,
+            count: x.count,
+        },
+        Counted::Refused(refusal) => FlatCount {
+            refusal,
+            number: 0,
+            count: 0,
+        },
+    }
+}
+
+// Begins a transfer of the lent message; where it is accepted the counts start again.
+#[no_mangle]
+pub extern "C" fn kospelna_summary_begin(
+    sender: FlatSender,
+    message: &[u8],
+    counts: &mut [u8],
+) -> FlatSenderAnswer
+    ensures { λ a. ⌜ keeping a (now (counts .exit))
+        ≡ flatKept (beginKept (senderFrom sender) (now (message .entry)) (now (counts .entry))) ⌝ }
+{
+    write_answer(summary::calls::begin(read_sender(sender), message, counts))
+}
+
+// Emits the lent message as one SM_URM.
+#[no_mangle]
+pub extern "C" fn kospelna_summary_post(
+    sender: FlatSender,
+    message: &[u8],
+    counts: &mut [u8],
+) -> FlatSenderAnswer
+    ensures { λ a. ⌜ keeping a (now (counts .exit))
+        ≡ flatKept (postKept (senderFrom sender) (now (message .entry)) (now (counts .entry))) ⌝ }
+{
+    write_answer(summary::calls::post(read_sender(sender), message, counts))
+}
+
+// A tick, lent the message that was begun.
+#[no_mangle]
+pub extern "C" fn kospelna_summary_tick(
+    sender: FlatSender,
+    message: &[u8],
+    counts: &mut [u8],
+) -> FlatSenderAnswer
+    ensures { λ a. ⌜ keeping a (now (counts .exit))
+        ≡ flatKept (tickKept (senderFrom sender) (now (message .entry)) (now (counts .entry))) ⌝ }
+{
+    write_answer(summary::calls::tick(read_sender(sender), message, counts))
+}
+
+// A frame is heard.
+#[no_mangle]
+pub extern "C" fn kospelna_summary_hear(
+    sender: FlatSender,
+    frame: FlatFrame,
+    counts: &mut [u8],
+) -> FlatSenderAnswer
+    ensures { λ a. ⌜ keeping a (now (counts .exit))
+        ≡ flatKept (hearKept (senderFrom sender) (frameFrom frame) (now (counts .entry))) ⌝ }
+{
+    write_answer(summary::calls::hear(read_sender(sender), read_frame(frame), counts))
+}
+
+// The count of a number.
+#[no_mangle]
+pub extern "C" fn kospelna_summary_count(number: u8, counts: &[u8]) -> FlatCount
+    ensures { λ r. ⌜ r ≡ countOut (countOf number (now (counts .entry))) ⌝ }
+{
+    write_count(summary::most::count_of(number, counts))
+}
+
+// The number that was sent most often, and its count.
+#[no_mangle]
+pub extern "C" fn kospelna_summary_most(counts: &[u8]) -> FlatCount
+    ensures { λ r. ⌜ r ≡ countOut (mostOf (now (counts .entry))) ⌝ }
+{
+    write_count(summary::most::most_of(counts))
+}

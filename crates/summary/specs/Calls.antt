@@ -1,0 +1,61 @@
+-- Document 02, E6: the sender's calls, which also keep the counts.
+use Prim.Native.Nat.{ℕ}
+use mathlib.Core.Bool.{Bool, true, false}
+use mathlib.Core.List.{List}
+use lib.Dec.{eqb}
+use lib.ListN.{length}
+use Rattle.frame.specs.Choice.{pick}
+use Rattle.frame.specs.declared.Frame.{Frame}
+use Rattle.sender.specs.Begin.{beginOf, postOf}
+use Rattle.sender.specs.Call.{Call, begin, tick, hear, post}
+use Rattle.sender.specs.Hear.{hearOf}
+use Rattle.sender.specs.Tick.{tickOf}
+use Rattle.sender.specs.Told.{Outcome, quiet, refused, sent, failed, Told, refusing}
+use Rattle.sender.specs.declared.Sender.{Sender}
+use Rattle.summary.specs.Counts.{cleared, counting}
+
+-- a call's whole answer, and the lent counts as it leaves them
+pub record Kept : Type 0 where
+  pub told : Told
+  pub counts : List ℕ
+
+abbrev pub kept : Told → List ℕ → Kept
+kept t counts = record { told = t; counts = counts }
+
+-- Refusals: number 5, before all else, where what is lent for the counts has not 512 bytes
+unfoldable pub ifLent : Sender → List ℕ → Kept → Kept
+ifLent s counts k = pick (eqb (length counts) 512) k (kept (refusing s 5) counts)
+
+-- The line: a begin is accepted if it is not refused
+abbrev pub isRefused : Outcome → Bool
+isRefused quiet = false
+isRefused (refused number) = true
+isRefused (sent ticks frames) = false
+isRefused (failed cause ticks frames) = false
+
+-- the sender's answer, and the frame that goes out with it counted
+abbrev pub keeping : Told → List ℕ → Kept
+keeping t counts = kept t (counting counts (t .frame))
+
+-- E6, "since begin", of a begin: once accepted it clears the counts, a short one too, and its own frame is the first
+unfoldable pub begun : Told → List ℕ → Kept
+begun t counts = pick (isRefused (t .outcome)) (kept t counts) (keeping t cleared)
+
+unfoldable pub beginKept : Sender → List ℕ → List ℕ → Kept
+beginKept s message counts = ifLent s counts (begun (beginOf s message) counts)
+
+unfoldable pub tickKept : Sender → List ℕ → List ℕ → Kept
+tickKept s message counts = ifLent s counts (keeping (tickOf s message) counts)
+
+unfoldable pub hearKept : Sender → Frame → List ℕ → Kept
+hearKept s f counts = ifLent s counts (keeping (hearOf s f) counts)
+
+unfoldable pub postKept : Sender → List ℕ → List ℕ → Kept
+postKept s message counts = ifLent s counts (keeping (postOf s message) counts)
+
+-- each of the sender's calls, with the bytes that are lent for the counts
+abbrev pub keptOf : Sender → Call → List ℕ → Kept
+keptOf s (begin message) counts = beginKept s message counts
+keptOf s (tick message) counts = tickKept s message counts
+keptOf s (hear f) counts = hearKept s f counts
+keptOf s (post message) counts = postKept s message counts
