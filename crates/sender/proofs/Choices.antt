@@ -1,5 +1,5 @@
 -- How a fact is shown of what the sender tells: of each answer that the tests of its rules lead to, with what
--- the tests found. Proofs about every call go by these.
+-- the tests found. The case view (`View`) goes by these, and so do proofs of the crates above.
 -- Assumes nothing.
 use Prim.Native.Nat.{ℕ, _≤_, _<_}
 use mathlib.Core.Path.{_≡_}

@@ -1,5 +1,5 @@
--- Demand 1 of the sender. The tests of each call lead to a refusal, which has the sender as it was and no frame, or to an
--- answer that is no refusal. What a hearing leads to is said by `Heard`.
+-- Demand 1 of the sender. A call does one of two things: it is refused, which leaves the sender as it was and draws no frame,
+-- or its answer is no refusal. What a hearing does is said by `Heard`.
 -- Assumes nothing.
 use Prim.Native.Nat.{ℕ}
 use mathlib.Core.Path.{_≡_, refl, sym, _∙_}
@@ -7,17 +7,15 @@ use mathlib.Core.List.{List}
 use native.Mathlib.Omega.{arith}
 use Rattle.frame.proofs.Choice.{pick-elim}
 use Rattle.frame.specs.Result as result
-use Rattle.sender.proofs.Choices.{limit-elim, begin-elim, tick-elim, over-elim, timeout-elim}
-use Rattle.sender.proofs.Heard.{hearing-restarts-no-wait}
-use Rattle.sender.specs.Begin.{beginLong, beginShort, beginOf, postOf}
-use Rattle.sender.specs.Call.{Call, begin, tick, hear, post, answerOf}
+use Rattle.sender.proofs.Heard.{hearing-does}
+use Rattle.sender.proofs.View.{Ticks, rests, opening-on, opening-again, sending-on, sending-next, waiting-on, waiting-again, short-on, short-again, fails, fails-short, Calls, refuses, begins-long, begins-short, posts, ticks, hears, call-does}
+use Rattle.sender.specs.Begin.{beginLong, beginShort}
+use Rattle.sender.specs.Call.{Call}
 use Rattle.sender.specs.Demand1.{Unchanged, Demand1}
 use Rattle.sender.specs.Heard.{Report, ofSent, ofFailed, Heard, ignored, taken, over}
 use Rattle.sender.specs.Make.{settingsFit, makeOf}
-use Rattle.sender.specs.Tick.{tickOpening, tickSending, tickWaiting, tickShort, tickPhase}
-use Rattle.sender.specs.Told.{Outcome, quiet, refused, failed, Told, refusing}
+use Rattle.sender.specs.Told.{Outcome, quiet, refused, failed, Told}
 use Rattle.sender.specs.declared.Phase.{Phase}
-use Rattle.sender.specs.declared.Phase.the-variants.{Idle, Opening, Sending, Waiting, Short}
 use Rattle.sender.specs.declared.Sender.{Sender}
 
 -- what is to be shown of an answer
@@ -32,49 +30,36 @@ failed-is : {A : Type 0} {cause ticks frames : ℕ} (number : ℕ) → failed ca
 failed-is number e = let z : _≡_ {A = ℕ} 0 1 = cc in absurd (omega arith)
 
 report-is : {A : Type 0} {o : Outcome} → Report o → (number : ℕ) → o ≡ refused number → A
-report-is (ofSent ticks frames) number e = let z : _≡_ {A = ℕ} 0 1 = cc in absurd (omega arith)
-report-is (ofFailed cause ticks frames) number e = failed-is number e
+report-is (ofSent _ _) number e = let z : _≡_ {A = ℕ} 0 1 = cc in absurd (omega arith)
+report-is (ofFailed _ _ _) number e = failed-is number e
 
-module _ (s : Sender) where
-  refuses : (number : ℕ) → Leaves s (refusing s number)
-  refuses number n e = record { next = refl; emits = refl; frame = refl }
+module _ {s : Sender} where
+  ticks-leave : {m : List ℕ} {p : Phase} {t : Told} → Ticks s m p t → Leaves s t
+  ticks-leave rests = quiet-is
+  ticks-leave (opening-on _ _) = quiet-is
+  ticks-leave (opening-again _ _) = quiet-is
+  ticks-leave (sending-on _ _) = quiet-is
+  ticks-leave (sending-next _) = quiet-is
+  ticks-leave (waiting-on _ _) = quiet-is
+  ticks-leave (waiting-again _ _) = quiet-is
+  ticks-leave (short-on _ _) = quiet-is
+  ticks-leave (short-again _) = quiet-is
+  ticks-leave (fails _ _) = failed-is
+  ticks-leave fails-short = failed-is
 
-  begins : (m : List ℕ) → Leaves s (beginOf s m)
-  unfolding beginShort beginLong
-  begins m = begin-elim (Leaves s) s m refuses (λ low high. quiet-is) (λ low high. quiet-is)
+  heard-leaves : {t : Told} → Heard s t → Leaves s t
+  heard-leaves (ignored same still blank) number e = record { next = same; emits = still; frame = blank }
+  heard-leaves (taken x next still q) number e = quiet-is number (sym q ∙ e)
+  heard-leaves (over next report) number e = report-is report number e
 
-  posts : (m : List ℕ) → Leaves s (postOf s m)
-  unfolding postOf
-  posts m = pick-elim (Leaves s) _ (λ fits. quiet-is) (λ unfit. refuses 2)
-
-  ticks : (p : Phase) (m : List ℕ) → Leaves s (tickPhase s p m)
-  unfolding tickPhase tickOpening tickSending tickWaiting tickShort
-  ticks Idle m = quiet-is
-  ticks (Opening x) m =
-      over-elim (Leaves s) s (x .transfer) _ failed-is
-      (λ young.
-      timeout-elim (Leaves s) s (x .transfer) (x .wait) (x .misses) failed-is (λ few. quiet-is) (λ early. quiet-is))
-  ticks (Sending x) m =
-      over-elim (Leaves s) s (x .transfer) _ failed-is
-      (λ young. limit-elim (Leaves s) (s .settings .gap) (x .gap) quiet-is (λ early. quiet-is))
-  ticks (Waiting x) m =
-      over-elim (Leaves s) s (x .transfer) _ failed-is
-      (λ young.
-      timeout-elim (Leaves s) s (x .transfer) (x .wait) (x .misses) failed-is (λ few. quiet-is) (λ early. quiet-is))
-  ticks (Short x) m =
-      over-elim (Leaves s) s (x .transfer) _ failed-is
-      (λ young. limit-elim (Leaves s) (s .settings .timeout) (x .wait) quiet-is (λ early. quiet-is))
-
-  hears : {t : Told} → Heard s t → Leaves s t
-  hears (ignored same still blank) number e = record { next = same; emits = still; frame = blank }
-  hears (taken x next still q) number e = quiet-is number (sym q ∙ e)
-  hears (over next report) number e = report-is report number e
-
-  calls : (call : Call) → Leaves s (answerOf s call)
-  calls (begin m) = begins m
-  calls (tick m) = tick-elim (Leaves s) s m (refuses 4) (ticks (s .phase) m)
-  calls (hear f) = hears (hearing-restarts-no-wait s f)
-  calls (post m) = posts m
+  calls-leave : {c : Call} {t : Told} → Calls s c t → Leaves s t
+  unfolding beginLong beginShort
+  calls-leave (refuses _) = λ number e. record { next = refl; emits = refl; frame = refl }
+  calls-leave (begins-long _ _ _) = quiet-is
+  calls-leave (begins-short _ _ _) = quiet-is
+  calls-leave (posts _ _) = quiet-is
+  calls-leave (ticks _ does) = ticks-leave does
+  calls-leave (hears does) = heard-leaves (hearing-does does)
 
 makes : (gap timeout limit number : ℕ) → makeOf gap timeout limit ≡ result.refused number → number ≡ 1
 unfolding makeOf
@@ -84,4 +69,4 @@ makes gap timeout limit number =
     (λ unfit e. cc)
 
 pub demand-1 : Demand1
-demand-1 = record { called = λ s call. calls s call; made = makes }
+demand-1 = record { called = λ s call. calls-leave (call-does s call); made = makes }

@@ -11,26 +11,22 @@ use borrow.Author.Tests.{leb-true, leb-false, eqb-true, eqb-false, le-leb, lt-le
 use lib.Dec.{eqb, leb}
 use lib.ListN.{length}
 use Rattle.frame.specs.Result.{accepted}
-use Rattle.frame.proofs.Choice.{pick-elim, both-left}
+use Rattle.frame.proofs.Choice.{pick-elim}
 use Rattle.frame.proofs.Laws.{increment-is}
 use Rattle.frame.specs.Count.{frameCountOf, incrementOf}
-use Rattle.frame.specs.declared.Frame.{Frame}
-use Rattle.sender.proofs.Choices.{limit-elim, begin-elim, tick-elim, over-elim, timeout-elim, bad-elim, hear-elim}
-use Rattle.sender.specs.Begin.{beginLong, beginShort, beginOf, postOf}
-use Rattle.sender.specs.Call.{Call, begin, tick, hear, post, answerOf}
-use Rattle.sender.specs.Hear.{taking, takingHold, ackOpening, ackBelow, ackWindow, hearAck, hearNack, ifWhole, hearEnd, ifFirst, hearShortAck, hearOf}
+use Rattle.sender.proofs.View.{Windowed, sending, waiting, Asked, from-first, from-taken, Ticks, rests, opening-on, opening-again, sending-on, sending-next, waiting-on, waiting-again, short-on, short-again, fails, fails-short, Hears, refuses, ignores, above, takes, takes-hold, nacked, finished, finished-short, Calls, begins-long, begins-short, posts, ticks, hears, call-does}
+use Rattle.sender.specs.Begin.{beginLong, beginShort}
+use Rattle.sender.specs.Call.{Call}
+use Rattle.sender.specs.Hear.{taking, takingHold}
 use Rattle.sender.specs.Make.{settingsFit, idleWith, makeOf}
 use Rattle.sender.specs.Reachable.{Reachable, fresh, called, SettingsWithin, TransferWithin, LongWithin, PhaseWithin, Within, Counts, OfTransfer, OfWait, OfMisses, OfSending, OfFrame, StartsInside, Exact, EveryReachable}
 use Rattle.sender.specs.State.{aged, counted, inPhase}
-use Rattle.sender.specs.Tick.{tickOpening, afterFrame, tickSending, tickWaiting, tickShort, tickPhase}
+use Rattle.sender.specs.Tick.{afterFrame}
 use Rattle.sender.specs.Told.{Told}
-use Rattle.sender.specs.declared.Announced.{Announced}
-use Rattle.sender.specs.declared.Awaited.{Awaited}
 use Rattle.sender.specs.declared.Phase.{Phase}
 use Rattle.sender.specs.declared.Phase.the-variants.{Idle, Opening, Sending, Waiting, Short}
 use Rattle.sender.specs.declared.Sender.{Sender}
 use Rattle.sender.specs.declared.Settings.{Settings}
-use Rattle.sender.specs.declared.Single.{Single}
 use Rattle.sender.specs.declared.Streamed.{Streamed}
 use Rattle.sender.specs.declared.Transfer.{Transfer}
 
@@ -72,39 +68,7 @@ module _ (s : Sender) (h : Within s) where
   idles : Within (inPhase s Idle)
   idles = enters Idle tt
 
-  begins-long : (m : List ℕ) → 9 ≤ length m → length m ≤ 1785 → Keeps (beginLong s m)
-  unfolding beginLong frameCountOf
-  begins-long m low high =
-      let l = h .settings .limit in
-      let t = h .settings .timeout in
-      enters _ (
-        record {
-          counted = record { age = l .0; emitted = omega arith };
-          length = (low, high);
-          frames = (refl, omega arith, omega arith);
-        },
-        t .0,
-        omega arith,
-      )
-
-  begins-short : (m : List ℕ) → 1 ≤ length m → length m ≤ 8 → Keeps (beginShort s m)
-  unfolding beginShort
-  begins-short m low high =
-      enters _ (
-        record {
-          counted = record { age = h .settings .limit .0; emitted = omega arith };
-          length = (low, high);
-          frames = refl;
-        },
-        h .settings .timeout .0,
-      )
-
-  begins : (m : List ℕ) → Keeps (beginOf s m)
-  begins m = begin-elim Keeps s m (λ _. h) (begins-short m) (begins-long m)
-
-  posts : (m : List ℕ) → Keeps (postOf s m)
-  unfolding postOf
-  posts m = pick-elim Keeps _ (λ fits. h) (λ unfit. h)
+  -- ---- a tick
 
   -- a transfer that is a tick older, short of M, and perhaps has emitted a frame more
   older : (t : Transfer) → TransferWithin (s .settings) t → incrementOf (t .age) < s .settings .limit
@@ -114,31 +78,13 @@ module _ (s : Sender) (h : Within s) where
       let l = h .settings .limit in
       (record { age = young; emitted = omega arith }, record { age = young; emitted = omega arith })
 
-  longer : (t u : Transfer) → u .length ≡ t .length → u .frames ≡ t .frames
-      → LongWithin (s .settings) t → TransferWithin (s .settings) u
-      → LongWithin (s .settings) u
-  longer t u same many w counts =
-      record { counted = counts; length = rw same (w .length); frames = rw (same, many) (w .frames) }
-
-  ticks-opening : (x : Announced) → PhaseWithin (s .settings) (Opening x) → Keeps (tickOpening s x)
-  unfolding tickOpening
-  ticks-opening x w =
-      over-elim Keeps s (x .transfer) _ idles
-      (λ young.
-      let t = older (x .transfer) (w .0 .counted) young in
-      timeout-elim Keeps s (x .transfer) (x .wait) (x .misses) idles
-      (λ few. enters _ (longer (x .transfer) _ refl refl (w .0) (t .1), h .settings .timeout .0, few))
-      (λ early. enters _ (longer (x .transfer) _ refl refl (w .0) (t .0), early, w .2)))
-
-  ticks-waiting : (x : Awaited) (m : List ℕ) → PhaseWithin (s .settings) (Waiting x) → Keeps (tickWaiting s x m)
-  unfolding tickWaiting
-  ticks-waiting x m w =
-      over-elim Keeps s (x .transfer) _ idles
-      (λ young.
-      let t = older (x .transfer) (w .0 .counted) young in
-      timeout-elim Keeps s (x .transfer) (x .wait) (x .misses) idles
-      (λ few. enters _ (longer (x .transfer) _ refl refl (w .0) (t .1), w .1, w .2, h .settings .timeout .0, few))
-      (λ early. enters _ (longer (x .transfer) _ refl refl (w .0) (t .0), w .1, w .2, early, w .4)))
+  older-long : (t : Transfer) → LongWithin (s .settings) t → incrementOf (t .age) < s .settings .limit
+      → LongWithin (s .settings) (aged t) × LongWithin (s .settings) (counted (aged t))
+  older-long t w young =
+      let c = older t (w .counted) young in (
+        record { counted = c .0; length = w .length; frames = w .frames },
+        record { counted = c .1; length = w .length; frames = w .frames },
+      )
 
   after : (x : Streamed) → PhaseWithin (s .settings) (Sending x)
       → LongWithin (s .settings) (counted (aged (x .transfer)))
@@ -153,119 +99,91 @@ module _ (s : Sender) (h : Within s) where
       let e : x .next < x .last = leb-false _ _ more in
       (l, omega arith, omega arith, h .settings .gap .0, w .4))
 
-  ticks-sending : (x : Streamed) (m : List ℕ) → PhaseWithin (s .settings) (Sending x) → Keeps (tickSending s x m)
-  unfolding tickSending
-  ticks-sending x m w =
-      over-elim Keeps s (x .transfer) _ idles
-      (λ young.
-      let t = older (x .transfer) (w .0 .counted) young in
-      limit-elim Keeps (s .settings .gap) (x .gap)
-      (enters _ (after x w (longer (x .transfer) _ refl refl (w .0) (t .1))))
-      (λ early. enters _ (longer (x .transfer) _ refl refl (w .0) (t .0), w .1, w .2, early, w .4)))
+  ticks-within : {m : List ℕ} {p : Phase} {t : Told} → Ticks s m p t → PhaseWithin (s .settings) p → Keeps t
+  ticks-within rests w = h
+  ticks-within (opening-on {x} young early) w = enters _ (older-long (x .transfer) (w .0) young .0, early, w .2)
+  ticks-within (opening-again {x} young few) w =
+      enters _ (older-long (x .transfer) (w .0) young .1, h .settings .timeout .0, few)
+  ticks-within (sending-on {x} young early) w =
+      enters _ (older-long (x .transfer) (w .0) young .0, w .1, w .2, early, w .4)
+  ticks-within (sending-next {x} young) w = enters _ (after x w (older-long (x .transfer) (w .0) young .1))
+  ticks-within (waiting-on {x} young early) w =
+      enters _ (older-long (x .transfer) (w .0) young .0, w .1, w .2, early, w .4)
+  ticks-within (waiting-again {x} young few) w =
+      enters _ (older-long (x .transfer) (w .0) young .1, w .1, w .2, h .settings .timeout .0, few)
+  ticks-within (short-on {x} young early) w =
+      let c = older (x .transfer) (w .0 .counted) young in
+      enters _ (record { counted = c .0; length = w .0 .length; frames = w .0 .frames }, early)
+  ticks-within (short-again {x} young) w =
+      let c = older (x .transfer) (w .0 .counted) young in
+      enters _ (record { counted = c .1; length = w .0 .length; frames = w .0 .frames }, h .settings .timeout .0)
+  ticks-within (fails _ _) w = idles
+  ticks-within fails-short w = idles
 
-  ticks-short : (x : Single) (m : List ℕ) → PhaseWithin (s .settings) (Short x) → Keeps (tickShort s x m)
-  unfolding tickShort
-  ticks-short x m w =
-      over-elim Keeps s (x .transfer) _ idles
-      (λ young.
-      let t = older (x .transfer) (w .0 .counted) young in
-      limit-elim Keeps (s .settings .timeout) (x .wait)
-      (enters _
-      (record { counted = t .1; length = w .0 .length; frames = w .0 .frames }, h .settings .timeout .0))
-      (λ early. enters _
-      (record { counted = t .0; length = w .0 .length; frames = w .0 .frames }, early)))
+  -- ---- a hearing
 
-  ticks : (p : Phase) (m : List ℕ) → PhaseWithin (s .settings) p → Keeps (tickPhase s p m)
-  unfolding tickPhase
-  ticks Idle m w = h
-  ticks (Opening x) m w = ticks-opening x w
-  ticks (Sending x) m w = ticks-sending x m w
-  ticks (Waiting x) m w = ticks-waiting x m w
-  ticks (Short x) m w = ticks-short x m w
+  -- the last start taken is at most N, and the misses are few
+  window-within : {p : Phase} {t : Transfer} {taken misses : ℕ} → Windowed p t taken misses → PhaseWithin (s .settings) p
+      → LongWithin (s .settings) t × (taken ≤ t .frames) × (misses < 3)
+  window-within sending w = (w .0, w .1 .2, w .4)
+  window-within waiting w = (w .0, w .1 .2, w .4)
 
-  -- a window from 1 to N
-  takes : (t : Transfer) (start count misses : ℕ) → LongWithin (s .settings) t → 1 ≤ start → 1 ≤ count
-      → start ≤ t .frames → misses < 3
-      → Keeps (taking s t start count misses)
-  unfolding taking
-  takes t start count misses l from some within few = enters _ (l, omega arith, omega arith, h .settings .gap .0, few)
+  -- so are those after a window that is taken
+  asked-within : {p : Phase} {t : Transfer} {start misses : ℕ} → Asked p t start misses → PhaseWithin (s .settings) p
+      → LongWithin (s .settings) t × (misses < 3)
+  asked-within (from-first _) w = (w .0, omega arith)
+  asked-within (from-taken {taken = taken} {start = start} window _) w =
+      let l = window-within window w in
+      (l .0, pick-elim (λ n. n < 3) (eqb start taken) (λ same. l .2) (λ other. omega arith))
 
-  acks-opening : (t : Transfer) (start count : ℕ) → LongWithin (s .settings) t → Keeps (ackOpening s t start count)
-  unfolding ackOpening
-  acks-opening t start count l =
-      bad-elim Keeps s t start count h idles
-      (λ from some within. pick-elim Keeps _
-      (λ one. takes t start count 0 l from some within (omega arith))
-      (λ other. h))
+  hears-within : {p : Phase} {t : Told} → Hears s p t → PhaseWithin (s .settings) p → Keeps t
+  unfolding taking takingHold
+  hears-within (refuses _) w = h
+  hears-within ignores w = h
+  hears-within (above _) w = idles
+  hears-within (takes asked from some inside) w =
+      let l = asked-within asked w in
+      enters _ (l .0, omega arith, omega arith, h .settings .gap .0, l .1)
+  hears-within (takes-hold window from before) w =
+      let l = window-within window w in
+      enters _ (l .0, omega arith, omega arith, h .settings .gap .0, omega arith)
+  hears-within (nacked _) w = idles
+  hears-within (finished _) w = idles
+  hears-within finished-short w = idles
 
-  -- a start below the last one taken: that one is at most N, and so is the frame that a hold asks for
-  acks-below : (t : Transfer) (taken start count : ℕ) → LongWithin (s .settings) t → 1 ≤ start → taken ≤ t .frames
-      → Keeps (ackBelow s t taken start count)
-  unfolding ackBelow takingHold
-  acks-below t taken start count l from most =
-      pick-elim Keeps _
-      (λ hold.
-      let e : start + 1 ≡ taken = eqb-true _ _ (both-left _ _ hold) in
-      enters _ (l, omega arith, omega arith, h .settings .gap .0, omega arith))
-      (λ old. h)
+  -- ---- every call
 
-  acks-window : (t : Transfer) (taken misses start count : ℕ) → LongWithin (s .settings) t → taken ≤ t .frames → misses < 3
-      → Keeps (ackWindow s t taken misses start count)
-  unfolding ackWindow
-  acks-window t taken misses start count l most few =
-      bad-elim Keeps s t start count h idles
-      (λ from some within. pick-elim Keeps _ (λ below. acks-below t taken start count l from most)
-      (λ on. takes t start count _ l from some within
-      (pick-elim (λ n. n < 3) (eqb start taken) (λ same. few) (λ other. omega arith))))
-
-  acks : (p : Phase) (start count : ℕ) → PhaseWithin (s .settings) p → Keeps (hearAck s p start count)
-  unfolding hearAck
-  acks Idle start count w = h
-  acks (Opening x) start count w = acks-opening (x .transfer) start count (w .0)
-  acks (Sending x) start count w = acks-window (x .transfer) (x .start) (x .misses) start count (w .0) (w .1 .2) (w .4)
-  acks (Waiting x) start count w = acks-window (x .transfer) (x .start) (x .misses) start count (w .0) (w .1 .2) (w .4)
-  acks (Short x) start count w = h
-
-  nacks : (p : Phase) → Keeps (hearNack s p)
-  unfolding hearNack
-  nacks Idle = h
-  nacks (Opening x) = idles
-  nacks (Sending x) = idles
-  nacks (Waiting x) = idles
-  nacks (Short x) = h
-
-  ends : (p : Phase) (frames length : ℕ) → Keeps (hearEnd s p frames length)
-  unfolding hearEnd ifWhole
-  ends Idle frames length = h
-  ends (Opening x) frames length = h
-  ends (Sending x) frames length = pick-elim Keeps _ (λ whole. idles) (λ other. h)
-  ends (Waiting x) frames length = pick-elim Keeps _ (λ whole. idles) (λ other. h)
-  ends (Short x) frames length = h
-
-  short-acks : (p : Phase) (first : ℕ) → Keeps (hearShortAck s p first)
-  unfolding hearShortAck ifFirst
-  short-acks Idle first = h
-  short-acks (Opening x) first = h
-  short-acks (Sending x) first = h
-  short-acks (Waiting x) first = h
-  short-acks (Short x) first = pick-elim Keeps _ (λ same. idles) (λ other. h)
-
-  hears : (f : Frame) → Keeps (hearOf s f)
-  hears f =
-      let p = s .phase in
-      hear-elim Keeps s f (λ _. h) (λ _. acks p _ _ (h .phase)) (nacks p) (ends p _ _) (short-acks p _)
-
-  keeps : (call : Call) → Keeps (answerOf s call)
-  keeps (begin m) = begins m
-  keeps (tick m) = tick-elim Keeps s m h (ticks (s .phase) m (h .phase))
-  keeps (hear f) = hears f
-  keeps (post m) = posts m
+  calls-within : {c : Call} {t : Told} → Calls s c t → Keeps t
+  unfolding beginLong beginShort frameCountOf
+  calls-within (refuses _) = h
+  calls-within (begins-long _ low high) =
+      enters _ (
+        record {
+          counted = record { age = h .settings .limit .0; emitted = omega arith };
+          length = (low, high);
+          frames = (refl, omega arith, omega arith);
+        },
+        h .settings .timeout .0,
+        omega arith,
+      )
+  calls-within (begins-short _ low high) =
+      enters _ (
+        record {
+          counted = record { age = h .settings .limit .0; emitted = omega arith };
+          length = (low, high);
+          frames = refl;
+        },
+        h .settings .timeout .0,
+      )
+  calls-within (posts _ _) = h
+  calls-within (ticks _ does) = ticks-within does (h .phase)
+  calls-within (hears does) = hears-within does (h .phase)
 
 -- ---- the theorems
 
 pub reachable-within : {s : Sender} → Reachable s → Within s
 reachable-within (fresh {s = s} gap timeout limit e) = makes gap timeout limit s e
-reachable-within (called {s = s} call r) = keeps s (reachable-within r) call
+reachable-within (called {s = s} call r) = calls-within s (reachable-within r) (call-does s call)
 
 -- of a number up to its limit, "at least" is "at"
 up-to : (n limit : ℕ) → n ≤ limit → leb limit n ≡ eqb n limit
