@@ -1,15 +1,16 @@
 -- A law for each path through the summary's functions; what is written flat is read back, and the other way round.
 -- Assumes nothing.
 use Prim.Native.Nat.{ℕ}
-use mathlib.Core.Path.{_≡_, refl, ap, _∙_}
+use mathlib.Core.Path.{_≡_, refl, ap, subst, _∙_}
 use mathlib.Core.List.{List}
 use native.Mathlib.Omega.{arith}
 use Rattle.frame.proofs.Choice.{pick-elim}
 use Rattle.frame.specs.Result.{Result}
 use Rattle.frame.specs.declared.Frame.{Frame}
+use Rattle.sender.specs.Call.{Call, begin, tick, hear, post}
 use Rattle.sender.specs.Told.{Told}
 use Rattle.sender.specs.declared.Sender.{Sender}
-use Rattle.summary.specs.Calls.{Kept, kept, beginKept, tickKept, hearKept, postKept}
+use Rattle.summary.specs.Calls.{Kept, kept, keptOf}
 use Rattle.summary.specs.Most.{toldCounted, countOf, mostOf}
 use Rattle.summary.specs.declared.Count.{Count}
 use Rattle.summary.specs.declared.Counted.{Counted}
@@ -29,25 +30,25 @@ use Rattle.kospelna.specs.declared.count.FlatCount.{FlatCount}
 
 module _ (a : FlatSenderAnswer) (t : Told) (s : FlatSender) (r : Sender) (before after : List ℕ) (answered : a ≡ flatAnswer t)
     (read : r ≡ senderFrom s) where
-  pub begun : (m : List ℕ) → kept t after ≡ beginKept r m before
-      → keeping a after ≡ flatKept (beginKept (senderFrom s) m before)
+  called : (c : Call) → kept t after ≡ keptOf r c before → keeping a after ≡ flatKept (keptOf (senderFrom s) c before)
   unfolding flatKept
-  begun m e = cc
+  called c e = subst (λ (q : Sender). keeping a after ≡ flatKept (keptOf q c before)) read (rw answered (ap flatKept e))
 
-  pub posted : (m : List ℕ) → kept t after ≡ postKept r m before
-      → keeping a after ≡ flatKept (postKept (senderFrom s) m before)
-  unfolding flatKept
-  posted m e = cc
+  pub begun : (m : List ℕ) → kept t after ≡ keptOf r (begin m) before
+      → keeping a after ≡ flatKept (keptOf (senderFrom s) (begin m) before)
+  begun m e = called (begin m) e
 
-  pub ticked : (m : List ℕ) → kept t after ≡ tickKept r m before
-      → keeping a after ≡ flatKept (tickKept (senderFrom s) m before)
-  unfolding flatKept
-  ticked m e = cc
+  pub posted : (m : List ℕ) → kept t after ≡ keptOf r (post m) before
+      → keeping a after ≡ flatKept (keptOf (senderFrom s) (post m) before)
+  posted m e = called (post m) e
 
-  pub heard : (f : FlatFrame) (g : Frame) → g ≡ frameFrom f → kept t after ≡ hearKept r g before
-      → keeping a after ≡ flatKept (hearKept (senderFrom s) (frameFrom f) before)
-  unfolding flatKept
-  heard f g frame e = cc
+  pub ticked : (m : List ℕ) → kept t after ≡ keptOf r (tick m) before
+      → keeping a after ≡ flatKept (keptOf (senderFrom s) (tick m) before)
+  ticked m e = called (tick m) e
+
+  pub heard : (f : FlatFrame) (g : Frame) → g ≡ frameFrom f → kept t after ≡ keptOf r (hear g) before
+      → keeping a after ≡ flatKept (keptOf (senderFrom s) (hear (frameFrom f)) before)
+  heard f g frame e = called (hear (frameFrom f)) (subst (λ (h : Frame). kept t after ≡ keptOf r (hear h) before) frame e)
 
 pub ruleset calls = (begun, posted, ticked, heard)
 

@@ -4,7 +4,8 @@ ghost use mathlib.Core.Path.{_≡_};
 ghost use Rattle.kospelna.specs.Frames.{frameFrom};
 ghost use Rattle.kospelna.specs.Send.{senderFrom};
 ghost use Rattle.kospelna.specs.Summary.{keeping, flatKept, countOut};
-ghost use Rattle.summary.specs.Calls.{beginKept, tickKept, hearKept, postKept};
+ghost use Rattle.sender.specs.Call.{begin, tick, hear, post};
+ghost use Rattle.summary.specs.Calls.{keptOf};
 ghost use Rattle.summary.specs.Most.{toldCounted, countOf, mostOf};
 use crate::frames::FlatFrame;
 use crate::frames::read_frame;
@@ -47,7 +48,7 @@ pub extern "C" fn kospelna_summary_begin(
     counts: &mut [u8],
 ) -> FlatSenderAnswer
     ensures { λ a. ⌜ keeping a (now (counts .exit))
-        ≡ flatKept (beginKept (senderFrom sender) (now (message .entry)) (now (counts .entry))) ⌝ }
+        ≡ flatKept (keptOf (senderFrom sender) (begin (now (message .entry))) (now (counts .entry))) ⌝ }
 {
     write_answer(summary::calls::begin(read_sender(sender), message, counts))
 }
@@ -60,7 +61,7 @@ pub extern "C" fn kospelna_summary_post(
     counts: &mut [u8],
 ) -> FlatSenderAnswer
     ensures { λ a. ⌜ keeping a (now (counts .exit))
-        ≡ flatKept (postKept (senderFrom sender) (now (message .entry)) (now (counts .entry))) ⌝ }
+        ≡ flatKept (keptOf (senderFrom sender) (post (now (message .entry))) (now (counts .entry))) ⌝ }
 {
     write_answer(summary::calls::post(read_sender(sender), message, counts))
 }
@@ -73,7 +74,7 @@ pub extern "C" fn kospelna_summary_tick(
     counts: &mut [u8],
 ) -> FlatSenderAnswer
     ensures { λ a. ⌜ keeping a (now (counts .exit))
-        ≡ flatKept (tickKept (senderFrom sender) (now (message .entry)) (now (counts .entry))) ⌝ }
+        ≡ flatKept (keptOf (senderFrom sender) (tick (now (message .entry))) (now (counts .entry))) ⌝ }
 {
     write_answer(summary::calls::tick(read_sender(sender), message, counts))
 }
@@ -86,7 +87,7 @@ pub extern "C" fn kospelna_summary_hear(
     counts: &mut [u8],
 ) -> FlatSenderAnswer
     ensures { λ a. ⌜ keeping a (now (counts .exit))
-        ≡ flatKept (hearKept (senderFrom sender) (frameFrom frame) (now (counts .entry))) ⌝ }
+        ≡ flatKept (keptOf (senderFrom sender) (hear (frameFrom frame)) (now (counts .entry))) ⌝ }
 {
     write_answer(summary::calls::hear(read_sender(sender), read_frame(frame), counts))
 }

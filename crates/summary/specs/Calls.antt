@@ -5,11 +5,7 @@ use mathlib.Core.List.{List}
 use lib.Dec.{eqb}
 use lib.ListN.{length}
 use Rattle.frame.specs.Choice.{pick}
-use Rattle.frame.specs.declared.Frame.{Frame}
-use Rattle.sender.specs.Begin.{beginOf, postOf}
-use Rattle.sender.specs.Call.{Call, begin, tick, hear, post}
-use Rattle.sender.specs.Hear.{hearOf}
-use Rattle.sender.specs.Tick.{tickOf}
+use Rattle.sender.specs.Call.{Call, begin, tick, hear, post, answerOf}
 use Rattle.sender.specs.Told.{Outcome, quiet, refused, sent, failed, Told, refusing}
 use Rattle.sender.specs.declared.Sender.{Sender}
 use Rattle.summary.specs.Counts.{cleared, counting}
@@ -37,25 +33,16 @@ isRefused (failed cause ticks frames) = false
 abbrev pub keeping : Told → List ℕ → Kept
 keeping t counts = kept t (counting counts (t .frame))
 
--- E6, "since begin", of a begin: once accepted it clears the counts, a short one too, and its own frame is the first
+-- E6, "since begin": once a begin is accepted it clears the counts, a short one too, and its own frame is the first
 unfoldable pub begun : Told → List ℕ → Kept
 begun t counts = pick (isRefused (t .outcome)) (kept t counts) (keeping t cleared)
 
-unfoldable pub beginKept : Sender → List ℕ → List ℕ → Kept
-beginKept s message counts = ifLent s counts (begun (beginOf s message) counts)
+abbrev pub keptBy : Call → Told → List ℕ → Kept
+keptBy (begin message) t counts = begun t counts
+keptBy (tick message) t counts = keeping t counts
+keptBy (hear f) t counts = keeping t counts
+keptBy (post message) t counts = keeping t counts
 
-unfoldable pub tickKept : Sender → List ℕ → List ℕ → Kept
-tickKept s message counts = ifLent s counts (keeping (tickOf s message) counts)
-
-unfoldable pub hearKept : Sender → Frame → List ℕ → Kept
-hearKept s f counts = ifLent s counts (keeping (hearOf s f) counts)
-
-unfoldable pub postKept : Sender → List ℕ → List ℕ → Kept
-postKept s message counts = ifLent s counts (keeping (postOf s message) counts)
-
--- each of the sender's calls, with the bytes that are lent for the counts
+-- a call of the sender, with what is lent for the counts
 abbrev pub keptOf : Sender → Call → List ℕ → Kept
-keptOf s (begin message) counts = beginKept s message counts
-keptOf s (tick message) counts = tickKept s message counts
-keptOf s (hear f) counts = hearKept s f counts
-keptOf s (post message) counts = postKept s message counts
+keptOf s call counts = ifLent s counts (keptBy call (answerOf s call) counts)

@@ -1,3 +1,5 @@
 pub mod Counts
 pub mod Calls
 pub mod Most
+pub mod Seen
+pub mod Summary

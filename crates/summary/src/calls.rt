@@ -1,8 +1,9 @@
 // The sender's calls, which also keep the counts. Each is refused 5 where the counts are not lent 512 bytes, before all else;
 // a refused call changes none of them.
 ghost use mathlib.Core.Path.{_≡_};
+ghost use Rattle.sender.specs.Call.{begin, tick, hear, post};
 ghost use Rattle.sender.specs.Told.{toldOutcome, told};
-ghost use Rattle.summary.specs.Calls.{kept, isRefused, beginKept, tickKept, hearKept, postKept};
+ghost use Rattle.summary.specs.Calls.{kept, isRefused, keptOf};
 use crate::SIZE;
 use crate::counts::count;
 use frame::Frame;
@@ -25,7 +26,7 @@ fn is_refused(outcome: Outcome) -> bool
 // Begins a transfer. An accepted begin clears the counts, and then its frame is counted.
 pub fn begin(s: Sender, message: &[u8], counts: &mut [u8]) -> Answer
     ensures { λ r. ⌜ kept (told r) (now (counts .exit))
-        ≡ beginKept s (now (message .entry)) (now (counts .entry)) ⌝ }
+        ≡ keptOf s (begin (now (message .entry))) (now (counts .entry)) ⌝ }
 {
     if counts.len() != SIZE {
         return s.refusing(5);
@@ -43,7 +44,7 @@ pub fn begin(s: Sender, message: &[u8], counts: &mut [u8]) -> Answer
 // A tick, lent the message that was begun; its frame is counted.
 pub fn tick(s: Sender, message: &[u8], counts: &mut [u8]) -> Answer
     ensures { λ r. ⌜ kept (told r) (now (counts .exit))
-        ≡ tickKept s (now (message .entry)) (now (counts .entry)) ⌝ }
+        ≡ keptOf s (tick (now (message .entry))) (now (counts .entry)) ⌝ }
 {
     if counts.len() != SIZE {
         return s.refusing(5);
@@ -55,7 +56,7 @@ pub fn tick(s: Sender, message: &[u8], counts: &mut [u8]) -> Answer
 
 // A frame that is heard; what it draws is counted.
 pub fn hear(s: Sender, f: Frame, counts: &mut [u8]) -> Answer
-    ensures { λ r. ⌜ kept (told r) (now (counts .exit)) ≡ hearKept s f (now (counts .entry)) ⌝ }
+    ensures { λ r. ⌜ kept (told r) (now (counts .exit)) ≡ keptOf s (hear f) (now (counts .entry)) ⌝ }
 {
     if counts.len() != SIZE {
         return s.refusing(5);
@@ -68,7 +69,7 @@ pub fn hear(s: Sender, f: Frame, counts: &mut [u8]) -> Answer
 // Emits a message as one SM_URM, which is no information frame.
 pub fn post(s: Sender, message: &[u8], counts: &mut [u8]) -> Answer
     ensures { λ r. ⌜ kept (told r) (now (counts .exit))
-        ≡ postKept s (now (message .entry)) (now (counts .entry)) ⌝ }
+        ≡ keptOf s (post (now (message .entry))) (now (counts .entry)) ⌝ }
 {
     if counts.len() != SIZE {
         return s.refusing(5);

@@ -2,7 +2,6 @@
 -- does not, the counts are cleared and its frame is counted.
 -- Assumes nothing.
 use borrow.Author.Needs.{needs}
-use Rattle.summary.specs.Calls.{beginKept}
 use Rattle.summary.proofs.Laws.{calls-keep}
 use Rattle.summary.proofs.calls.begin.Statement.{statement}
 use Rattle.summary.proofs.calls.begin.Tie as tie
@@ -11,7 +10,6 @@ refusing-requires : tie.Need-refusing-requires
 refusing-requires c κs = search needs
 
 returns : tie.Need-returns
-unfolding beginKept
 returns c = search calls-keep
 
 begin-requires : tie.Need-begin-requires
@@ -21,7 +19,6 @@ is-refused-requires : tie.Need-is-refused-requires
 is-refused-requires c κs = search needs
 
 returns-2 : tie.Need-returns-2
-unfolding beginKept
 returns-2 c = search calls-keep
 
 fill-requires : tie.Need-fill-requires
@@ -34,7 +31,6 @@ same-length : tie.Need-same-length
 same-length c = search needs
 
 returns-3 : tie.Need-returns-3
-unfolding beginKept
 returns-3 c = search calls-keep
 
 pub begin-spec : {M : Type 1} → statement M

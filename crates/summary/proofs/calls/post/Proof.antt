@@ -2,7 +2,6 @@
 -- counted.
 -- Assumes nothing.
 use borrow.Author.Needs.{needs}
-use Rattle.summary.specs.Calls.{postKept}
 use Rattle.summary.proofs.Laws.{calls-keep}
 use Rattle.summary.proofs.calls.post.Statement.{statement}
 use Rattle.summary.proofs.calls.post.Tie as tie
@@ -11,7 +10,6 @@ refusing-requires : tie.Need-refusing-requires
 refusing-requires c κs = search needs
 
 returns : tie.Need-returns
-unfolding postKept
 returns c = search calls-keep
 
 post-requires : tie.Need-post-requires
@@ -24,7 +22,6 @@ same-length : tie.Need-same-length
 same-length c = search needs
 
 returns-2 : tie.Need-returns-2
-unfolding postKept
 returns-2 c = search calls-keep
 
 pub post-spec : {M : Type 1} → statement M
