@@ -1,3 +1,5 @@
 pub mod Laws
 pub mod Words
 pub mod Named
+pub mod EachCall
+pub mod Summary
