@@ -8,7 +8,7 @@ use crate::reference::sender::{Answer, Report};
 use crate::reference::summary::SUMMARY_LENGTH;
 use crate::reference::Refused;
 
-/// What must come about. "Counts" are some above 0.
+/// What must come about. With counts means with one above 0.
 #[derive(Clone, Copy, Debug, PartialEq, Eq)]
 pub enum Reached {
     // Begins.
@@ -198,7 +198,6 @@ impl<'a> Counter<'a> {
         let highest = sent.iter().copied().max().unwrap_or(0);
         let equals = sent.iter().filter(|&&count| count == highest).count();
         let without_0 = sent[0] < highest;
-        // A long begin that finds number 0 alone changes no more than its count.
         let tick = matches!(event.call, Call::Tick(_));
         self.counts.add(&[
             (Reached::NumberAgain, highest > 1),

@@ -418,9 +418,8 @@ fn when_asked(sender: &mut Sender, given: Given, summary: &mut [u8]) -> Called {
 
 fn refused_counts(sender: &mut Sender, given: Given, summary: &mut [u8]) -> Called {
     let answer = right(sender, given, summary);
-    match (given, answer) {
-        (Given::Hear(heard), Err(Refused(6 | 7))) => raise(summary, heard.data[0]),
-        _ => {}
+    if let (Given::Hear(heard), Err(Refused(6 | 7))) = (given, answer) {
+        raise(summary, heard.data[0]);
     }
     answer
 }
