@@ -18,7 +18,7 @@ use Rattle.sender.specs.declared.Phase.{Phase}
 use Rattle.sender.specs.declared.Sender.{Sender}
 use Rattle.summary.proofs.Laws.{counts-no-other}
 use Rattle.summary.specs.Calls.{Kept, ifLent, isRefused, keeping, begun, keptBy, keptOf}
-use Rattle.summary.specs.Counts.{counting}
+use Rattle.summary.specs.Counts.{cleared, counting}
 use Rattle.summary.specs.Summary.{EachCall}
 
 -- ---- what is not counted
@@ -52,7 +52,7 @@ module _ (s : Sender) (counts : List ℕ) where
   begins : (message : List ℕ) → Leaves s counts (begun (answerOf s (begin message)) counts)
   unfolding begun
   begins message =
-      pick-elim (Leaves s counts) _
+      pick-elim (Leaves s counts) _ {y = keeping (answerOf s (begin message)) cleared}
       (λ denied number e. (demand-1 .called s (begin message) number e, refl))
       (λ accepted number e. absurd (true≢false (sym (ap isRefused e) ∙ accepted)))
 
