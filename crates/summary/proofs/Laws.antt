@@ -19,7 +19,7 @@ use Rattle.sender.specs.declared.Answer.{Answer}
 use Rattle.sender.specs.declared.Sender.{Sender}
 use Rattle.summary.specs.Calls.{Kept, kept, ifLent, isRefused, keeping, begun}
 use Rattle.summary.specs.Counts.{countAt, cleared, adding, counting}
-use Rattle.summary.specs.Most.{overtakes, mostTo, countFor}
+use Rattle.summary.specs.Most.{overtakes, ofTwo, mostTo, countFor}
 use Rattle.summary.specs.declared.Count.{Count}
 
 -- ---- a frame that goes out
@@ -111,11 +111,11 @@ module _ (counts : List ℕ) (number count last later : ℕ) (takes : Bool)
   by-test = rw (← named, ← is, ← add-one last, ← reads, ← test)
 
   pub most-later : takes ≡ true → last + 1 ≡ mostTo counts (last + 1)
-  unfolding mostTo
+  unfolding mostTo ofTwo
   most-later holds = rw (add-one last) (pick-true _ (by-test ∙ holds) refl)
 
   pub most-stays : takes ≡ false → number ≡ mostTo counts (last + 1)
-  unfolding mostTo
+  unfolding mostTo ofTwo
   most-stays fails = rw (add-one last) (pick-false _ (by-test ∙ fails) named)
 
 -- all have been read

@@ -3,3 +3,4 @@ pub mod Words
 pub mod Named
 pub mod EachCall
 pub mod Summary
+pub mod Example

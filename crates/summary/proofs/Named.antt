@@ -8,21 +8,22 @@ use mathlib.Core.List.{List}
 use native.Mathlib.Omega.{arith}
 use borrow.Author.Tests.{eq-eqb, ltb-true, ltb-false}
 use Rattle.frame.proofs.Choice.{pick-true, pick-elim, pick-accepted}
-use Rattle.frame.specs.Choice.{pick}
 use Rattle.frame.specs.Result.{accepted}
 use Rattle.summary.proofs.Laws.{counted-is}
 use Rattle.summary.proofs.Words.{last-or-before, at-cleared, length-cleared}
 use Rattle.summary.specs.Counts.{countAt, cleared}
-use Rattle.summary.specs.Most.{overtakes, mostTo, countFor, mostOf}
+use Rattle.summary.specs.Most.{overtakes, ofTwo, mostTo, countFor, mostOf}
 use Rattle.summary.specs.Summary.{MostOften, Names}
 use Rattle.summary.specs.declared.Count.{Count}
 
 -- the law of the rule: what holds of a later number that was sent more often, and of the one named so far where the later
 -- one was not, holds of the number that is named
-pub rule-elim : {A : Type 0} (P : A → Type 0) (named later : ℕ) {x y : A} → (named < later → P x) → (later ≤ named → P y)
-    → P (pick (overtakes named later) x y)
-unfolding overtakes
-rule-elim P named later more rest = pick-elim P _ (λ e. more (ltb-true _ _ e)) (λ e. rest (ltb-false _ _ e))
+pub two-elim : (P : ℕ → Type 0) (counts : List ℕ) (named later : ℕ)
+    → (countAt counts named < countAt counts later → P later)
+    → (countAt counts later ≤ countAt counts named → P named)
+    → P (ofTwo counts named later)
+unfolding ofTwo overtakes
+two-elim P counts named later more rest = pick-elim P _ (λ e. more (ltb-true _ _ e)) (λ e. rest (ltb-false _ _ e))
 
 accepted-same : {x y : Count} → accepted x ≡ accepted y → x ≡ y
 accepted-same e = cc
@@ -82,7 +83,7 @@ module _ (counts : List ℕ) where
       }
   most-to (suc end) =
       let h = most-to end in
-      rule-elim (MostTo counts (suc end)) _ _ (overtaken end (mostTo counts end) h) (stays end (mostTo counts end) h)
+      two-elim (MostTo counts (suc end)) counts _ _ (overtaken end (mostTo counts end) h) (stays end (mostTo counts end) h)
 
 pub most-often : (counts : List ℕ) → MostOften counts (mostTo counts 255)
 most-often counts =

@@ -3,3 +3,4 @@ pub mod Calls
 pub mod Most
 pub mod Seen
 pub mod Summary
+pub mod Example

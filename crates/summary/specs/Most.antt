@@ -16,13 +16,13 @@ use Rattle.summary.specs.declared.Counted.the-variants as counted-varian
 unfoldable pub overtakes : ℕ → ℕ → Bool
 overtakes named later = ltb named later
 
+unfoldable pub ofTwo : List ℕ → ℕ → ℕ → ℕ
+ofTwo counts named later = pick (overtakes (countAt counts named) (countAt counts later)) later named
+
 -- the number that is named of those from 0 to this one
 unfoldable pub mostTo : List ℕ → ℕ → ℕ
 mostTo counts zero = 0
-mostTo counts (suc last) =
-    pick (overtakes (countAt counts (mostTo counts last)) (countAt counts (suc last)))
-    (suc last)
-    (mostTo counts last)
+mostTo counts (suc last) = ofTwo counts (mostTo counts last) (suc last)
 
 -- a number with its count
 unfoldable pub countFor : List ℕ → ℕ → Count
