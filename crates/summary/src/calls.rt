@@ -4,6 +4,7 @@ ghost use mathlib.Core.Path.{_≡_};
 ghost use Rattle.sender.specs.Call.{begin, tick, hear, post};
 ghost use Rattle.sender.specs.Told.{toldOutcome, told};
 ghost use Rattle.summary.specs.Calls.{kept, isRefused, keptOf};
+use crate::NOT_LENT;
 use crate::SIZE;
 use crate::counts::count;
 use frame::Frame;
@@ -29,7 +30,7 @@ pub fn begin(s: Sender, message: &[u8], counts: &mut [u8]) -> Answer
         ≡ keptOf s (begin (now (message .entry))) (now (counts .entry)) ⌝ }
 {
     if counts.len() != SIZE {
-        return s.refusing(5);
+        return s.refusing(NOT_LENT);
     }
     let answer = s.begin(message);
     let outcome = answer.outcome;
@@ -47,7 +48,7 @@ pub fn tick(s: Sender, message: &[u8], counts: &mut [u8]) -> Answer
         ≡ keptOf s (tick (now (message .entry))) (now (counts .entry)) ⌝ }
 {
     if counts.len() != SIZE {
-        return s.refusing(5);
+        return s.refusing(NOT_LENT);
     }
     let answer = s.tick(message);
     count(answer.frame, counts);
@@ -59,7 +60,7 @@ pub fn hear(s: Sender, f: Frame, counts: &mut [u8]) -> Answer
     ensures { λ r. ⌜ kept (told r) (now (counts .exit)) ≡ keptOf s (hear f) (now (counts .entry)) ⌝ }
 {
     if counts.len() != SIZE {
-        return s.refusing(5);
+        return s.refusing(NOT_LENT);
     }
     let answer = s.hear(f);
     count(answer.frame, counts);
@@ -72,7 +73,7 @@ pub fn post(s: Sender, message: &[u8], counts: &mut [u8]) -> Answer
         ≡ keptOf s (post (now (message .entry))) (now (counts .entry)) ⌝ }
 {
     if counts.len() != SIZE {
-        return s.refusing(5);
+        return s.refusing(NOT_LENT);
     }
     let answer = s.post(message);
     count(answer.frame, counts);

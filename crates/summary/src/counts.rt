@@ -22,10 +22,10 @@ fn add(number: u8, counts: &mut [u8])
     requires { ⌜ length (now counts) ≡ 512 ⌝ }
     ensures { λ _. ⌜ now (counts .exit) ≡ adding (now (counts .entry)) number ⌝ }
 {
-    let at = 2 * (number as usize);
-    let count = increment(word(counts[at], counts[at + 1]));
-    counts[at] = low_byte(count);
-    counts[at + 1] = high_byte(count);
+    let count = increment(count_at(number, counts));
+    let low = 2 * (number as usize);
+    counts[low] = low_byte(count);
+    counts[low + 1] = high_byte(count);
 }
 
 // A frame that goes out: an information frame is counted, no other is.

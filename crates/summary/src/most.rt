@@ -4,6 +4,7 @@ ghost use lib.ListN.{length};
 ghost use Rattle.summary.specs.Most.{overtakes, mostTo, countFor, toldCounted, countOf, mostOf};
 use crate::Count;
 use crate::Counted;
+use crate::NOT_LENT;
 use crate::SIZE;
 use crate::counts::count_at;
 
@@ -38,7 +39,7 @@ pub fn count_of(number: u8, counts: &[u8]) -> Counted
     ensures { λ r. ⌜ toldCounted r ≡ countOf number (now (counts .entry)) ⌝ }
 {
     if counts.len() != SIZE {
-        return Counted::Refused(5);
+        return Counted::Refused(NOT_LENT);
     }
     let count = count_at(number, counts);
     Counted::Read(Count { number, count })
@@ -49,7 +50,7 @@ pub fn most_of(counts: &[u8]) -> Counted
     ensures { λ r. ⌜ toldCounted r ≡ mostOf (now (counts .entry)) ⌝ }
 {
     if counts.len() != SIZE {
-        return Counted::Refused(5);
+        return Counted::Refused(NOT_LENT);
     }
     Counted::Read(most(counts))
 }

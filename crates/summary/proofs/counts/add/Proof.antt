@@ -4,27 +4,18 @@
 use borrow.Author.Needs.{needs}
 use native.Mathlib.Omega.{arith}
 use lib.ListN.{length-set}
-use Rattle.summary.specs.Counts.{countAt, withCount, adding}
+use Rattle.summary.specs.Counts.{withCount, adding}
 use Rattle.summary.proofs.counts.add.Statement.{statement}
 use Rattle.summary.proofs.counts.add.Tie as tie
 
-mul-at : tie.Need-mul-at
-mul-at c = search needs
-
-slice-read-word : tie.Need-slice-read-word
-slice-read-word c = search needs
-
-add-word : tie.Need-add-word
-add-word c = search needs
-
-slice-read-word-2 : tie.Need-slice-read-word-2
-slice-read-word-2 c = search needs
-
-word-requires : tie.Need-word-requires
-word-requires c κs = search needs
+count-at-requires : tie.Need-count-at-requires
+count-at-requires c κs = search needs
 
 increment-requires : tie.Need-increment-requires
 increment-requires c κs = search needs
+
+mul-low : tie.Need-mul-low
+mul-low c = search needs
 
 low-byte-requires : tie.Need-low-byte-requires
 low-byte-requires c κs = search needs
@@ -45,19 +36,16 @@ same-length : tie.Need-same-length
 same-length c = search needs
 
 returns : tie.Need-returns
-unfolding adding withCount countAt
+unfolding adding withCount
 returns c = cc
 
 pub add-spec : {M : Type 1} → statement M
 add-spec =
     tie.close
     (tie.spec
-    mul-at
-    slice-read-word
-    add-word
-    slice-read-word-2
-    word-requires
+    count-at-requires
     increment-requires
+    mul-low
     low-byte-requires
     slice-write-counts
     high-byte-requires
