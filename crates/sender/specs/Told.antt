@@ -27,6 +27,13 @@ pub data Outcome : Type 0 where
   sent : (ticks frames : ℕ) → Outcome
   failed : (cause ticks frames : ℕ) → Outcome
 
+-- whether a call was refused
+abbrev pub isRefused : Outcome → Bool
+isRefused quiet = false
+isRefused (refused number) = true
+isRefused (sent ticks frames) = false
+isRefused (failed cause ticks frames) = false
+
 -- document 01's number and values for each case of the outcome
 abbrev pub toldOutcome : outcome-enum.Outcome → Outcome
 toldOutcome outcome-variants.Quiet = quiet

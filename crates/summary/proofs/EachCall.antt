@@ -1,11 +1,14 @@
--- A refused call changes nothing, and neither post nor a hearing counts anything: no frame goes out, or none of kind 1.
+-- A call answers as the sender's own or is refused 5; a refused one changes nothing; and neither post nor a hearing counts
+-- anything, since no frame goes out with it, or none of kind 1.
 -- Assumes nothing.
 use Prim.Native.Nat.{ℕ}
 use mathlib.Core.Bool.{true≢false}
 use mathlib.Core.List.{List}
 use mathlib.Core.Path.{_≡_, refl, sym, _∙_, ap}
 use native.Mathlib.Omega.{arith}
-use Rattle.frame.proofs.Choice.{pick-elim}
+use borrow.Author.Tests.{eq-eqb, ne-eqb}
+use lib.ListN.{length}
+use Rattle.frame.proofs.Choice.{pick-true, pick-false, pick-elim}
 use Rattle.frame.specs.Frames.{blankOf, lmNackOf, smUrmOf}
 use Rattle.frame.specs.declared.Frame.{Frame}
 use Rattle.sender.proofs.Demand1.{demand-1}
@@ -13,11 +16,11 @@ use Rattle.sender.proofs.View.{Hears, refuses, ignores, above, takes, takes-hol
 use Rattle.sender.specs.Call.{Call, begin, tick, hear, post, answerOf}
 use Rattle.sender.specs.Demand1.{Unchanged}
 use Rattle.sender.specs.Hear.{taking, takingHold}
-use Rattle.sender.specs.Told.{refused, Told}
+use Rattle.sender.specs.Told.{refused, isRefused, Told, refusing}
 use Rattle.sender.specs.declared.Phase.{Phase}
 use Rattle.sender.specs.declared.Sender.{Sender}
 use Rattle.summary.proofs.Laws.{counts-no-other}
-use Rattle.summary.specs.Calls.{Kept, ifLent, isRefused, keeping, begun, keptBy, keptOf}
+use Rattle.summary.specs.Calls.{Kept, kept, ifLent, keeping, begun, keptBy, keptOf}
 use Rattle.summary.specs.Counts.{cleared, counting}
 use Rattle.summary.specs.Summary.{EachCall}
 
@@ -35,6 +38,29 @@ module _ (counts : List ℕ) where
   pub posted-none : (message : List ℕ) → counting counts (smUrmOf message) ≡ counts
   unfolding smUrmOf
   posted-none message = sym (counts-no-other counts (smUrmOf message) (λ e. omega (arith, e)))
+
+-- ---- the answer
+
+-- whatever becomes of the counts, the answer is the sender's
+told-by : (c : Call) (t : Told) (counts : List ℕ) → keptBy c t counts .told ≡ t
+unfolding begun
+told-by (begin m) t counts = pick-elim (λ (k : Kept). k .told ≡ t) _ (λ denied. refl) (λ accepted. refl)
+told-by (tick m) t counts = refl
+told-by (hear f) t counts = refl
+told-by (post m) t counts = refl
+
+module _ (s : Sender) (call : Call) (counts : List ℕ) where
+  -- lent 512 bytes, and lent another length
+  pub lent-is : length counts ≡ 512 → keptOf s call counts ≡ keptBy call (answerOf s call) counts
+  unfolding ifLent
+  lent-is full = sym (pick-true _ (eq-eqb _ _ full) refl)
+
+  pub answers-alike : length counts ≡ 512 → keptOf s call counts .told ≡ answerOf s call
+  answers-alike full = ap (λ (k : Kept). k .told) (lent-is full) ∙ told-by call (answerOf s call) counts
+
+  unlent-is : (length counts ≡ 512 → ⊥) → keptOf s call counts ≡ kept (refusing s 5) counts
+  unfolding ifLent
+  unlent-is other = sym (pick-false _ (ne-eqb _ _ other) refl)
 
 -- ---- refusals
 
@@ -99,6 +125,8 @@ module _ (s : Sender) (counts : List ℕ) where
 pub each-call : EachCall
 each-call =
     record {
+      answers = answers-alike;
+      unlent = unlent-is;
       refuses = λ s call counts. leaves s counts call;
       posts = λ s message counts. posts-nothing s counts message;
       hears = λ s f counts. hears-nothing s counts f;

@@ -14,10 +14,10 @@ use Rattle.frame.specs.Choice.{pick}
 use Rattle.frame.specs.Frames.{byteOf}
 use Rattle.frame.specs.Result.{Result, accepted, refused}
 use Rattle.frame.specs.declared.Frame.{Frame}
-use Rattle.sender.specs.Told.{toldOutcome, Told, told, refusing}
+use Rattle.sender.specs.Told.{isRefused, toldOutcome, Told, told, refusing}
 use Rattle.sender.specs.declared.Answer.{Answer}
 use Rattle.sender.specs.declared.Sender.{Sender}
-use Rattle.summary.specs.Calls.{Kept, kept, ifLent, isRefused, keeping, begun}
+use Rattle.summary.specs.Calls.{Kept, kept, ifLent, keeping, begun}
 use Rattle.summary.specs.Counts.{countAt, cleared, adding, counting}
 use Rattle.summary.specs.Most.{overtakes, ofTwo, mostTo, countFor}
 use Rattle.summary.specs.declared.Count.{Count}

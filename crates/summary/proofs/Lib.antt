@@ -1,4 +1,5 @@
 pub mod Laws
+pub mod Told
 pub mod Words
 pub mod Named
 pub mod EachCall

@@ -3,18 +3,18 @@
 -- Assumes nothing.
 use Prim.Native.Nat.{ℕ, zero, suc, _≤_, _<_}
 use mathlib.Core.Logic.{_⊎_, inl, inr}
-use mathlib.Core.Path.{_≡_, refl, sym, subst}
+use mathlib.Core.Path.{_≡_, refl, sym, ap, _∙_}
 use mathlib.Core.List.{List}
 use native.Mathlib.Omega.{arith}
 use borrow.Author.Tests.{eq-eqb, ltb-true, ltb-false}
-use Rattle.frame.proofs.Choice.{pick-true, pick-elim, pick-accepted}
+use lib.ListN.{length}
+use Rattle.frame.proofs.Choice.{pick-true, pick-elim}
 use Rattle.frame.specs.Result.{accepted}
 use Rattle.summary.proofs.Laws.{counted-is}
 use Rattle.summary.proofs.Words.{last-or-before, at-cleared, length-cleared}
 use Rattle.summary.specs.Counts.{countAt, cleared}
 use Rattle.summary.specs.Most.{overtakes, ofTwo, mostTo, countFor, mostOf}
 use Rattle.summary.specs.Summary.{MostOften, Names}
-use Rattle.summary.specs.declared.Count.{Count}
 
 -- the law of the rule: what holds of a later number that was sent more often, and of the one named so far where the later
 -- one was not, holds of the number that is named
@@ -24,9 +24,6 @@ pub two-elim : (P : ℕ → Type 0) (counts : List ℕ) (named later : ℕ)
     → P (ofTwo counts named later)
 unfolding ofTwo overtakes
 two-elim P counts named later more rest = pick-elim P _ (λ e. more (ltb-true _ _ e)) (λ e. rest (ltb-false _ _ e))
-
-accepted-same : {x y : Count} → accepted x ≡ accepted y → x ≡ y
-accepted-same e = cc
 
 -- of the numbers from 0 to this one
 record MostTo (counts : List ℕ) (end number : ℕ) : Type 0 where
@@ -104,26 +101,27 @@ only-one counts a b p q =
     let high = q .lowest a (p .inside) same in
     omega (arith, low, high)
 
-is-named : (counts : List ℕ) (x : Count) → mostOf counts ≡ accepted x
-    → MostOften counts (x .number) × (x .count ≡ countAt counts (x .number))
-unfolding mostOf countFor
-is-named counts x e =
-    let same : countFor counts (mostTo counts 255) ≡ x = accepted-same (pick-accepted _ _ 5 e .1) in
-    subst (λ (y : Count). MostOften counts (y .number) × (y .count ≡ countAt counts (y .number))) same (most-often counts, refl)
-
 pub names : Names
-names = record { named = is-named; only = λ counts number h. only-one counts number _ h (most-often counts) }
+unfolding mostOf
+names =
+    record {
+      some = most-often;
+      named = λ counts number full h. is-named counts number full (only-one counts _ number (most-often counts) h);
+    }
+  where
+    is-named : (counts : List ℕ) (number : ℕ) → length counts ≡ 512 → mostTo counts 255 ≡ number
+        → mostOf counts ≡ accepted (record { number = number; count = countAt counts number })
+    is-named counts number full same =
+        sym (pick-true _ (eq-eqb _ _ full) (ap accepted (counted-is counts number _ refl ∙ ap (countFor counts) (sym same))))
 
 -- with every count 0 it is 0
 pub names-none : mostOf cleared ≡ accepted (record { number = 0; count = 0 })
-unfolding mostOf
 names-none =
+    let none = at-cleared 0 (omega arith) in
     let least : MostOften cleared 0 =
     record {
       inside = omega arith;
-      most = λ other low. rw (at-cleared other low, at-cleared 0 (omega arith)) (omega arith);
+      most = λ other low. rw (at-cleared other low, none) (omega arith);
       lowest = λ other low e. omega arith;
     } in
-    let zero-named = only-one cleared _ 0 (most-often cleared) least in
-    let is = counted-is cleared 0 0 (sym (at-cleared 0 (omega arith))) in
-    sym (pick-true _ (eq-eqb _ _ length-cleared) (rw (zero-named, ← is)))
+    names .named cleared 0 length-cleared least ∙ ap (λ n. accepted (record { number = 0; count = n })) none

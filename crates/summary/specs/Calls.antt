@@ -1,14 +1,11 @@
 -- Document 02, E6: the sender's calls, which also keep the counts.
 use Prim.Native.Nat.{ℕ}
-use mathlib.Core.Bool.{Bool, true, false}
 use mathlib.Core.List.{List}
-use lib.Dec.{eqb}
-use lib.ListN.{length}
 use Rattle.frame.specs.Choice.{pick}
 use Rattle.sender.specs.Call.{Call, begin, tick, hear, post, answerOf}
-use Rattle.sender.specs.Told.{Outcome, quiet, refused, sent, failed, Told, refusing}
+use Rattle.sender.specs.Told.{isRefused, Told, refusing}
 use Rattle.sender.specs.declared.Sender.{Sender}
-use Rattle.summary.specs.Counts.{cleared, counting}
+use Rattle.summary.specs.Counts.{isLent, cleared, counting}
 
 -- a call's whole answer, and the lent counts as it leaves them
 pub record Kept : Type 0 where
@@ -18,16 +15,9 @@ pub record Kept : Type 0 where
 abbrev pub kept : Told → List ℕ → Kept
 kept t counts = record { told = t; counts = counts }
 
--- Refusals: number 5, before all else, where what is lent for the counts has not 512 bytes
+-- Document 01, Refusals, number 5, which is a lent buffer of another length: so it is for the counts, before all else
 unfoldable pub ifLent : Sender → List ℕ → Kept → Kept
-ifLent s counts k = pick (eqb (length counts) 512) k (kept (refusing s 5) counts)
-
--- The line: a begin is accepted if it is not refused
-abbrev pub isRefused : Outcome → Bool
-isRefused quiet = false
-isRefused (refused number) = true
-isRefused (sent ticks frames) = false
-isRefused (failed cause ticks frames) = false
+ifLent s counts k = pick (isLent counts) k (kept (refusing s 5) counts)
 
 -- the sender's answer, and the frame that goes out with it counted
 abbrev pub keeping : Told → List ℕ → Kept
@@ -37,6 +27,7 @@ keeping t counts = kept t (counting counts (t .frame))
 unfoldable pub begun : Told → List ℕ → Kept
 begun t counts = pick (isRefused (t .outcome)) (kept t counts) (keeping t cleared)
 
+-- what each call makes of its answer and the counts
 abbrev pub keptBy : Call → Told → List ℕ → Kept
 keptBy (begin message) t counts = begun t counts
 keptBy (tick message) t counts = keeping t counts

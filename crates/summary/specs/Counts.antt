@@ -1,12 +1,17 @@
 -- Document 02, E6: the counts. They lie in 512 lent bytes, a word for each number 0 to 255, its low byte first.
 use Prim.Native.Nat.{ℕ, zero, suc, _+_, _*_}
+use mathlib.Core.Bool.{Bool}
 use mathlib.Core.List.{List}
 use lib.Dec.{eqb}
-use lib.ListN.{getD, replicate, set}
+use lib.ListN.{length, getD, replicate, set}
 use Rattle.frame.specs.Choice.{pick}
 use Rattle.frame.specs.Count.{incrementOf, lowByte, highByte, wordOf}
 use Rattle.frame.specs.Frames.{byteOf}
 use Rattle.frame.specs.declared.Frame.{Frame}
+
+-- what is lent has these 512 bytes
+abbrev pub isLent : List ℕ → Bool
+isLent counts = eqb (length counts) 512
 
 -- the count of a number
 unfoldable pub countAt : List ℕ → ℕ → ℕ

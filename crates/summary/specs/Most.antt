@@ -2,11 +2,10 @@
 use Prim.Native.Nat.{ℕ, zero, suc}
 use mathlib.Core.Bool.{Bool}
 use mathlib.Core.List.{List}
-use lib.Dec.{eqb, ltb}
-use lib.ListN.{length}
+use lib.Dec.{ltb}
 use Rattle.frame.specs.Choice.{pick}
 use Rattle.frame.specs.Result.{Result, accepted, refused}
-use Rattle.summary.specs.Counts.{countAt}
+use Rattle.summary.specs.Counts.{isLent, countAt}
 use Rattle.summary.specs.declared.Count.{Count}
 use Rattle.summary.specs.declared.Counted as counted-enum
 use Rattle.summary.specs.declared.Counted.the-variants as counted-variants
@@ -16,6 +15,7 @@ use Rattle.summary.specs.declared.Counted.the-variants as counted-varian
 unfoldable pub overtakes : ℕ → ℕ → Bool
 overtakes named later = ltb named later
 
+-- that one of the two
 unfoldable pub ofTwo : List ℕ → ℕ → ℕ → ℕ
 ofTwo counts named later = pick (overtakes (countAt counts named) (countAt counts later)) later named
 
@@ -33,10 +33,10 @@ abbrev pub toldCounted : counted-enum.Counted → Result Count
 toldCounted (counted-variants.Read x) = accepted x
 toldCounted (counted-variants.Refused number) = refused number
 
--- the count of a number. Refused 5 where what is lent has not 512 bytes
+-- the count of a number. Refused 5 where the counts are not lent
 unfoldable pub countOf : ℕ → List ℕ → Result Count
-countOf number counts = pick (eqb (length counts) 512) (accepted (countFor counts number)) (refused 5)
+countOf number counts = pick (isLent counts) (accepted (countFor counts number)) (refused 5)
 
 -- E6, "names": of all numbers. Refused 5 likewise
 unfoldable pub mostOf : List ℕ → Result Count
-mostOf counts = pick (eqb (length counts) 512) (accepted (countFor counts (mostTo counts 255))) (refused 5)
+mostOf counts = pick (isLent counts) (accepted (countFor counts (mostTo counts 255))) (refused 5)

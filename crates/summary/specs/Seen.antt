@@ -9,9 +9,9 @@ use Rattle.frame.specs.Choice.{pick}
 use Rattle.frame.specs.Frames.{byteOf}
 use Rattle.frame.specs.declared.Frame.{Frame}
 use Rattle.sender.specs.Call.{Call, begin, tick, hear, post}
-use Rattle.sender.specs.Told.{Outcome, quiet, refused, sent, failed, Told}
+use Rattle.sender.specs.Told.{Outcome, quiet, refused, sent, failed, isRefused, Told}
 use Rattle.sender.specs.declared.Sender.{Sender}
-use Rattle.summary.specs.Calls.{Kept, isRefused, keptOf}
+use Rattle.summary.specs.Calls.{Kept, keptOf}
 use Rattle.summary.specs.Counts.{cleared}
 
 -- ---- calls
@@ -33,39 +33,47 @@ emittedBy t = pick (t .emits) (t .frame ∷ []) []
 abbrev pub eventOf : Call → Told → Event
 eventOf call t = record { call = call; emitted = emittedBy t; outcome = t .outcome }
 
--- the sender, the bytes of its counts, and the events so far, newest first
-pub record State : Type 0 where
+-- the sender, the bytes of its counts, and the events that led there, newest first
+pub record Past : Type 0 where
   pub sender : Sender
   pub counts : List ℕ
   pub events : List Event
 
 -- E6, "a fresh sender": nothing has been called, and every count is 0
-abbrev pub freshWith : Sender → State
+abbrev pub freshWith : Sender → Past
 freshWith s = record { sender = s; counts = cleared; events = [] }
 
--- a call that is lent another length is not lent the bytes of the counts, and leaves them
-abbrev pub after : State → Lending → Kept → State
-after w l k =
+-- after a call: one that is refused leaves the bytes of the counts, whatever it was lent in their place
+abbrev pub leaving : Past → Call → Kept → Past
+leaving p call k =
     record {
       sender = k .told .next;
-      counts = pick (eqb (length (l .lent)) 512) (k .counts) (w .counts);
-      events = eventOf (l .call) (k .told) ∷ w .events;
+      counts = pick (isRefused (k .told .outcome)) (p .counts) (k .counts);
+      events = eventOf call (k .told) ∷ p .events;
     }
 
-unfoldable pub step : State → Lending → State
-step w l = after w l (keptOf (w .sender) (l .call) (l .lent))
+-- what a call answers, lent these bytes, and what it leaves
+abbrev pub answered : Past → Lending → Kept
+answered p l = keptOf (p .sender) (l .call) (l .lent)
 
-unfoldable pub run : State → List Lending → State
-run w [] = w
-run w (l ∷ calls) = run (step w l) calls
+unfoldable pub next : Past → Lending → Past
+next p l = leaving p (l .call) (answered p l)
 
--- what is asked of the calls: those that are lent 512 bytes are lent the bytes of the counts, as the call before left them
-abbrev pub LentOwn : State → List Lending → Type 0
-LentOwn w [] = Unit
-LentOwn w (l ∷ calls) = (length (l .lent) ≡ 512 → l .lent ≡ w .counts) × LentOwn (step w l) calls
+-- a list of calls, each made where the one before it left off
+unfoldable pub runOf : Past → List Lending → Past
+runOf p [] = p
+runOf p (l ∷ calls) = runOf (next p l) calls
+
+-- What is asked of the calls: one that is not refused is lent the bytes of the counts, as the call before left them. One that
+-- is refused may be lent anything (document 01, The line, on refused calls)
+abbrev pub LentOwn : Past → List Lending → Type 0
+LentOwn p [] = Unit
+LentOwn p (l ∷ calls) =
+    (isRefused (answered p l .told .outcome) ≡ false → l .lent ≡ p .counts) × LentOwn (next p l) calls
 
 -- ---- what is read off the events
 
+-- whether a call is a begin, or a post
 abbrev pub isBegin : Call → Bool
 isBegin (begin message) = true
 isBegin (tick message) = false
@@ -78,7 +86,7 @@ isPost (tick message) = false
 isPost (hear f) = false
 isPost (post message) = true
 
--- Document 01, Lengths: from 9 bytes on a message goes long
+-- Document 01, Frames, Lengths: a begin of 9 bytes or more is long
 abbrev pub isLong : Call → Bool
 isLong (begin message) = leb 9 (length message)
 isLong (tick message) = false
@@ -100,16 +108,16 @@ framesSince among (e ∷ events) =
 abbrev pub history : List Event → List Frame
 history events = framesSince (λ call. true) events
 
--- E6, a report and "its frames": document 01, Post, "is not counted"
+-- E6, "its frames": those that a report counts. Document 01, The sender, Post: a post is none of them
 abbrev pub reported : List Event → List Frame
 reported events = framesSince (λ call. not (isPost call)) events
 
--- the last accepted begin was of a long message
+-- the last accepted begin was of a long message; false before any
 unfoldable pub longIn : List Event → Bool
 longIn [] = false
 longIn (e ∷ events) = pick (begins e) (isLong (e .call)) (longIn events)
 
--- Frames, kind 1: an information frame, and one with a number
+-- Document 01, Frames, kind 1: an information frame, and one with a number
 abbrev pub isInformation : Frame → Bool
 isInformation f = eqb (f .kind) 1
 
@@ -117,9 +125,9 @@ abbrev pub isNumbered : ℕ → Frame → Bool
 isNumbered number f = isInformation f && eqb (byteOf f 0) number
 
 -- how many frames of a list pass a test
-unfoldable pub howMany : (Frame → Bool) → List Frame → ℕ
-howMany test [] = 0
-howMany test (f ∷ frames) = pick (test f) 1 0 + howMany test frames
+unfoldable pub countIf : (Frame → Bool) → List Frame → ℕ
+countIf test [] = 0
+countIf test (f ∷ frames) = pick (test f) 1 0 + countIf test frames
 
 -- a report of so many frames
 abbrev pub Reports : Outcome → ℕ → Type 0

@@ -1,5 +1,5 @@
--- Document 02, E6: what is claimed of every list of calls, and of the number that is named. Proved in `proofs/`: `Summary.antt`,
--- `Named.antt`, `EachCall.antt`.
+-- Document 02, E6: what is claimed of every list of calls, of the number that is named, and of each call. Proved in `proofs/`:
+-- `Summary.antt`, `Named.antt`, `EachCall.antt`.
 use Prim.Native.Nat.{ℕ, _+_, _≤_, _<_}
 use mathlib.Core.Bool.{true, false}
 use mathlib.Core.List.{List}
@@ -8,37 +8,37 @@ use lib.ListN.{length}
 use Rattle.frame.specs.Count.{incrementOf}
 use Rattle.frame.specs.Result.{accepted}
 use Rattle.frame.specs.declared.Frame.{Frame}
-use Rattle.sender.specs.Call.{Call, hear, post}
+use Rattle.sender.specs.Call.{Call, hear, post, answerOf}
 use Rattle.sender.specs.Demand1.{Unchanged}
 use Rattle.sender.specs.Make.{makeOf}
-use Rattle.sender.specs.Told.{refused}
+use Rattle.sender.specs.Told.{refused, refusing}
 use Rattle.sender.specs.declared.Sender.{Sender}
-use Rattle.summary.specs.Calls.{keptOf}
+use Rattle.summary.specs.Calls.{kept, keptOf}
 use Rattle.summary.specs.Counts.{countAt, cleared, sumOf}
-use Rattle.summary.specs.Most.{mostTo, mostOf}
-use Rattle.summary.specs.Seen.{Lending, State, freshWith, run, LentOwn, history, reported, longIn, isInformation, isNumbered, howMany, JustReported, justEmitted}
-use Rattle.summary.specs.declared.Count.{Count}
+use Rattle.summary.specs.Most.{mostTo, countOf, mostOf}
+use Rattle.summary.specs.Seen.{Lending, Past, freshWith, runOf, LentOwn, history, reported, longIn, isInformation, isNumbered, countIf, JustReported, justEmitted}
 
 -- What holds after a list of calls of a sender with this M.
-pub record Promise (limit : ℕ) (w : State) : Type 0 where
-  -- "each count equals that in the history": how often this number went out since the last accepted begin
+pub record Promise (limit : ℕ) (p : Past) : Type 0 where
+  -- "each count equals that in the history": what is read of a number is how often it went out since the last accepted begin
   pub counts : (number : ℕ) → number < 256
-      → countAt (w .counts) number ≡ howMany (isNumbered number) (history (w .events))
+      → countOf number (p .counts)
+      ≡ accepted (record { number = number; count = countIf (isNumbered number) (history (p .events)) })
   -- "at a report": the frames that it reports are those of the transfer, and the sum is the information frames among them
-  pub sum : (frames : ℕ) → JustReported (w .events) frames
-      → (length (reported (w .events)) ≡ frames)
-      × (sumOf (w .counts) ≡ howMany isInformation (reported (w .events)))
+  pub sum : (frames : ℕ) → JustReported (p .events) frames
+      → (length (reported (p .events)) ≡ frames)
+      × (sumOf (p .counts) ≡ countIf isInformation (reported (p .events)))
   -- more than E6 asks: a long transfer's report is of information frames alone, but for the NACK of the call that reports
-  pub closing : (frames : ℕ) → JustReported (w .events) frames → longIn (w .events) ≡ true
-      → sumOf (w .counts) + justEmitted (w .events) ≡ frames
+  pub closing : (frames : ℕ) → JustReported (p .events) frames → longIn (p .events) ≡ true
+      → sumOf (p .counts) + justEmitted (p .events) ≡ frames
   -- "Before any long begin", and after a short one, which clears and adds nothing: all counts are 0, and 0 is named
-  pub none : longIn (w .events) ≡ false
-      → (w .counts ≡ cleared) × (mostOf (w .counts) ≡ accepted (record { number = 0; count = 0 }))
-  -- M bounds the counts together and each of them, so that none is cut as it grows
-  pub bounded : sumOf (w .counts) ≤ limit
+  pub none : longIn (p .events) ≡ false
+      → (p .counts ≡ cleared) × (mostOf (p .counts) ≡ accepted (record { number = 0; count = 0 }))
+  -- M bounds the sum and each of the counts, so that none is cut as it grows
+  pub bounded : sumOf (p .counts) ≤ limit
   pub uncut : (number : ℕ) → number < 256
-      → (countAt (w .counts) number ≤ limit)
-      × (incrementOf (countAt (w .counts) number) ≡ countAt (w .counts) number + 1)
+      → (countAt (p .counts) number ≤ limit)
+      × (incrementOf (countAt (p .counts) number) ≡ countAt (p .counts) number + 1)
 
 -- the claim: of every list of calls, refused ones included, from a sender that making answered
 abbrev pub Summary : Type 0
@@ -46,7 +46,7 @@ Summary =
     (gap timeout limit : ℕ) (s : Sender) (calls : List Lending)
     → makeOf gap timeout limit ≡ accepted s
     → LentOwn (freshWith s) calls
-    → Promise limit (run (freshWith s) calls)
+    → Promise limit (runOf (freshWith s) calls)
 
 -- E6, "sent most often; of equals, the lowest"
 pub record MostOften (counts : List ℕ) (number : ℕ) : Type 0 where
@@ -54,14 +54,19 @@ pub record MostOften (counts : List ℕ) (number : ℕ) : Type 0 where
   pub most : (other : ℕ) → other < 256 → countAt counts other ≤ countAt counts number
   pub lowest : (other : ℕ) → other < 256 → countAt counts other ≡ countAt counts number → number ≤ other
 
--- the number that is named is that one, with its count, and there is no other
+-- There is such a number, of all bytes, and it is the one that is named, with its count.
 pub record Names : Type 0 where
-  pub named : (counts : List ℕ) (x : Count) → mostOf counts ≡ accepted x
-      → MostOften counts (x .number) × (x .count ≡ countAt counts (x .number))
-  pub only : (counts : List ℕ) (number : ℕ) → MostOften counts number → number ≡ mostTo counts 255
+  pub some : (counts : List ℕ) → MostOften counts (mostTo counts 255)
+  pub named : (counts : List ℕ) (number : ℕ) → length counts ≡ 512 → MostOften counts number
+      → mostOf counts ≡ accepted (record { number = number; count = countAt counts number })
 
--- of every sender and all lent bytes, reachable or not
+-- Of every sender and all lent bytes, reachable or not.
 pub record EachCall : Type 0 where
+  -- lent 512 bytes a call answers as the sender's own does; lent another length it is refused 5, whatever else is wrong
+  pub answers : (s : Sender) (call : Call) (counts : List ℕ) → length counts ≡ 512
+      → keptOf s call counts .told ≡ answerOf s call
+  pub unlent : (s : Sender) (call : Call) (counts : List ℕ) → (length counts ≡ 512 → ⊥)
+      → keptOf s call counts ≡ kept (refusing s 5) counts
   -- Document 01, Refusals, by place, its last line: a refused call leaves the sender and the lent bytes as they were
   pub refuses : (s : Sender) (call : Call) (counts : List ℕ) (number : ℕ)
       → keptOf s call counts .told .outcome ≡ refused number

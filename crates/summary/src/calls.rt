@@ -2,8 +2,8 @@
 // a refused call changes none of them.
 ghost use mathlib.Core.Path.{_≡_};
 ghost use Rattle.sender.specs.Call.{begin, tick, hear, post};
-ghost use Rattle.sender.specs.Told.{toldOutcome, told};
-ghost use Rattle.summary.specs.Calls.{kept, isRefused, keptOf};
+ghost use Rattle.sender.specs.Told.{isRefused, toldOutcome, told};
+ghost use Rattle.summary.specs.Calls.{kept, keptOf};
 use crate::NOT_LENT;
 use crate::SIZE;
 use crate::counts::count;
