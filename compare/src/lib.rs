@@ -7,3 +7,4 @@ pub mod agreement;
 pub mod packs;
 pub mod reference;
 pub mod sessions;
+pub mod summary;

@@ -1,14 +1,10 @@
 //! Reads a run pack on standard input and prints what the player prints.
 
-use std::io::{self, Read, Write};
+use std::io::{self, Write};
 
-use compare::reference::player::{play, PACK_MOST};
+use compare::reference::player::{play, take};
 
 fn main() -> io::Result<()> {
-    // One byte more than a pack may have is enough to tell that it has too many.
-    let mut pack = Vec::new();
-    io::stdin()
-        .take(PACK_MOST as u64 + 1)
-        .read_to_end(&mut pack)?;
+    let pack = take(io::stdin())?;
     io::stdout().write_all(play(&pack).as_bytes())
 }

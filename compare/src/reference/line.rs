@@ -196,7 +196,8 @@ impl Bench {
         Ok(self.join_forward(answer))
     }
 
-    fn join_forward(&mut self, answer: sender::Answer) -> Outcome {
+    /// What the sender answered; its frame joins forward.
+    pub fn join_forward(&mut self, answer: sender::Answer) -> Outcome {
         if let Some(frame) = answer.frame {
             self.forward.join(frame);
         }

@@ -8,6 +8,8 @@ pub mod line;
 pub mod player;
 pub mod receiver;
 pub mod sender;
+pub mod summary;
+pub mod summary_player;
 pub mod version;
 
 /// A refused call: its number is all that comes back.
@@ -27,7 +29,7 @@ pub mod refusal {
     pub const NOT_IDLE: Refused = Refused(3);
     /// A sender's tick lent fewer or more bytes than the message has.
     pub const LENT_LENGTH: Refused = Refused(4);
-    /// A receiver's hearing lent a buffer of another length.
+    /// A receiver's hearing lent a buffer of another length; a call lent a summary of another length.
     pub const BUFFER: Refused = Refused(5);
     /// A frame of no known kind, or with something in place of filler.
     pub const FRAME: Refused = Refused(6);

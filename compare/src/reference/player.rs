@@ -1,6 +1,7 @@
 //! Chapter "The player".
 
 use std::fmt::Write;
+use std::io::{self, Read};
 
 use super::frame::{Frame, BUFFER_LENGTH, LONG_MOST};
 use super::line::{Bench, Call, Outcome};
@@ -129,6 +130,14 @@ pub fn build(settings: &Settings, message: &[u8], events: &[u8]) -> Vec<u8> {
     pack
 }
 
+/// The pack on a program's input. One byte more than a pack may have is enough to tell that it has too
+/// many.
+pub fn take(input: impl Read) -> io::Result<Vec<u8>> {
+    let mut pack = Vec::new();
+    input.take(PACK_MOST as u64 + 1).read_to_end(&mut pack)?;
+    Ok(pack)
+}
+
 /// What the player prints for this pack.
 pub fn play(pack: &[u8]) -> String {
     play_with(pack, Bench::call)
@@ -140,14 +149,19 @@ pub fn play_with<S>(pack: &[u8], step: S) -> String
 where
     S: FnMut(&mut Bench, Call, &[u8], &mut [u8]) -> Result<Outcome, Refused>,
 {
-    match run(pack, step) {
+    told(run(pack, step))
+}
+
+/// "It prints `refused n` alone", or these lines.
+pub(super) fn told(lines: Result<String, Refused>) -> String {
+    match lines {
         Ok(lines) => lines,
-        // "It prints `refused n` alone"
         Err(Refused(number)) => format!("refused {number}\n"),
     }
 }
 
-fn run<S>(pack: &[u8], mut step: S) -> Result<String, Refused>
+/// The lines of a run in which `step` makes each call.
+pub(super) fn run<S>(pack: &[u8], mut step: S) -> Result<String, Refused>
 where
     S: FnMut(&mut Bench, Call, &[u8], &mut [u8]) -> Result<Outcome, Refused>,
 {

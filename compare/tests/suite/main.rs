@@ -14,10 +14,14 @@ mod receiver;
 mod refusals;
 mod saturation;
 mod sender;
+mod summary;
 mod types;
 mod version;
 
 pub mod help {
+    use std::io::Write;
+    use std::process::{Command, Stdio};
+
     use compare::reference::frame::{self, Frame, BUFFER_LENGTH};
     use compare::reference::receiver::{self, Connection, Receiver, State};
     use compare::reference::sender::{self, Sender};
@@ -124,5 +128,19 @@ pub mod help {
             frame: Some(frame::endof_ack(n, l)),
             report: Some(receiver::Report::Delivered { l }),
         }
+    }
+
+    /// What a program prints with this pack on its standard input.
+    pub fn through(program: &str, pack: &[u8]) -> String {
+        let mut child = Command::new(program)
+            .stdin(Stdio::piped())
+            .stdout(Stdio::piped())
+            .spawn()
+            .unwrap();
+        // The program may have read enough before all is written.
+        let _ = child.stdin.take().unwrap().write_all(pack);
+        let output = child.wait_with_output().unwrap();
+        assert!(output.status.success());
+        String::from_utf8(output.stdout).unwrap()
     }
 }

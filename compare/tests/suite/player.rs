@@ -1,8 +1,6 @@
 //! Chapter "The player".
 
-use std::io::Write;
-use std::process::{Command, Stdio};
-
+use crate::help::through;
 use compare::reference::player::{build, play, Settings};
 use compare::sessions::SESSIONS;
 
@@ -38,16 +36,7 @@ fn example_pack_by_hand() {
 }
 
 fn through_the_program(pack: &[u8]) -> String {
-    let mut child = Command::new(env!("CARGO_BIN_EXE_reference_player"))
-        .stdin(Stdio::piped())
-        .stdout(Stdio::piped())
-        .spawn()
-        .unwrap();
-    // The program may have read enough before all is written.
-    let _ = child.stdin.take().unwrap().write_all(pack);
-    let output = child.wait_with_output().unwrap();
-    assert!(output.status.success());
-    String::from_utf8(output.stdout).unwrap()
+    through(env!("CARGO_BIN_EXE_reference_player"), pack)
 }
 
 /// The program prints the seven lines of the example, and refusals.
