@@ -19,6 +19,7 @@ pub mod session;
 pub mod sessions;
 pub mod shrink;
 pub mod singles;
+pub mod summary;
 pub mod talk;
 pub mod typing;
 pub mod values;
@@ -26,6 +27,6 @@ pub mod values;
 #[cfg(feature = "proved")]
 pub mod ffi;
 
-/// The reference: `compare::reference` over plain values (`ends` and `around` translate).
+/// The reference: `compare::reference` over plain values (`ends`, `summary` and `around` translate).
 #[derive(Clone, Copy, Debug)]
 pub struct Reference;
