@@ -5,6 +5,7 @@ pub mod around;
 pub mod behind;
 pub mod broken;
 pub mod call;
+pub mod counting;
 pub mod differences;
 pub mod ends;
 pub mod filling;
@@ -21,6 +22,7 @@ pub mod shrink;
 pub mod singles;
 pub mod summary;
 pub mod talk;
+pub mod tally;
 pub mod typing;
 pub mod values;
 
