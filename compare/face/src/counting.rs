@@ -158,11 +158,7 @@ fn word(counts: &Counts, number: u8) -> u16 {
 }
 
 /// `plain` is what the sender's own call is refused with.
-fn begin(
-    counts: &Counts,
-    answer: &FlatSenderAnswer,
-    plain: impl Fn() -> u8,
-) -> Option<Counting> {
+fn begin(counts: &Counts, answer: &FlatSenderAnswer, plain: impl Fn() -> u8) -> Option<Counting> {
     Some(match (answer.refusal, all_zero(counts)) {
         (0, false) if answer.frame.kind == 1 => Counting::BeginClears,
         (0, true) if answer.frame.kind == 1 => Counting::BeginFromZero,

@@ -102,10 +102,7 @@ fn differing_case<L: Face, R: Face>(
 }
 
 /// The ends without a summary, talks, and all that stands alone.
-fn plain_case<L: Face, R: Face>(
-    seed: u64,
-    pair: &mut Pair<L, R>,
-) -> Option<(Case, Box<Mismatch>)> {
+fn plain_case<L: Face, R: Face>(seed: u64, pair: &mut Pair<L, R>) -> Option<(Case, Box<Mismatch>)> {
     let mut random = Random::new(seed);
     match random.weighted(&[70, 5, 25]) {
         0 => {
@@ -182,7 +179,10 @@ fn tell_session(session: &Session, f: &mut fmt::Formatter) -> fmt::Result {
     let (sender, receiver) = (session.sender, session.receiver);
     writeln!(f, "sender {sender:?}, receiver {receiver:?}")?;
     if let Some(byte) = session.summary {
-        writeln!(f, "with a summary, its counts at first {byte:02X} throughout")?;
+        writeln!(
+            f,
+            "with a summary, its counts at first {byte:02X} throughout"
+        )?;
     }
     for (place, part) in session.messages.iter().enumerate() {
         let (length, from) = (part.length, part.from);

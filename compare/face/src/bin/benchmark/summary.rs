@@ -159,9 +159,12 @@ fn tells_count(face: impl Summary) -> impl FnMut() -> FlatCount {
 fn reading_rows() -> [Row; 2] {
     let (counts, number) = (kept(), 200);
     [
-        Row::new("count", tells_count(Proved), tells_count(Behind), move || {
-            summary::count(black_box(&counts), *black_box(&number))
-        }),
+        Row::new(
+            "count",
+            tells_count(Proved),
+            tells_count(Behind),
+            move || summary::count(black_box(&counts), *black_box(&number)),
+        ),
         Row::new("most", names_most(Proved), names_most(Behind), move || {
             summary::most(black_box(&counts))
         }),
