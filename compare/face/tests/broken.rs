@@ -243,8 +243,8 @@ fn timeouts_of_each_type_come_about() {
     assert_eq!(wrong, Vec::<String>::new());
 }
 
-/// And of counts, by sessions with a summary and by its calls alone. But a session hardly comes to counts of two bytes, or to 255
-/// as the only number sent most often, and a short transfer has no count for SM_RM to leave.
+/// And of counts, by sessions with a summary and by its calls alone. But a session hardly comes to counts of two bytes, or to
+/// 255 as the only number sent most often, and a short transfer has no count for SM_RM to leave.
 #[test]
 fn counts_come_about() {
     let mut sessions = Pair::new(&Reference, &Reference);
