@@ -1,10 +1,10 @@
 //! The reference behind the boundary of the proved code, for the benchmark: for every function of `crate::ffi` one in Rust
 //! with the same parameters and result, called as C calls it and never inlined. It translates the flat values, calls the
-//! reference and translates back, as `crate::ends` and `crate::around` do.
+//! reference and translates back, as `crate::ends`, `crate::summary` and `crate::around` do.
 
 use std::slice::{from_raw_parts, from_raw_parts_mut};
 
-use crate::interface::{through, Around, Ends};
+use crate::interface::{through, Around, Ends, Summary};
 use crate::values::*;
 use crate::Reference;
 
@@ -57,6 +57,56 @@ mod called {
 
         fn kospelna_sender_hear(sender: FlatSender, frame: FlatFrame) -> FlatSenderAnswer {
             Reference.sender_hear(sender, frame)
+        }
+
+        fn kospelna_summary_begin(
+            sender: FlatSender,
+            message: *const u8,
+            length: usize,
+            counts: *mut u8,
+            counts_length: usize,
+        ) -> FlatSenderAnswer {
+            let counts = unsafe { from_raw_parts_mut(counts, counts_length) };
+            Reference.summary_begin(sender, unsafe { from_raw_parts(message, length) }, counts)
+        }
+
+        fn kospelna_summary_post(
+            sender: FlatSender,
+            message: *const u8,
+            length: usize,
+            counts: *mut u8,
+            counts_length: usize,
+        ) -> FlatSenderAnswer {
+            let counts = unsafe { from_raw_parts_mut(counts, counts_length) };
+            Reference.summary_post(sender, unsafe { from_raw_parts(message, length) }, counts)
+        }
+
+        fn kospelna_summary_tick(
+            sender: FlatSender,
+            message: *const u8,
+            length: usize,
+            counts: *mut u8,
+            counts_length: usize,
+        ) -> FlatSenderAnswer {
+            let counts = unsafe { from_raw_parts_mut(counts, counts_length) };
+            Reference.summary_tick(sender, unsafe { from_raw_parts(message, length) }, counts)
+        }
+
+        fn kospelna_summary_hear(
+            sender: FlatSender,
+            frame: FlatFrame,
+            counts: *mut u8,
+            counts_length: usize,
+        ) -> FlatSenderAnswer {
+            Reference.summary_hear(sender, frame, unsafe { from_raw_parts_mut(counts, counts_length) })
+        }
+
+        fn kospelna_summary_count(number: u8, counts: *const u8, counts_length: usize) -> FlatCount {
+            Reference.summary_count(number, unsafe { from_raw_parts(counts, counts_length) })
+        }
+
+        fn kospelna_summary_most(counts: *const u8, counts_length: usize) -> FlatCount {
+            Reference.summary_most(unsafe { from_raw_parts(counts, counts_length) })
         }
 
         fn kospelna_receiver_make(timeout: u16, window: u16, capacity: u16) -> FlatReceiverMade {

@@ -5,10 +5,8 @@ use std::sync::OnceLock;
 
 use compare::packs::random::Random;
 
-use crate::filling::{Filling, PLACES};
-use crate::holding::Met;
 use crate::interface::Face;
-use crate::typing::{Typing, NUMBERS};
+use crate::tally::Tally;
 use crate::values::*;
 
 /// A part of the pool of bytes that messages are taken from.
@@ -42,6 +40,21 @@ impl Part {
     }
 }
 
+/// The bytes that are lent for a summary's counts. Told by their length and by the counts that are not 0.
+#[derive(Clone, PartialEq, Eq)]
+pub struct Counts(pub Vec<u8>);
+
+impl fmt::Debug for Counts {
+    fn fmt(&self, f: &mut fmt::Formatter) -> fmt::Result {
+        let words = self.0.chunks(2).enumerate();
+        let counts = words.filter(|(_, word)| word.iter().any(|&byte| byte != 0));
+        let counts: Vec<String> = counts
+            .map(|(number, word)| format!("{number}: {word:02X?}"))
+            .collect();
+        write!(f, "{} bytes {{{}}}", self.0.len(), counts.join(", "))
+    }
+}
+
 /// A call with all that it is given but the buffer.
 #[derive(Clone, Debug, PartialEq, Eq)]
 pub enum Call {
@@ -51,6 +64,12 @@ pub enum Call {
     SenderPost(FlatSender, Part),
     SenderTick(FlatSender, Part),
     SenderHear(FlatSender, FlatFrame),
+    SummaryBegin(FlatSender, Part, Counts),
+    SummaryPost(FlatSender, Part, Counts),
+    SummaryTick(FlatSender, Part, Counts),
+    SummaryHear(FlatSender, FlatFrame, Counts),
+    SummaryCount(u8, Counts),
+    SummaryMost(Counts),
     /// Timeout T, window C, capacity K.
     ReceiverMake([u16; 3]),
     ReceiverTick(FlatReceiver),
@@ -87,6 +106,9 @@ pub enum Call {
 pub enum Answer {
     SenderMade(FlatSenderMade),
     Sender(FlatSenderAnswer),
+    /// With the lent counts afterwards.
+    Kept(FlatSenderAnswer, Counts),
+    Counted(FlatCount),
     ReceiverMade(FlatReceiverMade),
     Receiver(FlatReceiverAnswer),
     Figures(FlatCleanFigures),
@@ -123,8 +145,38 @@ pub fn answer(face: &impl Face, call: &Call, buffer: &mut [u8]) -> Answer {
         Call::ReceiverHear(end, frame, lent) => {
             Answer::Receiver(face.receiver_hear(*end, *frame, &mut buffer[..*lent]))
         }
+        Call::SummaryBegin(..)
+        | Call::SummaryPost(..)
+        | Call::SummaryTick(..)
+        | Call::SummaryHear(..) => answer_kept(face, call),
+        Call::SummaryCount(number, counts) => {
+            Answer::Counted(face.summary_count(*number, &counts.0))
+        }
+        Call::SummaryMost(counts) => Answer::Counted(face.summary_most(&counts.0)),
         around => answer_around(face, around),
     }
+}
+
+/// A call of the sender with a copy of the counts lent.
+fn answer_kept(face: &impl Face, call: &Call) -> Answer {
+    let (Call::SummaryBegin(_, _, lent)
+    | Call::SummaryPost(_, _, lent)
+    | Call::SummaryTick(_, _, lent)
+    | Call::SummaryHear(_, _, lent)) = call
+    else {
+        unreachable!("`answer` has the other calls");
+    };
+    let Counts(mut counts) = lent.clone();
+    let answer = match call {
+        Call::SummaryBegin(end, message, _) => {
+            face.summary_begin(*end, message.bytes(), &mut counts)
+        }
+        Call::SummaryPost(end, message, _) => face.summary_post(*end, message.bytes(), &mut counts),
+        Call::SummaryTick(end, message, _) => face.summary_tick(*end, message.bytes(), &mut counts),
+        Call::SummaryHear(end, frame, _) => face.summary_hear(*end, *frame, &mut counts),
+        _ => unreachable!("the counts were lent"),
+    };
+    Answer::Kept(answer, Counts(counts))
 }
 
 fn answer_around(face: &impl Face, call: &Call) -> Answer {
@@ -155,17 +207,23 @@ fn answer_around(face: &impl Face, call: &Call) -> Answer {
             Answer::Written(done, bytes)
         }
         Call::GroupFind(code) => Answer::Finding(face.group_find(*code)),
-        _ => unreachable!("`answer` has the calls of the ends"),
+        _ => unreachable!("`answer` has the calls of the ends and of the summary"),
     }
 }
 
 /// The names of the functions, in the order of `Call`'s cases.
-pub const NAMES: [&str; 30] = [
+pub const NAMES: [&str; 36] = [
     "sender_make",
     "sender_begin",
     "sender_post",
     "sender_tick",
     "sender_hear",
+    "summary_begin",
+    "summary_post",
+    "summary_tick",
+    "summary_hear",
+    "summary_count",
+    "summary_most",
     "receiver_make",
     "receiver_tick",
     "receiver_hold",
@@ -202,31 +260,37 @@ impl Call {
             Call::SenderPost(..) => 2,
             Call::SenderTick(..) => 3,
             Call::SenderHear(..) => 4,
-            Call::ReceiverMake(_) => 5,
-            Call::ReceiverTick(_) => 6,
-            Call::ReceiverHold(_) => 7,
-            Call::ReceiverResume(_) => 8,
-            Call::ReceiverHear(..) => 9,
-            Call::CleanFigures(..) => 10,
-            Call::Join(_) => 11,
-            Call::Split(_) => 12,
-            Call::ChargerAddress => 13,
-            Call::VehicleAddress => 14,
-            Call::ChargerVersion => 15,
-            Call::VehicleVersion => 16,
-            Call::List(_) => 17,
-            Call::MessageWrite(_) => 18,
-            Call::MessageRead(_) => 19,
-            Call::TalkerMake(..) => 20,
-            Call::TalkerConnect(_) => 21,
-            Call::TalkerTick(_) => 22,
-            Call::TalkerHear(..) => 23,
-            Call::TalkerStop(_) => 24,
-            Call::TalkerGreet(_) => 25,
-            Call::TalkerFunctionsHeard(_) => 26,
-            Call::GroupRead(_) => 27,
-            Call::GroupWrite(..) => 28,
-            Call::GroupFind(_) => 29,
+            Call::SummaryBegin(..) => 5,
+            Call::SummaryPost(..) => 6,
+            Call::SummaryTick(..) => 7,
+            Call::SummaryHear(..) => 8,
+            Call::SummaryCount(..) => 9,
+            Call::SummaryMost(_) => 10,
+            Call::ReceiverMake(_) => 11,
+            Call::ReceiverTick(_) => 12,
+            Call::ReceiverHold(_) => 13,
+            Call::ReceiverResume(_) => 14,
+            Call::ReceiverHear(..) => 15,
+            Call::CleanFigures(..) => 16,
+            Call::Join(_) => 17,
+            Call::Split(_) => 18,
+            Call::ChargerAddress => 19,
+            Call::VehicleAddress => 20,
+            Call::ChargerVersion => 21,
+            Call::VehicleVersion => 22,
+            Call::List(_) => 23,
+            Call::MessageWrite(_) => 24,
+            Call::MessageRead(_) => 25,
+            Call::TalkerMake(..) => 26,
+            Call::TalkerConnect(_) => 27,
+            Call::TalkerTick(_) => 28,
+            Call::TalkerHear(..) => 29,
+            Call::TalkerStop(_) => 30,
+            Call::TalkerGreet(_) => 31,
+            Call::TalkerFunctionsHeard(_) => 32,
+            Call::GroupRead(_) => 33,
+            Call::GroupWrite(..) => 34,
+            Call::GroupFind(_) => 35,
         }
     }
 
@@ -266,110 +330,6 @@ pub struct Pair<'a, L, R> {
     pub right: &'a R,
     buffers: [Vec<u8>; 2],
     pub tally: Tally,
-}
-
-/// The outcomes of the ends and of talkers: 0 to 7.
-pub const OUTCOMES: usize = 8;
-
-/// From so many calls on, all that can be met of a hold, of a last frame's filler and of misses has to be.
-const USUAL: u64 = 1_000_000;
-
-/// Calls by function, answers by function and outcome, and what was met of a hold, of a last frame's filler and of misses.
-#[derive(Clone, Debug, Default)]
-pub struct Tally {
-    pub calls: [u64; NAMES.len()],
-    /// At each function: outcome 0 to 7; where it answers none, 1 is refused.
-    pub outcomes: [[u64; OUTCOMES]; NAMES.len()],
-    /// In the order of `Met`.
-    pub met: [u64; Met::ALL.len()],
-    /// In the order of `Filling`, each by the places behind the message.
-    pub fillings: [[u64; PLACES]; Filling::ALL.len()],
-    /// In the order of `Typing`, each by the misses' number.
-    pub typings: [[u64; NUMBERS]; Typing::ALL.len()],
-}
-
-impl Tally {
-    pub fn total(&self) -> u64 {
-        self.calls.iter().sum()
-    }
-
-    fn add(&mut self, call: &Call, answer: &Answer) {
-        let place = call.place();
-        self.calls[place] += 1;
-        self.outcomes[place][usize::from(outcome(answer)).min(OUTCOMES - 1)] += 1;
-        if let Some(met) = Met::by(call, answer) {
-            self.met[met as usize] += 1;
-        }
-        if let Some((filling, places)) = Filling::by(call, answer) {
-            self.fillings[filling as usize][places] += 1;
-        }
-        if let Some((typing, number)) = Typing::by(call, answer) {
-            self.typings[typing as usize][number] += 1;
-        }
-    }
-
-    /// What was met of a hold fewer times than this.
-    pub fn rare_holds(&self, times: u64) -> Vec<String> {
-        let rare = Met::ALL
-            .iter()
-            .filter(|&&met| self.met[met as usize] < times);
-        rare.map(|met| format!("{met:?}")).collect()
-    }
-
-    /// The same of a last frame's filler, with the places behind the message.
-    pub fn rare_fillings(&self, times: u64) -> Vec<String> {
-        let each = Filling::ALL
-            .iter()
-            .flat_map(|&filling| filling.places().map(move |places| (filling, places)));
-        each.filter(|&(filling, places)| self.fillings[filling as usize][places] < times)
-            .map(|(filling, places)| format!("{filling:?} with {places}"))
-            .collect()
-    }
-
-    /// The same of misses, with their number.
-    pub fn rare_typings(&self, times: u64) -> Vec<String> {
-        let each = Typing::ALL.iter().flat_map(|&typing| {
-            let numbers = typing.numbers().into_iter();
-            numbers.map(move |number| (typing, number))
-        });
-        each.filter(|&(typing, number)| self.typings[typing as usize][number] < times)
-            .map(|(typing, number)| format!("{typing:?} with misses {number}"))
-            .collect()
-    }
-
-    /// What was never met. Only in a run of usual size does that say anything.
-    pub fn unmet(&self) -> Vec<String> {
-        match self.total() < USUAL {
-            true => Vec::new(),
-            false => [
-                self.rare_holds(1),
-                self.rare_fillings(1),
-                self.rare_typings(1),
-            ]
-            .concat(),
-        }
-    }
-}
-
-fn outcome(answer: &Answer) -> u8 {
-    match answer {
-        Answer::SenderMade(made) => u8::from(made.refusal != 0),
-        Answer::Sender(answer) => answer.outcome,
-        Answer::ReceiverMade(made) => u8::from(made.refusal != 0),
-        Answer::Receiver(answer) => answer.outcome,
-        Answer::Figures(figures) => u8::from(figures.refusal != 0),
-        Answer::Joining(joined) => u8::from(joined.refusal != 0),
-        Answer::Splitting(parted) => u8::from(parted.refusal != 0),
-        Answer::Listing(listing) => u8::from(listing.refusal != 0),
-        Answer::Message(reading) => u8::from(reading.refusal != 0),
-        Answer::Talk(answer) => answer.outcome,
-        Answer::Group(reading) => u8::from(reading.refusal != 0),
-        Answer::Written(writing, _) => u8::from(writing.refusal != 0),
-        Answer::Finding(finding) => u8::from(finding.refusal != 0),
-        Answer::Bytes(writing) => u8::from(writing.refusal != 0),
-        Answer::TalkerMade(made) => u8::from(made.refusal != 0),
-        Answer::Number(_) => 0,
-    }
 }
 
 impl<'a, L: Face, R: Face> Pair<'a, L, R> {

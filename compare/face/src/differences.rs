@@ -4,7 +4,7 @@ use std::fmt;
 
 use compare::packs::random::Random;
 
-use crate::call::{Call, Mismatch, Pair, Tally};
+use crate::call::{Call, Mismatch, Pair};
 use crate::forged;
 use crate::interface::Face;
 use crate::session::Session;
@@ -12,9 +12,12 @@ use crate::sessions;
 use crate::shrink;
 use crate::singles;
 use crate::talk::{self, Talk};
+use crate::tally::Tally;
 
 /// Single calls that one seed stands for.
 const BATCH: usize = 100;
+/// One seed in so many has a case of the summary, too.
+const COUNTED: u64 = 4;
 
 /// What is played on both faces: each its own case.
 #[derive(Clone, Debug, PartialEq, Eq)]
@@ -91,6 +94,15 @@ fn differing_case<L: Face, R: Face>(
     seed: u64,
     pair: &mut Pair<L, R>,
 ) -> Option<(Case, Box<Mismatch>)> {
+    let found = plain_case(seed, pair);
+    match seed % COUNTED {
+        0 => found.or_else(|| counted_case(seed, pair)),
+        _ => found,
+    }
+}
+
+/// The ends without a summary, talks, and all that stands alone.
+fn plain_case<L: Face, R: Face>(seed: u64, pair: &mut Pair<L, R>) -> Option<(Case, Box<Mismatch>)> {
     let mut random = Random::new(seed);
     match random.weighted(&[70, 5, 25]) {
         0 => {
@@ -102,12 +114,34 @@ fn differing_case<L: Face, R: Face>(
             let mismatch = talk.play(pair).err()?;
             Some((Case::Talk(talk), mismatch))
         }
-        _ => (0..BATCH).find_map(|_| {
-            let call = single_call(&mut random);
-            let mismatch = single(call.clone(), pair).err()?;
-            Some((Case::Single(call), mismatch))
-        }),
+        _ => batch(pair, || single_call(&mut random)),
     }
+}
+
+/// A session with a summary, or calls of the summary alone.
+fn counted_case<L: Face, R: Face>(
+    seed: u64,
+    pair: &mut Pair<L, R>,
+) -> Option<(Case, Box<Mismatch>)> {
+    let mut random = Random::new(!seed);
+    match random.percent(50) {
+        true => {
+            let (session, played) = sessions::run_counted(&mut random, pair);
+            Some((Case::Session(session), played.err()?))
+        }
+        false => batch(pair, || forged::summary_call(&mut random)),
+    }
+}
+
+fn batch<L: Face, R: Face>(
+    pair: &mut Pair<L, R>,
+    mut draw: impl FnMut() -> Call,
+) -> Option<(Case, Box<Mismatch>)> {
+    (0..BATCH).find_map(|_| {
+        let call = draw();
+        let mismatch = single(call.clone(), pair).err()?;
+        Some((Case::Single(call), mismatch))
+    })
 }
 
 fn single_call(random: &mut Random) -> Call {
@@ -144,6 +178,12 @@ impl fmt::Display for Difference {
 fn tell_session(session: &Session, f: &mut fmt::Formatter) -> fmt::Result {
     let (sender, receiver) = (session.sender, session.receiver);
     writeln!(f, "sender {sender:?}, receiver {receiver:?}")?;
+    if let Some(byte) = session.summary {
+        writeln!(
+            f,
+            "with a summary, its counts at first {byte:02X} throughout"
+        )?;
+    }
     for (place, part) in session.messages.iter().enumerate() {
         let (length, from) = (part.length, part.from);
         writeln!(f, "message {place}: {length} bytes of the pool from {from}")?;

@@ -212,7 +212,7 @@ pub fn flat_sender(end: &Sender) -> FlatSender {
     }
 }
 
-fn sender_answer(end: &Sender, answer: Result<sender::Answer, Refused>) -> FlatSenderAnswer {
+pub fn sender_answer(end: &Sender, answer: Result<sender::Answer, Refused>) -> FlatSenderAnswer {
     let (frame, (outcome, refusal, cause, ticks, frames)) = match answer {
         Err(Refused(number)) => (None, (1, number, 0, 0, 0)),
         Ok(sender::Answer { frame, report }) => {

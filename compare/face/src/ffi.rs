@@ -1,6 +1,6 @@
 //! The proved code: the functions that `crates/kospelna` exports, over `crate::values`.
 
-use crate::interface::{through, Around, Ends};
+use crate::interface::{through, Around, Ends, Summary};
 use crate::values::*;
 
 mod linked {
@@ -24,6 +24,39 @@ mod linked {
             length: usize,
         ) -> FlatSenderAnswer;
         pub fn kospelna_sender_hear(sender: FlatSender, frame: FlatFrame) -> FlatSenderAnswer;
+        pub fn kospelna_summary_begin(
+            sender: FlatSender,
+            message: *const u8,
+            length: usize,
+            counts: *mut u8,
+            counts_length: usize,
+        ) -> FlatSenderAnswer;
+        pub fn kospelna_summary_post(
+            sender: FlatSender,
+            message: *const u8,
+            length: usize,
+            counts: *mut u8,
+            counts_length: usize,
+        ) -> FlatSenderAnswer;
+        pub fn kospelna_summary_tick(
+            sender: FlatSender,
+            message: *const u8,
+            length: usize,
+            counts: *mut u8,
+            counts_length: usize,
+        ) -> FlatSenderAnswer;
+        pub fn kospelna_summary_hear(
+            sender: FlatSender,
+            frame: FlatFrame,
+            counts: *mut u8,
+            counts_length: usize,
+        ) -> FlatSenderAnswer;
+        pub fn kospelna_summary_count(
+            number: u8,
+            counts: *const u8,
+            counts_length: usize,
+        ) -> FlatCount;
+        pub fn kospelna_summary_most(counts: *const u8, counts_length: usize) -> FlatCount;
         pub fn kospelna_receiver_make(timeout: u16, window: u16, capacity: u16)
             -> FlatReceiverMade;
         pub fn kospelna_receiver_tick(receiver: FlatReceiver) -> FlatReceiverAnswer;

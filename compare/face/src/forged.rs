@@ -17,7 +17,7 @@
 use compare::packs::random::Random;
 use compare::reference::frame::frames_for;
 
-use crate::call::Call;
+use crate::call::{Call, Counts};
 use crate::frames::{self, EDGE_LENGTHS};
 use crate::lists::{self, message, standing, three, unjudged, version_at};
 use crate::sessions::{mostly_right_buffer, part};
@@ -52,6 +52,84 @@ pub fn end_call(random: &mut Random) -> Call {
             Call::ReceiverHear(begun(receiver), frame, mostly_right_buffer(random, 85))
         }
     }
+}
+
+/// A call of the summary, with a sender in a forged state or counts that a caller has written.
+pub fn summary_call(random: &mut Random) -> Call {
+    let sender = sender(random);
+    match random.weighted(&[16, 8, 34, 16, 8, 18]) {
+        0 => {
+            let length = random.pick(&EDGE_LENGTHS);
+            let phase = random.pick(&[0, sender.phase]);
+            let sender = FlatSender { phase, ..sender };
+            Call::SummaryBegin(sender, part(random, length), counts(random, &sender))
+        }
+        1 => {
+            let length = random.between(0, 12);
+            Call::SummaryPost(sender, part(random, length), counts(random, &sender))
+        }
+        2 => {
+            // Mostly with time left, so that frames go out.
+            let age = random.pick(&[0, 0, 0, sender.age]);
+            let sender = FlatSender { age, ..sender };
+            let part = any_part(random, sender.length);
+            Call::SummaryTick(sender, part, counts(random, &sender))
+        }
+        3 => {
+            let frame = frames::any(random, &sender, &FlatReceiver::default());
+            Call::SummaryHear(sender, frame, counts(random, &sender))
+        }
+        4 => {
+            let number = random.pick(&[0, 1, 127, 128, 254, 255, sender.last]);
+            Call::SummaryCount(number, counts(random, &sender))
+        }
+        _ => Call::SummaryMost(counts(random, &sender)),
+    }
+}
+
+/// Counts, mostly of the right length: all alike, a few of them set, any bytes, or those of the numbers that may go out next
+/// at an edge.
+fn counts(random: &mut Random, sender: &FlatSender) -> Counts {
+    let mut bytes = match random.weighted(&[15, 5, 40, 10, 30]) {
+        0 => vec![0; COUNTS],
+        1 => vec![random.byte(); COUNTS],
+        2 => few_counts(random),
+        3 => (0..COUNTS).map(|_| random.byte()).collect(),
+        _ => edge_counts(random, sender),
+    };
+    if random.percent(15) {
+        bytes.resize(frames::other_counts(random), 0);
+    }
+    Counts(bytes)
+}
+
+fn set_count(bytes: &mut [u8], number: u8, count: u16) {
+    let place = 2 * usize::from(number);
+    bytes[place..place + 2].copy_from_slice(&count.to_le_bytes());
+}
+
+/// One to three numbers that were sent, two of them mostly equally often.
+fn few_counts(random: &mut Random) -> Vec<u8> {
+    let mut bytes = vec![random.pick(&[0, 0, 0, 1]); COUNTS];
+    let count = random.pick(&[1, 2, 7, 255, 256, 257, 512, 65534, 65535]);
+    for _ in 0..random.between(1, 3) {
+        let number = match random.percent(70) {
+            true => random.pick(&[0, 1, 127, 128, 254, 255, 255]),
+            false => random.byte(),
+        };
+        let beside = random.pick(&[0, 0, 0, 1, 255]);
+        set_count(&mut bytes, number, count - beside.min(count));
+    }
+    bytes
+}
+
+fn edge_counts(random: &mut Random, sender: &FlatSender) -> Vec<u8> {
+    let mut bytes = vec![random.pick(&[0x00, 0xFF]); COUNTS];
+    for number in [0, sender.due, sender.last] {
+        let count = random.pick(&[0, 254, 255, 255, 255, 256, 511, 65534, 65535, 65535, 65535]);
+        set_count(&mut bytes, number, count);
+    }
+    bytes
 }
 
 /// Settings at making, within their limits, at them and past them.

@@ -8,6 +8,11 @@ use crate::values::*;
 /// Lengths at the edges of short and long, of frames and of the buffer.
 pub const EDGE_LENGTHS: [usize; 12] = [0, 1, 7, 8, 9, 13, 14, 15, 1784, 1785, 1786, 1787];
 
+/// A length that the counts may not have.
+pub fn other_counts(random: &mut Random) -> usize {
+    random.pick(&[0, 1, 2, 510, 511, 513, 514, 1024])
+}
+
 /// A frame that either end may hear, or must refuse.
 pub fn any(random: &mut Random, sender: &FlatSender, receiver: &FlatReceiver) -> FlatFrame {
     let kind = match random.weighted(&[30, 30, 5, 10, 5, 5, 5, 10]) {

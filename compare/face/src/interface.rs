@@ -22,6 +22,36 @@ pub trait Ends {
     ) -> FlatReceiverAnswer;
 }
 
+/// The sender's calls with the counts lent beside it, and what is read of these.
+pub trait Summary {
+    fn summary_begin(
+        &self,
+        sender: FlatSender,
+        message: &[u8],
+        counts: &mut [u8],
+    ) -> FlatSenderAnswer;
+    fn summary_post(
+        &self,
+        sender: FlatSender,
+        message: &[u8],
+        counts: &mut [u8],
+    ) -> FlatSenderAnswer;
+    fn summary_tick(
+        &self,
+        sender: FlatSender,
+        message: &[u8],
+        counts: &mut [u8],
+    ) -> FlatSenderAnswer;
+    fn summary_hear(
+        &self,
+        sender: FlatSender,
+        frame: FlatFrame,
+        counts: &mut [u8],
+    ) -> FlatSenderAnswer;
+    fn summary_count(&self, number: u8, counts: &[u8]) -> FlatCount;
+    fn summary_most(&self, counts: &[u8]) -> FlatCount;
+}
+
 /// The clean figures, identifiers, version talk and parameter groups.
 pub trait Around {
     fn clean_figures_of(&self, length: u32, gap: u32) -> FlatCleanFigures;
@@ -47,9 +77,9 @@ pub trait Around {
 }
 
 /// The whole of it.
-pub trait Face: Ends + Around {}
+pub trait Face: Ends + Summary + Around {}
 
-impl<T: Ends + Around> Face for T {}
+impl<T: Ends + Summary + Around> Face for T {}
 
 /// A face over functions in C's manner, which the module has under the names of `include/kospelna.h`: a lent slice goes as a
 /// pointer and a length. Sound where the functions take every value, read lent bytes only within their length, write only to
@@ -117,6 +147,65 @@ macro_rules! through {
                         buffer.len(),
                     )
                 }
+            }
+        }
+
+        impl Summary for $face {
+            #[inline]
+            fn summary_begin(
+                &self,
+                sender: FlatSender,
+                message: &[u8],
+                counts: &mut [u8],
+            ) -> FlatSenderAnswer {
+                let (lent, length) = (counts.as_mut_ptr(), counts.len());
+                let (begun, size) = (message.as_ptr(), message.len());
+                unsafe { $module::kospelna_summary_begin(sender, begun, size, lent, length) }
+            }
+
+            #[inline]
+            fn summary_post(
+                &self,
+                sender: FlatSender,
+                message: &[u8],
+                counts: &mut [u8],
+            ) -> FlatSenderAnswer {
+                let (lent, length) = (counts.as_mut_ptr(), counts.len());
+                let (posted, size) = (message.as_ptr(), message.len());
+                unsafe { $module::kospelna_summary_post(sender, posted, size, lent, length) }
+            }
+
+            #[inline]
+            fn summary_tick(
+                &self,
+                sender: FlatSender,
+                message: &[u8],
+                counts: &mut [u8],
+            ) -> FlatSenderAnswer {
+                let (lent, length) = (counts.as_mut_ptr(), counts.len());
+                let (begun, size) = (message.as_ptr(), message.len());
+                unsafe { $module::kospelna_summary_tick(sender, begun, size, lent, length) }
+            }
+
+            #[inline]
+            fn summary_hear(
+                &self,
+                sender: FlatSender,
+                frame: FlatFrame,
+                counts: &mut [u8],
+            ) -> FlatSenderAnswer {
+                let (lent, length) = (counts.as_mut_ptr(), counts.len());
+                unsafe { $module::kospelna_summary_hear(sender, frame, lent, length) }
+            }
+
+            #[inline]
+            fn summary_count(&self, number: u8, counts: &[u8]) -> FlatCount {
+                unsafe { $module::kospelna_summary_count(number, counts.as_ptr(), counts.len()) }
+            }
+
+            #[inline]
+            fn summary_most(&self, counts: &[u8]) -> FlatCount {
+                unsafe { $module::kospelna_summary_most(counts.as_ptr(), counts.len()) }
             }
         }
 

@@ -5,6 +5,7 @@ pub mod around;
 pub mod behind;
 pub mod broken;
 pub mod call;
+pub mod counting;
 pub mod differences;
 pub mod ends;
 pub mod filling;
@@ -19,13 +20,15 @@ pub mod session;
 pub mod sessions;
 pub mod shrink;
 pub mod singles;
+pub mod summary;
 pub mod talk;
+pub mod tally;
 pub mod typing;
 pub mod values;
 
 #[cfg(feature = "proved")]
 pub mod ffi;
 
-/// The reference: `compare::reference` over plain values (`ends` and `around` translate).
+/// The reference: `compare::reference` over plain values (`ends`, `summary` and `around` translate).
 #[derive(Clone, Copy, Debug)]
 pub struct Reference;

@@ -18,6 +18,11 @@ const ALIKE: usize = 2;
 const ODD: usize = 3;
 const SHORT: usize = 4;
 
+/// In a session with a summary so many steps in a hundred read the counts, and of the others so many in a hundred lend the next
+/// call another length.
+const READ: usize = 3;
+const LENT_OTHERWISE: usize = 4;
+
 /// How a session's steps are drawn: where a last frame comes next, so many times in a hundred with dirt behind the message;
 /// where the receiver has waited and its timeout is near, so many times in a hundred its next tick; so many times in a hundred
 /// the step that brings the transfer forward, else by weights:
@@ -100,6 +105,17 @@ pub fn run<L: Face, R: Face>(
     (session, result)
 }
 
+/// The same with a summary.
+pub fn run_counted<L: Face, R: Face>(
+    random: &mut Random,
+    pair: &mut Pair<L, R>,
+) -> (Session, Result<(), Box<Mismatch>>) {
+    let mut session = unplayed(random);
+    session.summary = Some(first_counts(random));
+    let result = draw_steps(random, &mut session, pair);
+    (session, result)
+}
+
 fn unplayed(random: &mut Random) -> Session {
     let length = length(random);
     let other = self::length(random);
@@ -112,6 +128,7 @@ fn unplayed(random: &mut Random) -> Session {
     let mut session = Session {
         sender: sender_settings(random),
         receiver: receiver_settings(random, length),
+        summary: None,
         messages: messages.to_vec(),
         steps: Vec::new(),
     };
@@ -119,6 +136,14 @@ fn unplayed(random: &mut Random) -> Session {
         spoil(random, &mut session);
     }
     session
+}
+
+/// What each byte of the counts is at first: 0, seldom anything else.
+fn first_counts(random: &mut Random) -> u8 {
+    match random.percent(90) {
+        true => 0,
+        false => random.pick(&[0x01, 0xAA, 0xFF]),
+    }
 }
 
 pub fn part(random: &mut Random, length: usize) -> Part {
@@ -200,7 +225,25 @@ fn draw_steps<L: Face, R: Face>(
     Ok(())
 }
 
+/// A step that reads the counts, or lends the next call another length; not where there is no summary.
+fn counts_step(random: &mut Random, world: &World) -> Option<Step> {
+    world.counts.as_ref()?;
+    match random.percent(READ) {
+        true => Some(match random.percent(50) {
+            true => Step::Most,
+            false => Step::Count(random.pick(&[0, 1, 2, world.sender.last, 255])),
+        }),
+        false => {
+            let lend = Step::Lend(frames::other_counts(random));
+            random.percent(LENT_OTHERWISE).then_some(lend)
+        }
+    }
+}
+
 fn draw(random: &mut Random, manner: &Manner, world: &World, begun: usize) -> Step {
+    if let Some(step) = counts_step(random, world) {
+        return step;
+    }
     if comes_last(world) && random.percent(manner.dirty) {
         let lent = mostly_right_buffer(random, 80);
         return Step::ForwardDirty(frames::dirt(random), lent);

@@ -149,6 +149,12 @@ fn lesser_sessions(session: &Session) -> Vec<Case> {
             }
         }
     }
+    if session.summary.is_some() {
+        add(&|changed| changed.summary = None);
+    }
+    if session.summary.is_some_and(|byte| byte != 0) {
+        add(&|changed| changed.summary = Some(0));
+    }
     for place in 0..3 {
         for number in less(session.sender[place].into(), &[1, 2, 3, 10]) {
             add(&|changed| changed.sender[place] = number as u16);

@@ -52,6 +52,18 @@ pub struct FlatSenderAnswer {
     pub frames: u16,
 }
 
+/// Bytes that a summary's counts lie in: a word for each number 0 to 255, its low byte first.
+pub const COUNTS: usize = 512;
+
+/// A number, and how often information frames with it went out.
+#[repr(C)]
+#[derive(Clone, Copy, Debug, PartialEq, Eq)]
+pub struct FlatCount {
+    pub refusal: u8,
+    pub number: u8,
+    pub count: u16,
+}
+
 /// The numbers of a receiver's misses: how many timeouts in a row it has had, all of one type, after an LM_ACK of its own or
 /// after an accepted frame that drew none; and where it has had none, what it waits after. Any other number is read as the
 /// first. The names are those of `include/kospelna.h`, which `tests/declarations.rs` checks.

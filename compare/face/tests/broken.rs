@@ -4,19 +4,21 @@ use std::sync::atomic::{AtomicU64, Ordering};
 
 use compare::packs::random::Random;
 use face::broken::{mistakes, Broken, Mistake};
-use face::call::{Call, Pair, Tally, NAMES, OUTCOMES};
+use face::call::{Call, Pair, NAMES};
+use face::counting::Counting;
 use face::differences::{first_difference, Case, Difference};
 use face::filling::Filling;
 use face::forged;
 use face::holding::Met;
 use face::session::Step;
 use face::sessions;
+use face::tally::{Tally, OUTCOMES};
 use face::typing::{Typing, NUMBERS};
 use face::values::{FlatFrame, FlatSender, FlatSenderAnswer};
 use face::Reference;
 
 /// Calls within which every mistake is found.
-const COUNT: u64 = 1_000_000;
+const COUNT: u64 = 1_250_000;
 const SEED: u64 = 1;
 /// Steps that a shortened session or talk may have, ticks in a row counted once: twenty held timeouts take as many.
 const STEPS: usize = 12;
@@ -48,8 +50,10 @@ fn the_reference_is_alike_with_itself() {
 }
 
 /// Functions that answer a value or a refusal.
-const TAKEN_OR_REFUSED: [&str; 11] = [
+const TAKEN_OR_REFUSED: [&str; 13] = [
     "sender_make",
+    "summary_count",
+    "summary_most",
     "receiver_make",
     "clean_figures_of",
     "identifier_join",
@@ -63,7 +67,7 @@ const TAKEN_OR_REFUSED: [&str; 11] = [
 ];
 
 /// Every outcome that a function can have comes, and often enough; so does all that can be met of a hold, of a last frame's
-/// filler and of misses.
+/// filler, of misses and of counts.
 #[test]
 fn every_outcome_comes() {
     let (tally, _) = first_difference(&Reference, &Reference, SEED, COUNT);
@@ -79,6 +83,10 @@ fn every_outcome_comes() {
     come("sender_post", &[0, 1]);
     come("sender_tick", &[0, 1, 3]);
     come("sender_hear", &[0, 1, 3, 5]);
+    come("summary_begin", &[0, 1]);
+    come("summary_post", &[0, 1]);
+    come("summary_tick", &[0, 1, 3]);
+    come("summary_hear", &[0, 1, 3, 5]);
     come("receiver_tick", &[0, 3]);
     come("receiver_hold", &[0, 1]);
     come("receiver_resume", &[0, 1]);
@@ -94,6 +102,7 @@ fn every_outcome_comes() {
     assert_eq!(tally.rare_holds(100), Vec::<String>::new());
     assert_eq!(tally.rare_fillings(100), Vec::<String>::new());
     assert_eq!(tally.rare_typings(100), Vec::<String>::new());
+    assert_eq!(tally.rare_countings(100), Vec::<String>::new());
     assert_eq!(tally.unmet(), Vec::<String>::new());
 }
 
@@ -103,16 +112,23 @@ fn what_is_not_met_is_named() {
     let mut tally = Tally::default();
     assert_eq!(tally.unmet(), Vec::<String>::new());
     tally.calls[0] = COUNT;
-    // 25 things of a hold, of filler 12 by their places, and of misses 15 by their numbers, one of them not with each.
-    assert_eq!(tally.unmet().len(), 25 + 60 + 89);
+    // 25 things of a hold, of filler 12 by their places, of misses 15 by their numbers, one of them not with each, and 45 of
+    // counts.
+    assert_eq!(tally.unmet().len(), 25 + 60 + 89 + 45);
     tally.met.fill(1);
+    tally.countings.fill(1);
     tally.fillings.fill([1; 8]);
     tally.typings.fill([1; NUMBERS]);
     tally.fillings[Filling::RefusedForLast as usize][2] = 0;
     tally.typings[Typing::Timeout as usize][4] = 0;
+    tally.countings[Counting::ShortClears as usize] = 0;
     assert_eq!(
         tally.unmet(),
-        ["RefusedForLast with 2", "Timeout with misses 4"]
+        [
+            "RefusedForLast with 2",
+            "Timeout with misses 4",
+            "ShortClears"
+        ]
     );
 }
 
@@ -225,6 +241,35 @@ fn timeouts_of_each_type_come_about() {
         }));
     }
     assert_eq!(wrong, Vec::<String>::new());
+}
+
+/// And of counts, by sessions with a summary and by its calls alone. But a session hardly comes to counts of two bytes, or to
+/// 255 as the only number sent most often, and a short transfer has no count for SM_RM to leave.
+#[test]
+fn counts_come_about() {
+    let mut sessions = Pair::new(&Reference, &Reference);
+    for seed in 0..10_000 {
+        let (_, played) = sessions::run_counted(&mut Random::new(seed), &mut sessions);
+        assert!(played.is_ok());
+    }
+    let mut forged = Pair::new(&Reference, &Reference);
+    let mut random = Random::new(SEED);
+    for _ in 0..100_000 {
+        let call = forged::summary_call(&mut random);
+        assert!(forged.compare(call).is_ok());
+    }
+    let tallies = [sessions.tally, forged.tally];
+    for counting in Counting::ALL {
+        let place = counting as usize;
+        println!(
+            "{counting:?}: {:?}",
+            tallies.each_ref().map(|tally| tally.countings[place])
+        );
+    }
+    let [mut sessions, forged] = tallies.map(|tally| tally.rare_countings(50));
+    let beyond = ["PassesByte", "Stays", "TickShort", "Most255", "CountWord"];
+    sessions.retain(|met| !beyond.contains(&met.as_str()));
+    assert_eq!([sessions, forged], [const { Vec::<String>::new() }; 2]);
 }
 
 /// The seed that is named shows the difference at once.

@@ -48,6 +48,7 @@ fn the_program_of_calls() {
     assert!(text.contains("calls: of a hold: HeldTimeout "));
     assert!(text.contains("calls: of filler: RefusedForFirst "));
     assert!(text.contains("calls: of misses: HeldTimeout "));
+    assert!(text.contains("calls: of counts: BeginClears "));
 
     let (status, text) = calls(&["--mistake", "filler copied past L"]);
     assert_eq!(status, Some(1));

@@ -5,17 +5,19 @@ use std::process::ExitCode;
 use std::time::Instant;
 
 use face::broken::Broken;
-use face::call::{Tally, NAMES};
+use face::call::NAMES;
+use face::counting::Counting;
 use face::differences::first_difference;
 use face::ffi::Proved;
 use face::filling::Filling;
 use face::holding::Met;
 use face::options::Options;
+use face::tally::Tally;
 use face::typing::Typing;
 use face::Reference;
 
 const USAGE: &str = "usage: calls [--count N] [--seed S] [--mistake NAME]
-    --count N        how many calls, at least (default 10000000)
+    --count N        how many calls, at least (default 12500000)
     --seed S         the first case's seed (default 1)
     --mistake NAME   in place of the proved code a reference with this mistake, to see a difference; the names are in
                      src/broken/";
@@ -37,7 +39,8 @@ fn print(tally: &Tally) {
     }
 }
 
-/// A line for each thing met of a hold, of a last frame's filler by the places behind the message, and of misses by number.
+/// A line for each thing met of a hold, of a last frame's filler by the places behind the message, of misses by number, and of
+/// counts.
 fn print_met(tally: &Tally) {
     for met in Met::ALL {
         println!("calls: of a hold: {met:24?} {:9}", tally.met[met as usize]);
@@ -56,10 +59,14 @@ fn print_met(tally: &Tally) {
             counts.iter().sum::<u64>()
         );
     }
+    for counting in Counting::ALL {
+        let count = tally.countings[counting as usize];
+        println!("calls: of counts: {counting:24?} {count:9}");
+    }
 }
 
 fn main() -> ExitCode {
-    let Some(options) = Options::read(std::env::args().skip(1), 10_000_000) else {
+    let Some(options) = Options::read(std::env::args().skip(1), 12_500_000) else {
         eprintln!("{USAGE}");
         return ExitCode::from(2);
     };

@@ -6,9 +6,10 @@ pub mod clean;
 mod ends;
 pub mod filler;
 pub mod hold;
+pub mod summary;
 pub mod types;
 
-use crate::interface::{Around, Ends};
+use crate::interface::{Around, Ends, Summary};
 use crate::values::*;
 use crate::Reference;
 
@@ -20,6 +21,13 @@ pub enum Mistake {
     SenderPost(fn(FlatSender, &[u8], &mut FlatSenderAnswer)),
     SenderTick(fn(FlatSender, &[u8], &mut FlatSenderAnswer)),
     SenderHear(fn(FlatSender, FlatFrame, &mut FlatSenderAnswer)),
+    /// With the lent counts as they were, and as the call leaves them; so in the next three.
+    SummaryBegin(fn(FlatSender, &[u8], &[u8], &mut [u8], &mut FlatSenderAnswer)),
+    SummaryPost(fn(FlatSender, &[u8], &[u8], &mut [u8], &mut FlatSenderAnswer)),
+    SummaryTick(fn(FlatSender, &[u8], &[u8], &mut [u8], &mut FlatSenderAnswer)),
+    SummaryHear(fn(FlatSender, FlatFrame, &[u8], &mut [u8], &mut FlatSenderAnswer)),
+    SummaryCount(fn(u8, &[u8], &mut FlatCount)),
+    SummaryMost(fn(&[u8], &mut FlatCount)),
     ReceiverMake(fn([u16; 3], &mut FlatReceiverMade)),
     ReceiverTick(fn(FlatReceiver, &mut FlatReceiverAnswer)),
     ReceiverHold(fn(FlatReceiver, &mut FlatReceiverAnswer)),
@@ -56,6 +64,7 @@ pub fn mistakes() -> Vec<(&'static str, Mistake)> {
         hold::MISTAKES,
         filler::MISTAKES,
         types::MISTAKES,
+        summary::MISTAKES,
         clean::MISTAKES,
         around::MISTAKES,
         agreement::BREAKING,
@@ -133,6 +142,61 @@ impl Ends for Broken {
     ) -> FlatReceiverAnswer {
         let right = Reference.receiver_hear(receiver, frame, buffer);
         answered!(self, right, ReceiverHear, receiver, frame, buffer)
+    }
+}
+
+impl Summary for Broken {
+    fn summary_begin(
+        &self,
+        sender: FlatSender,
+        message: &[u8],
+        counts: &mut [u8],
+    ) -> FlatSenderAnswer {
+        let before = counts.to_vec();
+        let right = Reference.summary_begin(sender, message, counts);
+        answered!(self, right, SummaryBegin, sender, message, &before, counts)
+    }
+
+    fn summary_post(
+        &self,
+        sender: FlatSender,
+        message: &[u8],
+        counts: &mut [u8],
+    ) -> FlatSenderAnswer {
+        let before = counts.to_vec();
+        let right = Reference.summary_post(sender, message, counts);
+        answered!(self, right, SummaryPost, sender, message, &before, counts)
+    }
+
+    fn summary_tick(
+        &self,
+        sender: FlatSender,
+        message: &[u8],
+        counts: &mut [u8],
+    ) -> FlatSenderAnswer {
+        let before = counts.to_vec();
+        let right = Reference.summary_tick(sender, message, counts);
+        answered!(self, right, SummaryTick, sender, message, &before, counts)
+    }
+
+    fn summary_hear(
+        &self,
+        sender: FlatSender,
+        frame: FlatFrame,
+        counts: &mut [u8],
+    ) -> FlatSenderAnswer {
+        let before = counts.to_vec();
+        let right = Reference.summary_hear(sender, frame, counts);
+        answered!(self, right, SummaryHear, sender, frame, &before, counts)
+    }
+
+    fn summary_count(&self, number: u8, counts: &[u8]) -> FlatCount {
+        let right = Reference.summary_count(number, counts);
+        answered!(self, right, SummaryCount, number, counts)
+    }
+
+    fn summary_most(&self, counts: &[u8]) -> FlatCount {
+        answered!(self, Reference.summary_most(counts), SummaryMost, counts)
     }
 }
 

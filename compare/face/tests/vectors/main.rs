@@ -1,12 +1,13 @@
 //! The table of `tests/vectors.txt`: each call in it is made on the proved code and on the reference, and each of them must
 //! answer as the table says.
 
+mod counting;
 mod single;
 mod talk;
 mod transfer;
 mod words;
 
-use face::broken::{around, clean, filler, hold, types, Broken};
+use face::broken::{around, clean, filler, hold, summary, types, Broken};
 use face::interface::Face;
 use face::Reference;
 
@@ -51,6 +52,7 @@ fn the_table_catches_every_mistake() {
         hold::MISTAKES,
         filler::MISTAKES,
         types::MISTAKES,
+        summary::MISTAKES,
         around::MISTAKES,
     ]
     .concat()
@@ -84,6 +86,10 @@ fn an_altered_table_is_found() {
         ("misses 2 holds 19", "misses 2 holds 18"),
         ("wait 0 misses 4 holds", "wait 0 misses 1 holds"),
         ("S wait 5: Waiting", "S wait 4: Waiting"),
+        ("counts 0:2 1:1 2:3", "counts 0:2 1:1 2:2"),
+        ("K most: 2 3", "K most: 2 2"),
+        ("K most: 127 7", "K most: 128 7"),
+        ("counts none", "counts 0:1"),
         ("find 71: 71 2 charger", "find 71: 71 3 charger"),
         ("list 01 01: refused 11", "list 01 01: refused 10"),
         ("310 said: 3 5", "310 said: 3 6"),

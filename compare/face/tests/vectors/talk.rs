@@ -96,7 +96,7 @@ impl<'a, F: Face> Talk<'a, F> {
             ["talker", count, "of", ref numbers @ ..] => {
                 format!("{call}:{}\n", self.made_of(count, numbers))
             }
-            ["sender" | "receiver" | "S" | "R", ..] => {
+            ["sender" | "receiver" | "S" | "R" | "K", ..] => {
                 format!("{call}:{}\n", self.transfer.answer(&words))
             }
             [_, "C" | "V"] => String::new(),

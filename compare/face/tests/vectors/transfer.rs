@@ -1,20 +1,21 @@
 //! A sender, a receiver and its buffer, and the table's calls of them.
 
-use face::interface::Ends;
+use face::interface::{Ends, Summary};
 use face::values::*;
 
 use crate::words::{bytes, decimal, eight, hex, told};
 
 pub struct Transfer<'a, F> {
-    face: &'a F,
-    sender: FlatSender,
+    pub face: &'a F,
+    pub sender: FlatSender,
     receiver: FlatReceiver,
-    message: Vec<u8>,
+    pub message: Vec<u8>,
     buffer: [u8; 1785],
+    pub counts: Vec<u8>,
 }
 
 /// The phase with what it has beside the transfer's own numbers; a phase that no call leaves is told whole.
-fn told_sender(s: FlatSender) -> String {
+pub fn told_sender(s: FlatSender) -> String {
     let (wait, misses, start, last) = (s.wait, s.misses, s.start, s.last);
     match s.phase {
         0 => " Idle".into(),
@@ -24,6 +25,7 @@ fn told_sender(s: FlatSender) -> String {
             format!(" Sending {due} to {last} start {start} gap {gap} misses {misses}")
         }
         3 => format!(" Waiting last {last} start {start} wait {wait} misses {misses}"),
+        4 if misses == 0 => format!(" Short wait {wait}"),
         _ => format!(" {s:?}"),
     }
 }
@@ -87,18 +89,24 @@ fn receiver_report(a: FlatReceiverAnswer) -> String {
 }
 
 /// A kind and its eight bytes.
-fn frame(words: &[&str]) -> FlatFrame {
+pub fn frame(words: &[&str]) -> FlatFrame {
     FlatFrame {
         kind: words[0].parse().expect("a kind"),
         bytes: eight(&words[1..]),
     }
 }
 
-fn small<const COUNT: usize>(words: &[&str]) -> [u16; COUNT] {
+pub fn small<const COUNT: usize>(words: &[&str]) -> [u16; COUNT] {
     decimal(words).map(|number| number.try_into().expect("two bytes"))
 }
 
-impl<'a, F: Ends> Transfer<'a, F> {
+/// The sender after a call, the frame that it says, and its report.
+pub fn told_answer(answer: FlatSenderAnswer) -> String {
+    let emitted = said(answer.emits, answer.frame);
+    told_sender(answer.next) + &emitted + &sender_report(answer)
+}
+
+impl<'a, F: Ends + Summary> Transfer<'a, F> {
     pub fn new(face: &'a F) -> Transfer<'a, F> {
         Transfer {
             face,
@@ -106,6 +114,7 @@ impl<'a, F: Ends> Transfer<'a, F> {
             receiver: FlatReceiver::default(),
             message: Vec::new(),
             buffer: [0xAA; 1785],
+            counts: vec![0; COUNTS],
         }
     }
 
@@ -116,6 +125,7 @@ impl<'a, F: Ends> Transfer<'a, F> {
                 let made = self.face.sender_make(gap, timeout, limit);
                 told(made.refusal, made.sender, |sender| {
                     self.sender = sender;
+                    self.counts.fill(0);
                     told_sender(sender)
                 })
             }
@@ -155,13 +165,14 @@ impl<'a, F: Ends> Transfer<'a, F> {
                 told_receiver(self.receiver)
             }
             ["R", "buffer", count] => hex(&self.buffer[..count.parse().expect("a count")]),
+            ["K", ref call @ ..] => self.summary_call(call),
             ["S", ref call @ ..] => self.sender_call(call),
             ["R", ref call @ ..] => self.receiver_call(call),
             _ => panic!("no such call: {words:?}"),
         }
     }
 
-    fn ticks(&mut self, count: &str, mut tick: impl FnMut(&mut Self)) {
+    pub fn ticks(&mut self, count: &str, mut tick: impl FnMut(&mut Self)) {
         for _ in 0..count.parse().expect("a count") {
             tick(self);
         }
@@ -178,8 +189,7 @@ impl<'a, F: Ends> Transfer<'a, F> {
             _ => panic!("no such call: {words:?}"),
         };
         self.sender = answer.next;
-        let emitted = said(answer.emits, answer.frame);
-        told_sender(answer.next) + &emitted + &sender_report(answer)
+        told_answer(answer)
     }
 
     fn receiver_call(&mut self, words: &[&str]) -> String {

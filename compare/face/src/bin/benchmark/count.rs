@@ -12,7 +12,7 @@ fn counted(calls: &mut Calls, count: u64) {
 }
 
 /// Prints a title, and under it the names in the order in which they are counted, each with its number of sides.
-pub fn count_table(title: &str, rows: Vec<Row>, count: u64) {
+pub fn count_table<const SIDES: usize>(title: &str, rows: Vec<Row<SIDES>>, count: u64) {
     println!("{title}");
     for mut row in rows {
         println!("| {} | {}", row.name, row.sides.len());

@@ -14,32 +14,32 @@ use face::values::*;
 use crate::measure::{given, Row};
 
 /// A message of this length.
-fn message(length: usize) -> &'static [u8] {
+pub fn message(length: usize) -> &'static [u8] {
     &pool()[..length]
 }
 
-fn frame(kind: u8, first: &[u8]) -> FlatFrame {
+pub fn frame(kind: u8, first: &[u8]) -> FlatFrame {
     let mut bytes = [0xFF; 8];
     bytes[..first.len()].copy_from_slice(first);
     FlatFrame { kind, bytes }
 }
 
-fn idle_sender() -> FlatSender {
+pub fn idle_sender() -> FlatSender {
     Proved.sender_make(2, 10, 60000).sender
 }
 
 /// Opening, with 1785 bytes begun.
-fn opening() -> FlatSender {
+pub fn opening() -> FlatSender {
     Proved.sender_begin(idle_sender(), message(1785)).next
 }
 
 /// Sending frames 101 to 110.
-fn sending() -> FlatSender {
+pub fn sending() -> FlatSender {
     let taken = Proved.sender_hear(opening(), frame(2, &[1, 10])).next;
     Proved.sender_hear(taken, frame(2, &[101, 10])).next
 }
 
-fn waiting() -> FlatSender {
+pub fn waiting() -> FlatSender {
     FlatSender {
         phase: 3,
         due: 0,
@@ -48,28 +48,28 @@ fn waiting() -> FlatSender {
     }
 }
 
-fn short() -> FlatSender {
+pub fn short() -> FlatSender {
     Proved.sender_begin(idle_sender(), message(8)).next
 }
 
 /// At the tick before its timeout, or before its gap's end.
-fn due(sender: FlatSender) -> FlatSender {
+pub fn due(sender: FlatSender) -> FlatSender {
     match sender.phase {
         2 => FlatSender { count: 1, ..sender },
         _ => FlatSender { wait: 9, ..sender },
     }
 }
 
-fn over(sender: FlatSender) -> FlatSender {
+pub fn over(sender: FlatSender) -> FlatSender {
     FlatSender {
         age: 59999,
         ..sender
     }
 }
 
-type Message = &'static [u8];
+pub type Message = &'static [u8];
 
-fn begins(
+pub fn begins(
     face: impl Ends,
     sender: FlatSender,
     message: Message,
@@ -79,7 +79,7 @@ fn begins(
     })
 }
 
-fn ticks(
+pub fn ticks(
     face: impl Ends,
     sender: FlatSender,
     message: Message,
@@ -89,7 +89,7 @@ fn ticks(
     })
 }
 
-fn hears(
+pub fn hears(
     face: impl Ends,
     sender: FlatSender,
     frame: FlatFrame,
@@ -99,7 +99,7 @@ fn hears(
     })
 }
 
-fn posts(
+pub fn posts(
     face: impl Ends,
     sender: FlatSender,
     message: Message,

@@ -1,6 +1,6 @@
 //! Measures the proved code beside the reference, same inputs, same run, by turns: calls through the C face, beside the
-//! reference behind the same boundary and beside the reference's own functions, and the player beside the reference's and
-//! another build's. Prints tables; `docs/PERFORMANCE.md` explains them.
+//! reference behind the same boundary and beside the reference's own functions, the summary's calls beside the sender's own,
+//! and the player beside the reference's and another build's. Prints tables; `docs/PERFORMANCE.md` explains them.
 //! Exit status: 0 measured, 2 bad usage or a program that is missing.
 
 mod around;
@@ -8,6 +8,7 @@ mod count;
 mod ends;
 mod measure;
 mod player;
+mod summary;
 
 use std::path::{Path, PathBuf};
 use std::process::ExitCode;
@@ -51,20 +52,25 @@ fn positive(word: &str) -> Option<usize> {
 }
 
 /// Every table of calls, by its title.
-fn tables() -> [(&'static str, Vec<Row>); 4] {
+fn tables() -> [(&'static str, Vec<Row>); 5] {
     [
         ("the sender", ends::sender_rows()),
+        ("the summary", summary::rows()),
         ("the receiver", ends::receiver_rows()),
         ("whole transfers", ends::transfer_rows()),
         ("around the transport", around::rows()),
     ]
 }
 
+/// The title of the table in which the proved code alone is measured.
+const BESIDE: &str = "the summary beside the sender alone";
+
 fn measure(rounds: usize, before: Option<&Path>) -> Result<(), String> {
     let programs = player::programs(before)?;
     for (title, rows) in tables() {
         measure::print_table(title, rows, rounds);
     }
+    measure::print_beside(BESIDE, summary::beside(), rounds);
     player::print_table(&programs, rounds)
 }
 
@@ -72,6 +78,7 @@ fn count(calls: u64) {
     for (title, rows) in tables() {
         count::count_table(title, rows, calls);
     }
+    count::count_table(BESIDE, summary::beside(), calls);
 }
 
 fn main() -> ExitCode {

@@ -1,5 +1,5 @@
 //! Rows of a table: the same call on the proved code, on the reference behind the same boundary and on the reference
-//! directly, timed by turns.
+//! directly, or a call of the summary and the sender's own, timed by turns.
 
 use std::fmt::Debug;
 use std::hint::black_box;
@@ -11,10 +11,11 @@ const ROUND: Duration = Duration::from_millis(1);
 /// Makes so many calls.
 pub type Calls = Box<dyn FnMut(u64)>;
 
-/// The sides of a row are the proved code, the reference behind the same boundary, and the reference directly.
-pub struct Row {
+/// The sides of a row are the proved code, the reference behind the same boundary, and the reference directly; where there are
+/// two, a call of the summary and the sender's own, both of the proved code.
+pub struct Row<const SIDES: usize = 3> {
     pub name: String,
-    pub sides: [Calls; 3],
+    pub sides: [Calls; SIDES],
 }
 
 impl Row {
@@ -33,10 +34,25 @@ impl Row {
     }
 }
 
+impl Row<2> {
+    /// Both must answer alike.
+    pub fn beside<T: PartialEq + Debug>(
+        name: &str,
+        mut summary: impl FnMut() -> T + 'static,
+        mut plain: impl FnMut() -> T + 'static,
+    ) -> Row<2> {
+        assert_eq!(summary(), plain(), "{name}");
+        Row {
+            name: name.to_string(),
+            sides: [many(summary), many(plain)],
+        }
+    }
+}
+
 /// Nanoseconds of a call of each side, round by round, by turns.
-fn by_turns(sides: &mut [Calls; 3], rounds: usize) -> [Vec<f64>; 3] {
+fn by_turns<const SIDES: usize>(sides: &mut [Calls; SIDES], rounds: usize) -> [Vec<f64>; SIDES] {
     let counts = sides.each_mut().map(enough);
-    let mut times = [const { Vec::new() }; 3];
+    let mut times = [const { Vec::new() }; SIDES];
     for _ in 0..rounds {
         for (side, calls) in sides.iter_mut().enumerate() {
             times[side].push(nanoseconds(calls, counts[side]));
@@ -121,6 +137,26 @@ pub fn print_table(title: &str, rows: Vec<Row>, rounds: usize) {
             same.least,
             same.most,
             own.median
+        );
+    }
+}
+
+pub fn print_beside(title: &str, rows: Vec<Row<2>>, rounds: usize) {
+    println!("\n{title}: ns, median of {rounds} rounds; the ratio is that of a call of the summary to the sender's own");
+    println!();
+    println!("| | with the summary | sender alone | ratio | least | greatest |");
+    println!("|---|---:|---:|---:|---:|---:|");
+    for mut row in rows {
+        let [summary, plain] = by_turns(&mut row.sides, rounds);
+        let same = ratio(&summary, &plain);
+        println!(
+            "| {} | {:.1} | {:.1} | {:.2} | {:.2} | {:.2} |",
+            row.name,
+            spread(summary).median,
+            spread(plain).median,
+            same.median,
+            same.least,
+            same.most
         );
     }
 }
