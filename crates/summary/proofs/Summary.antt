@@ -37,10 +37,10 @@ use Rattle.summary.proofs.EachCall.{blank-none, nack-none, posted-none,
 use Rattle.summary.proofs.Laws.{counts-information, counts-no-other, reads-count, counted-is}
 use Rattle.summary.proofs.Named.{names-none}
 use Rattle.summary.proofs.Words.{length-adding, at-added, at-others, sum-adding, at-most-sum, length-cleared, at-cleared, sum-cleared}
-use Rattle.summary.specs.Calls.{Kept, begun, keptBy, keptOf}
+use Rattle.summary.specs.Calls.{Kept, begun, keptBy}
 use Rattle.summary.specs.Counts.{countAt, cleared, adding, counting, sumOf}
 use Rattle.summary.specs.Most.{countOf, mostOf}
-use Rattle.summary.specs.Seen.{Lending, Event, emittedBy, eventOf, Past, freshWith, leaving, answered, next, runOf, LentOwn, isBegin, isPost, begins, framesSince, history, reported, longIn, isInformation, isNumbered, countIf, Reports, JustReported, justEmitted}
+use Rattle.summary.specs.Seen.{Lending, Event, emittedBy, eventOf, Past, freshWith, answered, next, runOf, LentOwn, isBegin, isPost, begins, framesSince, history, reported, longIn, isInformation, isNumbered, countIf, Reports, JustReported, justEmitted}
 use Rattle.summary.specs.Summary.{Promise, Summary}
 
 -- ---- how many frames of a list
