@@ -2,7 +2,6 @@ pub mod Numbers
 pub mod Refusals
 pub mod SendPaths
 pub mod SendInverse
-pub mod SummaryLaws
 pub mod ReceivePaths
 pub mod ReceiveInverse
 pub mod FiguresLaws

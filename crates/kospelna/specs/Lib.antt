@@ -1,7 +1,6 @@
 pub mod Frames
 pub mod Refusals
 pub mod Send
-pub mod Summary
 pub mod Receive
 pub mod Figures
 pub mod Identify

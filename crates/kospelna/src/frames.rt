@@ -10,7 +10,7 @@ pub struct FlatFrame {
     pub kind: u8,
 }
 
-pub(crate) fn read_frame(f: FlatFrame) -> Frame
+pub fn read_frame(f: FlatFrame) -> Frame
     ensures { λ r. ⌜ r ≡ frameFrom f ⌝ }
 {
     let bytes = f.bytes;

@@ -146,7 +146,7 @@ fn read_phase(s: FlatSender) -> Phase
     }
 }
 
-pub(crate) fn read_sender(s: FlatSender) -> Sender
+pub fn read_sender(s: FlatSender) -> Sender
     ensures { λ r. ⌜ r ≡ senderFrom s ⌝ }
 {
     let phase = read_phase(s);
@@ -254,7 +254,7 @@ fn reported(outcome: u8, refusal: u8, cause: u8, ticks: u16, frames: u16) -> Rep
     }
 }
 
-pub(crate) fn write_answer(a: Answer) -> FlatSenderAnswer
+pub fn write_answer(a: Answer) -> FlatSenderAnswer
     ensures { λ r. ⌜ r ≡ flatAnswer (told a) ⌝ }
 {
     let next = write_sender(a.next);

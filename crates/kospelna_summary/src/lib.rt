@@ -1,18 +1,18 @@
 // The summary over C's layouts: the sender's calls, which also keep the lent counts, and what is
 // read of these.
 ghost use mathlib.Core.Path.{_≡_};
 ghost use Rattle.kospelna.specs.Frames.{frameFrom};
 ghost use Rattle.kospelna.specs.Send.{senderFrom};
-ghost use Rattle.kospelna.specs.Summary.{keeping, flatKept, countOut};
+ghost use Rattle.kospelna_summary.specs.Summary.{keeping, flatKept, countOut};
 ghost use Rattle.sender.specs.Call.{begin, tick, hear, post};
 ghost use Rattle.summary.specs.Calls.{keptOf};
 ghost use Rattle.summary.specs.Most.{toldCounted, countOf, mostOf};
-use crate::frames::FlatFrame;
-use crate::frames::read_frame;
-use crate::send::FlatSender;
-use crate::send::FlatSenderAnswer;
-use crate::send::read_sender;
-use crate::send::write_answer;
+use kospelna::frames::FlatFrame;
+use kospelna::frames::read_frame;
+use kospelna::send::FlatSender;
+use kospelna::send::FlatSenderAnswer;
+use kospelna::send::read_sender;
+use kospelna::send::write_answer;
 use summary::Counted;
 
 // The refusal's number, 0 where there is none; a number and its count, zeros where refused.

@@ -6,10 +6,10 @@ use Rattle.frame.specs.Result.{Result, refusalOf}
 use Rattle.summary.specs.Calls.{Kept, kept}
 use Rattle.summary.specs.Most.{countOf, mostOf}
 use Rattle.summary.specs.declared.Count.{Count}
 use Rattle.kospelna.specs.Refusals.{valueOf, resultFrom, Made}
 use Rattle.kospelna.specs.Send.{flatAnswer, answerFrom}
 use Rattle.kospelna.specs.declared.send.FlatSenderAnswer.{FlatSenderAnswer}
-use Rattle.kospelna.specs.declared.count.FlatCount.{FlatCount}
+use Rattle.kospelna_summary.specs.declared.FlatCount.{FlatCount}
 
 -- ---- a call
 

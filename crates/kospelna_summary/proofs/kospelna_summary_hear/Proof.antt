@@ -1,9 +1,9 @@
--- `kospelna::count::kospelna_summary_hear` meets its contract. What is read, the summary's promise, what is written.
+-- `kospelna_summary::kospelna_summary_hear` meets its contract. What is read, the summary's promise, what is written.
 -- Assumes nothing.
 use borrow.Author.Needs.{needs}
-use Rattle.kospelna.proofs.SummaryLaws.{calls}
-use Rattle.kospelna.proofs.count.kospelna_summary_hear.Statement.{statement}
-use Rattle.kospelna.proofs.count.kospelna_summary_hear.Tie as tie
+use Rattle.kospelna_summary.proofs.Laws.{calls}
+use Rattle.kospelna_summary.proofs.kospelna_summary_hear.Statement.{statement}
+use Rattle.kospelna_summary.proofs.kospelna_summary_hear.Tie as tie
 
 read-sender-requires : tie.Need-read-sender-requires
 read-sender-requires c κs = search needs

@@ -1,9 +1,9 @@
--- `kospelna::count::write_count` meets its contract. By the answer.
+-- `kospelna_summary::write_count` meets its contract. By the answer.
 -- Assumes nothing.
 use borrow.Author.Needs.{needs}
-use Rattle.kospelna.proofs.SummaryLaws.{counts}
-use Rattle.kospelna.proofs.count.write_count.Statement.{statement}
-use Rattle.kospelna.proofs.count.write_count.Tie as tie
+use Rattle.kospelna_summary.proofs.Laws.{counts}
+use Rattle.kospelna_summary.proofs.write_count.Statement.{statement}
+use Rattle.kospelna_summary.proofs.write_count.Tie as tie
 
 enum-known-answer : tie.Need-enum-known-answer
 enum-known-answer c = search needs

@@ -15,16 +15,16 @@ use Rattle.summary.specs.Most.{toldCounted, countOf, mostOf}
 use Rattle.summary.specs.declared.Count.{Count}
 use Rattle.summary.specs.declared.Counted.{Counted}
 use Rattle.summary.specs.declared.Counted.the-variants.{Read, Refused}
 use Rattle.kospelna.specs.Frames.{frameFrom}
 use Rattle.kospelna.specs.Send.{senderFrom, flatAnswer}
 use Rattle.kospelna.specs.Refusals.{Numbered}
-use Rattle.kospelna.specs.Summary.{keeping, flatKept, keptFrom, flatCount, countIn, noCount, countOut, countedIn, CountMade, SummaryWhole}
+use Rattle.kospelna_summary.specs.Summary.{keeping, flatKept, keptFrom, flatCount, countIn, noCount, countOut, countedIn, CountMade, SummaryWhole}
 use Rattle.kospelna.proofs.Refusals.{result-back, result-made, number-again, value-again}
 use Rattle.kospelna.proofs.SendInverse.{answer-back}
 use Rattle.kospelna.specs.declared.frames.FlatFrame.{FlatFrame}
 use Rattle.kospelna.specs.declared.send.FlatSender.{FlatSender}
 use Rattle.kospelna.specs.declared.send.FlatSenderAnswer.{FlatSenderAnswer}
-use Rattle.kospelna.specs.declared.count.FlatCount.{FlatCount}
+use Rattle.kospelna_summary.specs.declared.FlatCount.{FlatCount}
 
 -- ---- the calls: read, called, written
 

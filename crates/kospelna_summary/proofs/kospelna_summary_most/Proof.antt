@@ -1,9 +1,9 @@
--- `kospelna::count::kospelna_summary_most` meets its contract. What is read of the counts is written.
+-- `kospelna_summary::kospelna_summary_most` meets its contract. What is read of the counts is written.
 -- Assumes nothing.
 use borrow.Author.Needs.{needs}
-use Rattle.kospelna.proofs.SummaryLaws.{counts}
-use Rattle.kospelna.proofs.count.kospelna_summary_most.Statement.{statement}
-use Rattle.kospelna.proofs.count.kospelna_summary_most.Tie as tie
+use Rattle.kospelna_summary.proofs.Laws.{counts}
+use Rattle.kospelna_summary.proofs.kospelna_summary_most.Statement.{statement}
+use Rattle.kospelna_summary.proofs.kospelna_summary_most.Tie as tie
 
 most-of-requires : tie.Need-most-of-requires
 most-of-requires c κs = search needs

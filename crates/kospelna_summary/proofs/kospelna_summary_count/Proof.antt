@@ -1,9 +1,9 @@
--- `kospelna::count::kospelna_summary_count` meets its contract. What is read of the counts is written.
+-- `kospelna_summary::kospelna_summary_count` meets its contract. What is read of the counts is written.
 -- Assumes nothing.
 use borrow.Author.Needs.{needs}
-use Rattle.kospelna.proofs.SummaryLaws.{counts}
-use Rattle.kospelna.proofs.count.kospelna_summary_count.Statement.{statement}
-use Rattle.kospelna.proofs.count.kospelna_summary_count.Tie as tie
+use Rattle.kospelna_summary.proofs.Laws.{counts}
+use Rattle.kospelna_summary.proofs.kospelna_summary_count.Statement.{statement}
+use Rattle.kospelna_summary.proofs.kospelna_summary_count.Tie as tie
 
 count-of-requires : tie.Need-count-of-requires
 count-of-requires c κs = search needs
