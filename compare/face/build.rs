@@ -1,4 +1,4 @@
-//! Links the proved code, which `rt staticlib kospelna` writes.
+//! Links the proved code, which `rt staticlib kospelna` and `rt staticlib kospelna_summary` write.
 
 use std::env;
 use std::path::Path;
@@ -10,13 +10,15 @@ fn main() {
     }
     let package = env::var("CARGO_MANIFEST_DIR").expect("cargo names the package's folder");
     let folder = Path::new(&package).join("../../target/staticlib");
-    let library = folder.join("libkospelna.a");
-    println!("cargo::rerun-if-changed={}", library.display());
-    if !library.exists() {
-        println!("cargo::error=target/staticlib/libkospelna.a is missing: run `rt staticlib kospelna` in the");
-        println!("cargo::error=repository first (or, to go without the proved code, cargo with --no-default-features)");
-        return;
-    }
     println!("cargo::rustc-link-search=native={}", folder.display());
-    println!("cargo::rustc-link-lib=static=kospelna");
+    for name in ["kospelna", "kospelna_summary"] {
+        let library = folder.join(format!("lib{name}.a"));
+        println!("cargo::rerun-if-changed={}", library.display());
+        if !library.exists() {
+            println!("cargo::error=target/staticlib/lib{name}.a is missing: run `rt staticlib {name}` in the");
+            println!("cargo::error=repository first (or, to go without the proved code, cargo with --no-default-features)");
+            return;
+        }
+        println!("cargo::rustc-link-lib=static={name}");
+    }
 }
