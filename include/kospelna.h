@@ -1,16 +1,18 @@
 /* Kospelna for programs in C: the two transport ends of GB/T 27930 category B, version talk, parameter groups.
- * Link target/staticlib/libkospelna.a, which `rt staticlib kospelna` makes for x86-64. examples/bench.c is a whole bench,
- * examples/hold.c a transfer that is held, examples/filler.c one whose last frame comes with old bytes behind the message,
- * examples/silence.c two over a line that falls silent, examples/summary.c one of which frames go out more than once,
- * examples/versions.c two version talks.
+ * Link target/staticlib/libkospelna.a, which `rt staticlib kospelna` makes for x86-64, and beside it the summary's library
+ * where counts are kept (below). examples/bench.c is a whole bench, examples/hold.c a transfer that is held,
+ * examples/filler.c one whose last frame comes with old bytes behind the message, examples/silence.c two over a line that
+ * falls silent, examples/summary.c one in which frames go out more than once, examples/versions.c two version talks.
  *
  * Every function takes every value of its parameters and is proved to answer by the rules of document 01, and of document
- * 02 as far as docs/landings/ has it (the equations stand in crates/kospelna/specs/; 001 is the source of version talk and
- * groups). Nothing is kept between calls: states go in and come back by value, and may be copied and kept.
+ * 02 as far as docs/landings/ has it (the equations stand in crates/kospelna/specs/ and crates/kospelna_summary/specs/; 001
+ * is the source of version talk and groups). Nothing is kept between calls: states go in and come back by value, and may be
+ * copied and kept.
  *
  * The caller's part: a pointer is not null and has as many bytes behind it as the length beside it says, also where that
- * is 0; nobody else writes these bytes during the call. A function writes its answer and the bytes that it is lent to write
- * (a receiver's buffer, a summary's counts, a group's eight), nothing else.
+ * is 0; nobody else writes these bytes during the call, and bytes that a call is lent to write overlap no others that it is
+ * lent. A function writes its answer and the bytes that it is lent to write (a receiver's buffer, a summary's counts, a
+ * group's eight), nothing else.
  *
  * In every answer `refusal` is 0 where the call was accepted, else a number below: then nothing goes out, the state and
  * the lent bytes are what they were, and a value in the answer is all zeros: what a refused making answers is not for use.
@@ -198,16 +200,22 @@ kospelna_sender_answer kospelna_sender_hear(kospelna_sender sender, kospelna_fra
 
 /* ---- The summary ----
  *
- * How often each information frame went out: beside a sender, for each number 0 to 255, how many information frames with
- * it have been emitted since the begin (0 is the announcement). The counts lie in KOSPELNA_COUNTS_LENGTH bytes that the
- * caller owns and lends to each call, all 0 at first: the word of number n is in bytes 2n and 2n + 1, its low byte first.
+ * How often each frame went out. Beside a sender: for each number 0 to 255, how many information frames with it have gone out
+ * since the last accepted begin (0 is the announcement). The counts lie in KOSPELNA_COUNTS_LENGTH bytes that the caller owns
+ * and lends to each call, all 0 at first: the word of number n is in bytes 2n and 2n + 1, its low byte first.
  *
- * Each of the four calls answers as the sender's own call does and keeps the counts. Lend the same bytes to every call of
- * a sender, and make every call of it here: what a plain call of the sender emits is not counted. A begin that is accepted
- * clears the counts, and then counts its own frame if the message is long; short messages, posts, NACKs and refused calls
- * add nothing. So after a report the counts are those of the transfer that it ended, and their sum is how many information
- * frames are among the report's `frames`: all of them where a long message was sent, all but the closing NACK where it
- * failed with one, none where the message was short. No count comes near 65535, where it would stay.
+ * Each of the four calls answers as the sender's own call does and keeps the counts. A sender has counts of its own: lend
+ * these to all of its calls, make its calls here alone, as a plain begin or tick leaves the counts as they are, and copy
+ * them where the sender is copied. A begin that is accepted clears them and then counts its own frame if the message is
+ * long; short messages, posts, hearings and refused calls add nothing.
+ *
+ * From a report until the next accepted begin the counts are those of the transfer that it ended. Their sum is the
+ * information frames among the report's `frames`: of a long transfer all but the NACK that went out with the report, if
+ * one did (sum + emits = frames), of a short one none. No count is above the sending time M. Bytes that no calls made may
+ * hold more; a count stays at 65535.
+ *
+ * These functions stand in a library of their own, target/staticlib/libkospelna_summary.a (`rt staticlib kospelna_summary`),
+ * so that each library's calls are compiled for themselves: link it beside libkospelna.a.
  */
 enum { KOSPELNA_COUNTS_LENGTH = 512 };
 
@@ -223,14 +231,14 @@ kospelna_sender_answer kospelna_summary_hear(kospelna_sender sender, kospelna_fr
 
 typedef struct kospelna_count {
     uint8_t refusal;
-    uint8_t number; /* of the frames */
+    uint8_t number; /* the frame number that was asked for, or is named */
     uint16_t count; /* how often it went out */
 } kospelna_count;
 
 /* How often frames with this number went out. Refused 5. */
 kospelna_count kospelna_summary_count(uint8_t number, const uint8_t *counts, size_t counts_length);
 
-/* The number that went out most often, of equals the lowest; 0 where no frame went out. Refused 5. */
+/* The number that went out most often, of equals the lowest; 0 where no information frame went out. Refused 5. */
 kospelna_count kospelna_summary_most(const uint8_t *counts, size_t counts_length);
 
 /* ---- The receiver ---- */

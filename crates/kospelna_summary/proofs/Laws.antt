@@ -18,7 +18,7 @@ use Rattle.summary.specs.declared.Counted.the-variants.{Read, Refused}
 use Rattle.kospelna.specs.Frames.{frameFrom}
 use Rattle.kospelna.specs.Send.{senderFrom, flatAnswer}
 use Rattle.kospelna.specs.Refusals.{Numbered}
-use Rattle.kospelna_summary.specs.Summary.{keeping, flatKept, keptFrom, flatCount, countIn, noCount, countOut, countedIn, CountMade, SummaryWhole}
+use Rattle.kospelna_summary.specs.Summary.{flatWith, flatKept, keptFrom, flatCount, countIn, noCount, countOut, countedIn, CountMade, SummaryWhole}
 use Rattle.kospelna.proofs.Refusals.{result-back, result-made, number-again, value-again}
 use Rattle.kospelna.proofs.SendInverse.{answer-back}
 use Rattle.kospelna.specs.declared.frames.FlatFrame.{FlatFrame}
@@ -30,24 +30,24 @@ use Rattle.kospelna_summary.specs.declared.FlatCount.{FlatCount}
 
 module _ (a : FlatSenderAnswer) (t : Told) (s : FlatSender) (r : Sender) (before after : List ℕ) (answered : a ≡ flatAnswer t)
     (read : r ≡ senderFrom s) where
-  called : (c : Call) → kept t after ≡ keptOf r c before → keeping a after ≡ flatKept (keptOf (senderFrom s) c before)
+  called : (c : Call) → kept t after ≡ keptOf r c before → flatWith a after ≡ flatKept (keptOf (senderFrom s) c before)
   unfolding flatKept
-  called c e = subst (λ (q : Sender). keeping a after ≡ flatKept (keptOf q c before)) read (rw answered (ap flatKept e))
+  called c e = subst (λ (q : Sender). flatWith a after ≡ flatKept (keptOf q c before)) read (rw answered (ap flatKept e))
 
   pub begun : (m : List ℕ) → kept t after ≡ keptOf r (begin m) before
-      → keeping a after ≡ flatKept (keptOf (senderFrom s) (begin m) before)
+      → flatWith a after ≡ flatKept (keptOf (senderFrom s) (begin m) before)
   begun m e = called (begin m) e
 
   pub posted : (m : List ℕ) → kept t after ≡ keptOf r (post m) before
-      → keeping a after ≡ flatKept (keptOf (senderFrom s) (post m) before)
+      → flatWith a after ≡ flatKept (keptOf (senderFrom s) (post m) before)
   posted m e = called (post m) e
 
   pub ticked : (m : List ℕ) → kept t after ≡ keptOf r (tick m) before
-      → keeping a after ≡ flatKept (keptOf (senderFrom s) (tick m) before)
+      → flatWith a after ≡ flatKept (keptOf (senderFrom s) (tick m) before)
   ticked m e = called (tick m) e
 
   pub heard : (f : FlatFrame) (g : Frame) → g ≡ frameFrom f → kept t after ≡ keptOf r (hear g) before
-      → keeping a after ≡ flatKept (keptOf (senderFrom s) (hear (frameFrom f)) before)
+      → flatWith a after ≡ flatKept (keptOf (senderFrom s) (hear (frameFrom f)) before)
   heard f g frame e = called (hear (frameFrom f)) (subst (λ (h : Frame). kept t after ≡ keptOf r (hear h) before) frame e)
 
 pub ruleset calls = (begun, posted, ticked, heard)

@@ -18,11 +18,11 @@ pub record FlatKept : Type 0 where
   pub answer : FlatSenderAnswer
   pub counts : List ℕ
 
-abbrev pub keeping : FlatSenderAnswer → List ℕ → FlatKept
-keeping a counts = record { answer = a; counts = counts }
+abbrev pub flatWith : FlatSenderAnswer → List ℕ → FlatKept
+flatWith a counts = record { answer = a; counts = counts }
 
 unfoldable pub flatKept : Kept → FlatKept
-flatKept k = keeping (flatAnswer (k .told)) (k .counts)
+flatKept k = flatWith (flatAnswer (k .told)) (k .counts)
 
 -- what a caller reads off it
 abbrev pub keptFrom : FlatKept → Kept

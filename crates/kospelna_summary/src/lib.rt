@@ -3,7 +3,7 @@
 ghost use mathlib.Core.Path.{_≡_};
 ghost use Rattle.kospelna.specs.Frames.{frameFrom};
 ghost use Rattle.kospelna.specs.Send.{senderFrom};
-ghost use Rattle.kospelna_summary.specs.Summary.{keeping, flatKept, countOut};
+ghost use Rattle.kospelna_summary.specs.Summary.{flatWith, flatKept, countOut};
 ghost use Rattle.sender.specs.Call.{begin, tick, hear, post};
 ghost use Rattle.summary.specs.Calls.{keptOf};
 ghost use Rattle.summary.specs.Most.{toldCounted, countOf, mostOf};
@@ -47,7 +47,7 @@ pub extern "C" fn kospelna_summary_begin(
     message: &[u8],
     counts: &mut [u8],
 ) -> FlatSenderAnswer
-    ensures { λ a. ⌜ keeping a (now (counts .exit))
+    ensures { λ a. ⌜ flatWith a (now (counts .exit))
         ≡ flatKept (keptOf (senderFrom sender) (begin (now (message .entry))) (now (counts .entry))) ⌝ }
 {
     write_answer(summary::calls::begin(read_sender(sender), message, counts))
@@ -60,7 +60,7 @@ pub extern "C" fn kospelna_summary_post(
     message: &[u8],
     counts: &mut [u8],
 ) -> FlatSenderAnswer
-    ensures { λ a. ⌜ keeping a (now (counts .exit))
+    ensures { λ a. ⌜ flatWith a (now (counts .exit))
         ≡ flatKept (keptOf (senderFrom sender) (post (now (message .entry))) (now (counts .entry))) ⌝ }
 {
     write_answer(summary::calls::post(read_sender(sender), message, counts))
@@ -73,7 +73,7 @@ pub extern "C" fn kospelna_summary_tick(
     message: &[u8],
     counts: &mut [u8],
 ) -> FlatSenderAnswer
-    ensures { λ a. ⌜ keeping a (now (counts .exit))
+    ensures { λ a. ⌜ flatWith a (now (counts .exit))
         ≡ flatKept (keptOf (senderFrom sender) (tick (now (message .entry))) (now (counts .entry))) ⌝ }
 {
     write_answer(summary::calls::tick(read_sender(sender), message, counts))
@@ -86,7 +86,7 @@ pub extern "C" fn kospelna_summary_hear(
     frame: FlatFrame,
     counts: &mut [u8],
 ) -> FlatSenderAnswer
-    ensures { λ a. ⌜ keeping a (now (counts .exit))
+    ensures { λ a. ⌜ flatWith a (now (counts .exit))
         ≡ flatKept (keptOf (senderFrom sender) (hear (frameFrom frame)) (now (counts .entry))) ⌝ }
 {
     write_answer(summary::calls::hear(read_sender(sender), read_frame(frame), counts))
