@@ -212,8 +212,8 @@ module _ (f : Frame) (l : ℕ) where
 pub ruleset reads = (read-low, read-high, read-clean, read-unclean, read-dirty)
 
 -- Filling goes byte by byte and ends at the length.
-pub filled : (s t : List ℕ) (i byte : ℕ) → i ≤ length s → length s ≤ i → t ≡ replicate i byte ++ drop i s
+pub fill-ends : (s t : List ℕ) (i byte : ℕ) → i ≤ length s → length s ≤ i → t ≡ replicate i byte ++ drop i s
     → t ≡ replicate (length s) byte
-filled s t i byte h k e =
+fill-ends s t i byte h k e =
     let same : i ≡ length s = omega arith in
     e ∙ rw (drop-of-length-le s k, append-nil, same)

@@ -7,7 +7,7 @@ use mathlib.Core.List.{List, _++_}
 use borrow.Author.Needs.{needs}
 use borrow.Author.Fill.{fill-more}
 use lib.ListN.{length, drop, set, replicate}
-use Rattle.frame.proofs.Laws.{filled}
+use Rattle.frame.proofs.Laws.{fill-ends}
 use Rattle.frame.proofs.fill.fill.Statement.{statement}
 use Rattle.frame.proofs.fill.fill.Tie as tie
 
@@ -40,7 +40,7 @@ same-length c = search needs
 
 returns : tie.Need-returns Inv-loop μ-loop
 returns c =
-    filled (c .before .before .args .bytes .now) _ (c .before .loop .i) (c .before .before .args .byte) (search needs) (search needs) (c .before .loop .inv .2)
+    fill-ends (c .before .before .args .bytes .now) _ (c .before .loop .i) (c .before .before .args .byte) (search needs) (search needs) (c .before .loop .inv .2)
 
 pub fill-spec : {M : Type 1} → statement M
 fill-spec =
