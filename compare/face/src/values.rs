@@ -1,5 +1,5 @@
 //! The plain values that go through the face, in C's layout. Names and order of the fields are those of
-//! `crates/kospelna/src/`, which `tests/declarations.rs` checks.
+//! `crates/kospelna/src/` and, of `FlatCount`, `crates/kospelna_summary/src/`, which `tests/declarations.rs` checks.
 
 /// A kind and the bytes d0 to d7.
 #[repr(C)]

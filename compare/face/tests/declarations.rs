@@ -1,6 +1,6 @@
-//! The declarations in `src/ffi.rs`, `src/values.rs` and `include/kospelna.h` are those of `crates/kospelna/src/`: the same
-//! structs with the same fields and the same functions with the same parameters and results, by name, type and order; and the
-//! same numbers of a receiver's misses, by name.
+//! The declarations in `src/ffi.rs`, `src/values.rs` and `include/kospelna.h` are those of `crates/kospelna/src/` and
+//! `crates/kospelna_summary/src/`: the same structs with the same fields and the same functions with the same parameters and
+//! results, by name, type and order; and the same numbers of a receiver's misses, by name.
 
 use std::collections::BTreeMap;
 use std::path::Path;
@@ -122,8 +122,8 @@ fn numbers(declared: Vec<&str>, between: &str) -> Numbers {
         .collect()
 }
 
-/// The numbers that the crate writes for the cases of misses: `Misses::NoneAfterAck => 0`.
-fn misses_of_the_crate(text: &str) -> Numbers {
+/// The numbers that the crates write for the cases of misses: `Misses::NoneAfterAck => 0`.
+fn misses_of_the_crates(text: &str) -> Numbers {
     let written = numbers(after(text, "Misses::", ','), " => ");
     let named = written.into_iter();
     named
@@ -131,16 +131,17 @@ fn misses_of_the_crate(text: &str) -> Numbers {
         .collect()
 }
 
-/// What the crate declares.
-fn declared_by_the_crate() -> (Structs, Functions, Numbers) {
-    let text = text("../../crates/kospelna/src", "rt");
+/// What the crates declare.
+fn declared_by_the_crates() -> (Structs, Functions, Numbers) {
+    let folders = ["kospelna", "kospelna_summary"].map(|name| format!("../../crates/{name}/src"));
+    let text = folders.map(|folder| text(&folder, "rt")).concat();
     let functions = functions(&text, "pub extern \"C\" fn ");
-    (structs(&text), functions, misses_of_the_crate(&text))
+    (structs(&text), functions, misses_of_the_crates(&text))
 }
 
 #[test]
-fn declarations_are_those_of_the_crate() {
-    let (structs_there, functions_there, misses_there) = declared_by_the_crate();
+fn declarations_are_those_of_the_crates() {
+    let (structs_there, functions_there, misses_there) = declared_by_the_crates();
     assert_eq!((structs_there.len(), functions_there.len()), (26, 36));
     assert_eq!(misses_there.len(), 5);
     let here = text("src", "rs");
@@ -173,7 +174,7 @@ fn code(header: &str) -> String {
         .collect()
 }
 
-/// What a type of the header is called in the crate: `kospelna_sender_made` is `FlatSenderMade`.
+/// What a type of the header is called in the crates: `kospelna_sender_made` is `FlatSenderMade`.
 fn kind_of(word: &str) -> String {
     match word {
         "bool" => "bool".to_string(),
@@ -248,9 +249,9 @@ fn unlike<T: PartialEq>(there: BTreeMap<String, T>, here: BTreeMap<String, T>) -
         .collect()
 }
 
-/// What differs between a header and the crate.
+/// What differs between a header and the crates.
 fn differences(header: &str) -> Vec<String> {
-    let (structs, functions, misses) = declared_by_the_crate();
+    let (structs, functions, misses) = declared_by_the_crates();
     let code = code(header);
     let constants = after(&code, "KOSPELNA_MISSES_", '\n');
     let named: Vec<&str> = constants
@@ -266,7 +267,7 @@ fn differences(header: &str) -> Vec<String> {
 }
 
 #[test]
-fn the_header_is_that_of_the_crate() {
+fn the_header_is_that_of_the_crates() {
     assert_eq!(differences(&header()), Vec::<String>::new());
 }
 
@@ -292,10 +293,7 @@ const ALTERED: [(&str, &str); 24] = [
     ("uint8_t *buffer,", "const uint8_t *buffer,"),
     ("uint8_t *buffer,", "uint8_t *bytes,"),
     ("uint8_t bytes[8]; /* d0", "uint8_t bytes[7]; /* d0"),
-    (
-        "uint8_t number; /* of the frames */",
-        "uint16_t number; /* of the frames */",
-    ),
+    ("    uint8_t number;", "    uint16_t number;"),
     (
         "uint16_t count; /* how often it",
         "uint32_t count; /* how often it",
