@@ -46,7 +46,7 @@ pub fn post(sender: &Sender, message: &[u8], summary: &[u8]) -> Result<Answer, R
     sender.post(message)
 }
 
-/// The number sent most often; of equals, the lowest.
+/// The number with the greatest count, the lowest of those that share it.
 pub fn most(summary: &[u8]) -> Result<Most, Refused> {
     judge(summary)?;
     let mut most = Most {

@@ -101,7 +101,7 @@ fn a_window_asked_for_again() {
     );
 }
 
-/// T 3, M 10, silence: frame 0 at begin and at ticks 3 and 6, NACK 2 at 9. Four frames, three of them
+/// Nothing is heard, with T 3 and M 10: frame 0 three times, NACK 2 at tick 9. Four frames, three of them
 /// information; with M 9 the fourth is NACK 3.
 #[test]
 fn three_timeouts_in_opening() {
