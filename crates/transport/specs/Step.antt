@@ -76,7 +76,10 @@ bySender c w given back t =
 
 -- whether the sender's call was refused
 abbrev pub senderRefused : sender.Outcome → Bool
-senderRefused o = sender.isRefused o
+senderRefused sender.quiet = false
+senderRefused (sender.refused number) = true
+senderRefused (sender.sent ticks frames) = false
+senderRefused (sender.failed cause ticks frames) = false
 
 -- whether the receiver's call was refused
 abbrev pub wasRefused : receiver.Outcome → Bool
