@@ -26,6 +26,7 @@ use Rattle.frame.specs.declared.Reading.{Reading}
 use Rattle.frame.specs.declared.Reading.the-variants.{Read, Refused}
 use Rattle.sender.specs.Begin.{lengthFits, begunWith, beginLong, beginShort, beginPhase}
 use Rattle.sender.specs.Hear.{windowLast, sendingFrom, taking, takingHold, ackWindow, hearAck, hearNack, hearEnd, hearShortAck, hearKind, hearRead, hearOf}
+use Rattle.sender.specs.SilentTicks.{silentIn, silentTickIn}
 use Rattle.sender.specs.State.{aged, counted, openingWith, sendingWith, waitingWith, shortWith, inPhase}
 use Rattle.sender.specs.Tick.{unlessOver, atLimit, unlessThird, openingOn, openingAgain, informationAt, waitingAfter, afterFrame, sendingNext, sendingOn, waitingOn, waitingAgain, shortOn, shortAgain, tickPhase}
 use Rattle.sender.specs.Told.{Told, failed, refusing, silently, emitting, closing, failingWith}
@@ -199,6 +200,13 @@ pub ruleset results =
 pub tick-in : (s : Sender) (m : List ℕ) {a : Told} {p : Phase} → s .phase ≡ p
     → a ≡ tickPhase s p m → a ≡ tickPhase s (s .phase) m
 tick-in s m is e = e ∙ ap (λ (p : Phase). tickPhase s p m) (sym is)
+
+pub silent-in : (s : Sender) {a : Bool} {p : Phase} → s .phase ≡ p → a ≡ silentIn s p → a ≡ silentIn s (s .phase)
+silent-in s is e = e ∙ ap (silentIn s) (sym is)
+
+pub silent-tick-in : (s : Sender) {a : Told} {p : Phase} → s .phase ≡ p → a ≡ silentTickIn s p
+    → a ≡ silentTickIn s (s .phase)
+silent-tick-in s is e = e ∙ ap (silentTickIn s) (sym is)
 
 -- after the window's last frame, and before it
 module _ (x : Streamed) {p : Phase} {u v : Transfer} (aging : u ≡ aged (x .transfer))

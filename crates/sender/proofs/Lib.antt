@@ -1,6 +1,7 @@
 pub mod Laws
 pub mod Told
 pub mod Choices
+pub mod SilentTicks
 pub mod View
 pub mod Heard
 pub mod Demand1

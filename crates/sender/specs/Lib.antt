@@ -3,6 +3,7 @@ pub mod Told
 pub mod Make
 pub mod Begin
 pub mod Tick
+pub mod SilentTicks
 pub mod Hear
 pub mod Call
 pub mod Heard

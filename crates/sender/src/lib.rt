@@ -9,6 +9,7 @@ mod nack;
 mod opening;
 mod sending;
 mod short;
+mod silent;
 mod steps;
 mod tick;
 mod waiting;

@@ -13,7 +13,7 @@ use frame::count::increment;
 
 impl Sender {
     // The wait for an LM_ACK goes on.
-    fn opening_on(self, x: Announced) -> Answer
+    pub(crate) fn opening_on(self, x: Announced) -> Answer
         ensures { λ r. ⌜ told r ≡ openingOn self x ⌝ }
     {
         let phase = x.transfer.aged().opening_with(increment(x.wait), x.misses);

@@ -48,7 +48,7 @@ impl Sender {
     }
 
     // The gap before the next frame goes on.
-    fn sending_on(self, x: Streamed) -> Answer
+    pub(crate) fn sending_on(self, x: Streamed) -> Answer
         ensures { λ r. ⌜ told r ≡ sendingOn self x ⌝ }
     {
         let transfer = x.transfer.aged();

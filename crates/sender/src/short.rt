@@ -13,7 +13,7 @@ use frame::count::increment;
 
 impl Sender {
     // The wait for an SM_ACK goes on.
-    fn short_on(self, x: Single) -> Answer
+    pub(crate) fn short_on(self, x: Single) -> Answer
         ensures { λ r. ⌜ told r ≡ shortOn self x ⌝ }
     {
         let phase = x.transfer.aged().short_with(increment(x.wait));

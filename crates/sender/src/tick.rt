@@ -29,7 +29,7 @@ pub(crate) fn information_at(number: u8, message: &[u8]) -> Frame
 }
 
 // The lent message has the begun length; an idle sender takes any.
-fn lent_to(phase: Phase, message: &[u8]) -> bool
+pub(crate) fn lent_to(phase: Phase, message: &[u8]) -> bool
     ensures { λ r. ⌜ r ≡ lentTo phase (now (message .entry)) ⌝ }
 {
     match phase {

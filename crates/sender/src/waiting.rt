@@ -10,7 +10,7 @@ use frame::count::increment;
 
 impl Sender {
     // The wait after the window goes on.
-    fn waiting_on(self, x: Awaited) -> Answer
+    pub(crate) fn waiting_on(self, x: Awaited) -> Answer
         ensures { λ r. ⌜ told r ≡ waitingOn self x ⌝ }
     {
         let transfer = x.transfer.aged();
