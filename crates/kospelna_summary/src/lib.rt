@@ -14,6 +14,8 @@ use kospelna::send::FlatSenderAnswer;
 use kospelna::send::read_sender;
 use kospelna::send::write_answer;
 use summary::Counted;
+use summary::NOT_LENT;
+use summary::SIZE;
 
 // The refusal's number, 0 where there is none; a number and its count, zeros where refused.
 #[repr(C)]
@@ -66,7 +68,8 @@ pub extern "C" fn kospelna_summary_post(
     write_answer(summary::calls::post(read_sender(sender), message, counts))
 }
 
-// A tick, lent the message that was begun.
+// A tick, lent the message that was begun. One that is refused or emits nothing counts nothing, and is
+// answered without looking at a frame.
 #[no_mangle]
 pub extern "C" fn kospelna_summary_tick(
     sender: FlatSender,
@@ -76,6 +79,15 @@ pub extern "C" fn kospelna_summary_tick(
     ensures { λ a. ⌜ flatWith a (now (counts .exit))
         ≡ flatKept (keptOf (senderFrom sender) (tick (now (message .entry))) (now (counts .entry))) ⌝ }
 {
+    if counts.len() != SIZE {
+        return write_answer(read_sender(sender).refusing(NOT_LENT));
+    }
+    if !read_sender(sender).is_lent(message) {
+        return write_answer(read_sender(sender).refusing(4));
+    }
+    if read_sender(sender).is_silent() {
+        return write_answer(read_sender(sender).tick_silently());
+    }
     write_answer(summary::calls::tick(read_sender(sender), message, counts))
 }
 

@@ -58,7 +58,7 @@ module _ (s : Sender) (call : Call) (counts : List ℕ) where
   pub answers-alike : length counts ≡ 512 → keptOf s call counts .told ≡ answerOf s call
   answers-alike full = ap (λ (k : Kept). k .told) (lent-is full) ∙ told-by call (answerOf s call) counts
 
-  unlent-is : (length counts ≡ 512 → ⊥) → keptOf s call counts ≡ kept (refusing s 5) counts
+  pub unlent-is : (length counts ≡ 512 → ⊥) → keptOf s call counts ≡ kept (refusing s 5) counts
   unfolding ifLent
   unlent-is other = sym (pick-false _ (ne-eqb _ _ other) refl)
 

@@ -5,10 +5,10 @@ mod counts;
 pub mod most;
 
 // A word for each number from 0 to 255.
-const SIZE: usize = 512;
+pub const SIZE: usize = 512;
 
 // The refusal's number where the counts are not lent so many bytes.
-const NOT_LENT: u8 = 5;
+pub const NOT_LENT: u8 = 5;
 
 // How many information frames with this number have gone out.
 pub struct Count {
