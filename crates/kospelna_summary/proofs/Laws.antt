@@ -1,15 +1,21 @@
 -- A law for each path through the summary's functions; what is written flat is read back, and the other way round.
 -- Assumes nothing.
 use Prim.Native.Nat.{ℕ}
-use mathlib.Core.Path.{_≡_, refl, ap, subst, _∙_}
+use mathlib.Core.Path.{_≡_, refl, sym, ap, subst, _∙_}
+use mathlib.Core.Bool.{Bool, true, false, not, Bool·not-not}
 use mathlib.Core.List.{List}
 use native.Mathlib.Omega.{arith}
+use lib.ListN.{length}
 use Rattle.frame.proofs.Choice.{pick-elim}
 use Rattle.frame.specs.Result.{Result}
 use Rattle.frame.specs.declared.Frame.{Frame}
 use Rattle.sender.specs.Call.{Call, begin, tick, hear, post}
-use Rattle.sender.specs.Told.{Told}
+use Rattle.sender.specs.SilentTicks.{silentIn, silentTickIn}
+use Rattle.sender.specs.Tick.{lentTo}
+use Rattle.sender.specs.Told.{Told, refusing}
 use Rattle.sender.specs.declared.Sender.{Sender}
+use Rattle.summary.proofs.EachCall.{unlent-is}
+use Rattle.summary.proofs.Uncounted.{refused-tick, silent-tick}
 use Rattle.summary.specs.Calls.{Kept, kept, keptOf}
 use Rattle.summary.specs.Most.{toldCounted, countOf, mostOf}
 use Rattle.summary.specs.declared.Count.{Count}
@@ -49,6 +55,32 @@ module _ (a : FlatSenderAnswer) (t : Told) (s : FlatSender) (r : Sender) (before
   pub heard : (f : FlatFrame) (g : Frame) → g ≡ frameFrom f → kept t after ≡ keptOf r (hear g) before
       → flatWith a after ≡ flatKept (keptOf (senderFrom s) (hear (frameFrom f)) before)
   heard f g frame e = called (hear (frameFrom f)) (subst (λ (h : Frame). kept t after ≡ keptOf r (hear h) before) frame e)
+
+-- ---- a tick that counts nothing: the flat sender is read anew for each question
+
+module _ (a : FlatSenderAnswer) (t : Told) (s : Sender) (m counts : List ℕ) (answered : a ≡ flatAnswer t) where
+  uncounted : keptOf s (tick m) counts ≡ kept t counts → flatWith a counts ≡ flatKept (keptOf s (tick m) counts)
+  unfolding flatKept
+  uncounted e = rw (answered, e)
+
+  pub ticked-unlent : (r : Sender) → r ≡ s → (length counts ≡ 512 → ⊥) → t ≡ refusing r 5
+      → flatWith a counts ≡ flatKept (keptOf s (tick m) counts)
+  ticked-unlent r read other e = uncounted (unlent-is s (tick m) counts other ∙ rw (e, read))
+
+  module _ (q r : Sender) (lent : Bool) (asked : q ≡ s) (read : r ≡ s) (full : length counts ≡ 512)
+      (test : lent ≡ lentTo (q .phase) m) where
+    is-not : {b : Bool} → not lent ≡ b → lent ≡ not b
+    is-not e = sym (Bool·not-not lent) ∙ ap not e
+
+    pub ticked-refused : not lent ≡ true → t ≡ refusing r 4 → flatWith a counts ≡ flatKept (keptOf s (tick m) counts)
+    ticked-refused fails e =
+        uncounted (refused-tick s m counts full (rw (← asked) (sym test ∙ is-not fails)) ∙ rw (e, read))
+
+    pub ticked-silently : (u : Sender) (silent : Bool) → u ≡ s → not lent ≡ false → silent ≡ silentIn u (u .phase)
+        → silent ≡ true → t ≡ silentTickIn r (r .phase) → flatWith a counts ≡ flatKept (keptOf s (tick m) counts)
+    ticked-silently u silent known holds mute passes e =
+        uncounted
+        (silent-tick s m counts full (rw (← asked) (sym test ∙ is-not holds)) (rw (← known) (sym mute ∙ passes)) ∙ rw (e, read))
 
 pub ruleset calls = (begun, posted, ticked, heard)
 
