@@ -199,6 +199,7 @@ pub fn sender_rows() -> Vec<Row> {
         tick("tick, Waiting: last frame again", due(waiting()), 1785),
         tick("tick, Short", short(), 8),
         tick("tick, Short: SM_RM again", due(short()), 8),
+        tick("tick, Short: sending time over", over(short()), 8),
         tick("tick, sending time over", over(sending()), 1785),
         tick("tick, refused 4", sending(), 1784),
         hear("hear LM_ACK, taken", waiting(), frame(2, &[111, 10])),

@@ -172,7 +172,7 @@ fn reading_rows() -> [Row; 2] {
 }
 
 /// Ticks by what they do: the sender before it, and the message's length.
-fn ticking() -> [(&'static str, FlatSender, usize); 11] {
+fn ticking() -> [(&'static str, FlatSender, usize); 12] {
     [
         ("tick, Idle", idle_sender(), 1785),
         ("tick, Opening", opening(), 1785),
@@ -183,6 +183,7 @@ fn ticking() -> [(&'static str, FlatSender, usize); 11] {
         ("tick, Waiting: last frame again", due(waiting()), 1785),
         ("tick, Short", short(), 8),
         ("tick, Short: SM_RM again", due(short()), 8),
+        ("tick, Short: sending time over", over(short()), 8),
         ("tick, sending time over", over(sending()), 1785),
         ("tick, refused 4", sending(), 1784),
     ]
