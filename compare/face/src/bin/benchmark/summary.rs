@@ -3,6 +3,7 @@
 
 use std::hint::black_box;
 
+use compare::reference::sender::Sender;
 use compare::reference::summary;
 use face::behind::Behind;
 use face::ends::{frame_of, sender_of};
@@ -16,17 +17,26 @@ use crate::ends::{
 };
 use crate::measure::Row;
 
+/// A call of which the compiler does not know what it is given, as `given` hides it, nor the bytes that it is lent for the counts.
+fn lending<const LENT: usize, G, T>(
+    given: G,
+    call: impl Fn(&G, &mut [u8]) -> T,
+) -> impl FnMut() -> T {
+    let mut counts = [0; LENT];
+    move || {
+        let counts = black_box(&mut counts);
+        call(black_box(&given), counts)
+    }
+}
+
 fn summary_begins(
     face: impl Summary,
     sender: FlatSender,
     message: Message,
 ) -> impl FnMut() -> FlatSenderAnswer {
-    let (mut counts, given) = ([0; COUNTS], (sender, message));
-    move || {
-        let counts = black_box(&mut counts);
-        let (sender, message) = black_box(&given);
+    lending::<COUNTS, _, _>((sender, message), move |(sender, message), counts| {
         face.summary_begin(*sender, message, counts)
-    }
+    })
 }
 
 fn summary_posts(
@@ -34,12 +44,9 @@ fn summary_posts(
     sender: FlatSender,
     message: Message,
 ) -> impl FnMut() -> FlatSenderAnswer {
-    let (mut counts, given) = ([0; COUNTS], (sender, message));
-    move || {
-        let counts = black_box(&mut counts);
-        let (sender, message) = black_box(&given);
+    lending::<COUNTS, _, _>((sender, message), move |(sender, message), counts| {
         face.summary_post(*sender, message, counts)
-    }
+    })
 }
 
 /// Lent so many bytes for the counts.
@@ -48,12 +55,9 @@ fn summary_ticks<const LENT: usize>(
     sender: FlatSender,
     message: Message,
 ) -> impl FnMut() -> FlatSenderAnswer {
-    let (mut counts, given) = ([0; LENT], (sender, message));
-    move || {
-        let counts = black_box(&mut counts);
-        let (sender, message) = black_box(&given);
+    lending::<LENT, _, _>((sender, message), move |(sender, message), counts| {
         face.summary_tick(*sender, message, counts)
-    }
+    })
 }
 
 fn summary_hears(
@@ -61,78 +65,71 @@ fn summary_hears(
     sender: FlatSender,
     frame: FlatFrame,
 ) -> impl FnMut() -> FlatSenderAnswer {
-    let (mut counts, given) = ([0; COUNTS], (sender, frame));
-    move || {
-        let counts = black_box(&mut counts);
-        let (sender, frame) = black_box(&given);
+    lending::<COUNTS, _, _>((sender, frame), move |(sender, frame), counts| {
         face.summary_hear(*sender, *frame, counts)
-    }
+    })
+}
+
+/// The reference's own call, on a copy of its sender.
+fn direct<const LENT: usize, G, T>(
+    sender: FlatSender,
+    given: G,
+    call: impl Fn(&mut Sender, &G, &mut [u8]) -> T,
+) -> impl FnMut() -> (Sender, T) {
+    lending::<LENT, _, _>(
+        (sender_of(sender), given),
+        move |(sender, given), counts| {
+            let mut end = sender.clone();
+            let answer = call(&mut end, given, counts);
+            (end, answer)
+        },
+    )
 }
 
 fn begin(name: &str, length: usize) -> Row {
     let (sender, message) = (idle_sender(), message(length));
-    let (mut counts, native) = ([0; COUNTS], (sender_of(sender), message));
     Row::new(
         name,
         summary_begins(Proved, sender, message),
         summary_begins(Behind, sender, message),
-        move || {
-            let counts = black_box(&mut counts);
-            let (sender, message) = black_box(&native);
-            let mut end = sender.clone();
-            let answer = summary::begin(&mut end, message, counts);
-            (end, answer)
-        },
+        direct::<COUNTS, _, _>(sender, message, |end, message, counts| {
+            summary::begin(end, message, counts)
+        }),
     )
 }
 
 fn post() -> Row {
     let (sender, message) = (idle_sender(), message(8));
-    let (mut counts, native) = ([0; COUNTS], (sender_of(sender), message));
     Row::new(
         "post",
         summary_posts(Proved, sender, message),
         summary_posts(Behind, sender, message),
-        move || {
-            let counts = black_box(&mut counts);
-            let (sender, message) = black_box(&native);
-            let end = sender.clone();
-            let answer = summary::post(&end, message, counts);
-            (end, answer)
-        },
+        direct::<COUNTS, _, _>(sender, message, |end, message, counts| {
+            summary::post(end, message, counts)
+        }),
     )
 }
 
 fn tick<const LENT: usize>(name: &str, sender: FlatSender, length: usize) -> Row {
     let message = message(length);
-    let (mut counts, native) = ([0; LENT], (sender_of(sender), message));
     Row::new(
         name,
         summary_ticks::<LENT>(Proved, sender, message),
         summary_ticks::<LENT>(Behind, sender, message),
-        move || {
-            let counts = black_box(&mut counts);
-            let (sender, message) = black_box(&native);
-            let mut end = sender.clone();
-            let answer = summary::tick(&mut end, message, counts);
-            (end, answer)
-        },
+        direct::<LENT, _, _>(sender, message, |end, message, counts| {
+            summary::tick(end, message, counts)
+        }),
     )
 }
 
 fn hear(name: &str, sender: FlatSender, heard: FlatFrame) -> Row {
-    let (mut counts, native) = ([0; COUNTS], (sender_of(sender), frame_of(heard)));
     Row::new(
         name,
         summary_hears(Proved, sender, heard),
         summary_hears(Behind, sender, heard),
-        move || {
-            let counts = black_box(&mut counts);
-            let (sender, frame) = black_box(&native);
-            let mut end = sender.clone();
-            let answer = summary::hear(&mut end, *frame, counts);
-            (end, answer)
-        },
+        direct::<COUNTS, _, _>(sender, frame_of(heard), |end, frame, counts| {
+            summary::hear(end, *frame, counts)
+        }),
     )
 }
 
