@@ -56,7 +56,7 @@ module _ (a : FlatSenderAnswer) (t : Told) (s : FlatSender) (r : Sender) (before
       → flatWith a after ≡ flatKept (keptOf (senderFrom s) (hear (frameFrom f)) before)
   heard f g frame e = called (hear (frameFrom f)) (subst (λ (h : Frame). kept t after ≡ keptOf r (hear h) before) frame e)
 
--- ---- a tick that counts nothing: the flat sender is read anew for each question
+-- ---- a tick that is refused or emits nothing: the flat sender is read anew for each question
 
 module _ (a : FlatSenderAnswer) (t : Told) (s : Sender) (m counts : List ℕ) (answered : a ≡ flatAnswer t) where
   uncounted : keptOf s (tick m) counts ≡ kept t counts → flatWith a counts ≡ flatKept (keptOf s (tick m) counts)

@@ -14,8 +14,6 @@ use kospelna::send::FlatSenderAnswer;
 use kospelna::send::read_sender;
 use kospelna::send::write_answer;
 use summary::Counted;
-use summary::NOT_LENT;
-use summary::SIZE;
 
 // The refusal's number, 0 where there is none; a number and its count, zeros where refused.
 #[repr(C)]
@@ -68,8 +66,9 @@ pub extern "C" fn kospelna_summary_post(
     write_answer(summary::calls::post(read_sender(sender), message, counts))
 }
 
-// A tick, lent the message that was begun. One that is refused or emits nothing counts nothing, and is
-// answered without looking at a frame.
+// A tick, lent the message that was begun. One that is refused or emits nothing is answered before
+// the summary's, without a frame. Each of these ways reads the flat sender for itself and takes of it
+// what it needs: read once for all, it would be taken apart whole before the first test.
 #[no_mangle]
 pub extern "C" fn kospelna_summary_tick(
     sender: FlatSender,
@@ -79,8 +78,8 @@ pub extern "C" fn kospelna_summary_tick(
     ensures { λ a. ⌜ flatWith a (now (counts .exit))
         ≡ flatKept (keptOf (senderFrom sender) (tick (now (message .entry))) (now (counts .entry))) ⌝ }
 {
-    if counts.len() != SIZE {
-        return write_answer(read_sender(sender).refusing(NOT_LENT));
+    if counts.len() != summary::SIZE {
+        return write_answer(read_sender(sender).refusing(summary::NOT_LENT));
     }
     if !read_sender(sender).is_lent(message) {
         return write_answer(read_sender(sender).refusing(4));

@@ -2,7 +2,7 @@
 -- tick and what is said of it are known.
 -- Assumes nothing.
 use Prim.Native.Nat.{ℕ}
-use mathlib.Core.Path.{_≡_, refl, sym, subst}
+use mathlib.Core.Path.{_≡_, refl, subst}
 use mathlib.Core.Bool.{Bool, true, false, _&&_, _||_, not, false≢true}
 use mathlib.Core.List.{List}
 use borrow.Author.Tests.{leb-true, leb-false, lt-ltb, le-ltb}
@@ -11,7 +11,7 @@ use Rattle.frame.proofs.Choice.{pick-true, pick-elim}
 use Rattle.frame.specs.Choice.{pick}
 use Rattle.frame.specs.Count.{incrementOf}
 use Rattle.sender.specs.SilentTicks.{goesOn, silentIn, shortSilently, silentTickIn, SilentTicks}
-use Rattle.sender.specs.Tick.{unlessOver, atLimit, unlessThird, tickOpening, tickSending, tickWaiting, tickShort, tickPhase, lentTo, tickOf}
+use Rattle.sender.specs.Tick.{unlessOver, atLimit, unlessThird, tickOpening, tickSending, tickWaiting, tickShort, tickPhase, tickOf}
 use Rattle.sender.specs.Told.{Told, failingWith}
 use Rattle.sender.specs.declared.Phase.{Phase}
 use Rattle.sender.specs.declared.Phase.the-variants.{Idle, Opening, Sending, Waiting, Short}

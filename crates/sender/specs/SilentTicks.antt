@@ -1,6 +1,6 @@
--- Ticks that emit nothing, apart from the others. They are most ticks of a transfer, and what document 02, E6 adds to them is to
--- cost little: whoever answers one need not look at a frame. No rule is added by this. `SilentTicks` says that these are the
--- ticks of `Tick` that emit nothing; it is proved in `proofs/SilentTicks.antt`.
+-- Of the ticks that are not refused, those that emit nothing, by document 01, Tick. The face of document 02, E6 answers them apart:
+-- there is no frame to count. No rule is added by this: `SilentTicks` says that they are the ticks of `Tick` that emit nothing,
+-- and do what is done there. It is proved in `proofs/SilentTicks.antt`.
 use Prim.Native.Nat.{ℕ}
 use mathlib.Core.Path.{_≡_}
 use mathlib.Core.Bool.{Bool, true, _&&_, _||_, not}
@@ -19,7 +19,7 @@ use Rattle.sender.specs.declared.Transfer.{Transfer}
 abbrev pub goesOn : Sender → Transfer → ℕ → ℕ → Bool
 goesOn s t limit count = ltb (incrementOf count) limit && ltb (incrementOf (t .age)) (s .settings .limit)
 
--- Document 01, Tick, age: at M a short transfer emits nothing either
+-- a short transfer waits on, or comes to M (document 01, Tick, age), where it emits nothing
 abbrev pub shortIsSilent : Sender → Single → Bool
 shortIsSilent s x =
     leb (s .settings .limit) (incrementOf (x .transfer .age)) || ltb (incrementOf (x .wait)) (s .settings .timeout)

@@ -1,4 +1,5 @@
-// Ticks that emit nothing, apart from the others: who answers one of them need not look at a frame.
+// Of the ticks that are not refused, those that emit nothing, apart from the others: whoever answers one of them need not look
+// at a frame.
 ghost use mathlib.Core.Path.{_≡_};
 ghost use Rattle.sender.specs.SilentTicks.{goesOn, shortIsSilent, silentIn, shortSilently, silentTickIn};
 ghost use Rattle.sender.specs.Tick.{lentTo};
@@ -19,7 +20,7 @@ impl Sender {
         (increment(count) < limit) & (increment(transfer.age) < self.settings.limit)
     }
 
-    // A short transfer also emits nothing where the sending time is over.
+    // A short transfer waits on, or its sending time is over, at which it emits nothing.
     fn short_is_silent(self, x: Single) -> bool
         ensures { λ r. ⌜ r ≡ shortIsSilent self x ⌝ }
     {
@@ -27,6 +28,7 @@ impl Sender {
             | (increment(x.wait) < self.settings.timeout)
     }
 
+    // A silent tick of a short transfer: it fails where the sending time is over.
     fn short_silently(self, x: Single) -> Answer
         ensures { λ r. ⌜ told r ≡ shortSilently self x ⌝ }
     {
@@ -59,7 +61,7 @@ impl Sender {
         }
     }
 
-    // What such a tick does.
+    // What such a tick does; of no use for any other.
     pub fn tick_silently(self) -> Answer
         ensures { λ r. ⌜ told r ≡ silentTickIn self (self .phase) ⌝ }
     {

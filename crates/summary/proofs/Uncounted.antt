@@ -1,4 +1,4 @@
--- Ticks that count nothing: one that is refused 4, and one that emits nothing. The frame of the answer is the blank one.
+-- A tick that is refused 4, and one that emits nothing: the frame of the answer is the blank one, and the counts stay.
 -- Assumes nothing.
 use Prim.Native.Nat.{ℕ}
 use mathlib.Core.Path.{_≡_, refl, sym, ap, _∙_}
@@ -40,6 +40,4 @@ module _ (s : Sender) (m counts : List ℕ) (full : length counts ≡ 512) where
 
   pub silent-tick : lentTo (s .phase) m ≡ true → silentIn s (s .phase) ≡ true
       → keptOf s (tick m) counts ≡ kept (silentTickIn s (s .phase)) counts
-  silent-tick lent silent =
-      let (none, is) = silent-ticks s m lent in
-      without-frame _ (is silent) (silent-blank s (s .phase))
+  silent-tick lent silent = without-frame _ (silent-ticks s m lent .1 silent) (silent-blank s (s .phase))

@@ -1,4 +1,4 @@
--- `kospelna_summary::kospelna_summary_tick` meets its contract. A tick that counts nothing is told by the first three tests; the
+-- `kospelna_summary::kospelna_summary_tick` meets its contract. The first three tests tell the ticks that are refused or emit nothing; the
 -- others are the summary's.
 -- Assumes nothing.
 use borrow.Author.Needs.{needs}

@@ -17,7 +17,7 @@ use crate::ends::{
 };
 use crate::measure::Row;
 
-/// A call of which the compiler does not know what it is given, as `given` hides it, nor the bytes that it is lent for the counts.
+/// A call of which the compiler knows neither what it is given, as of one by `measure::given`, nor the counts that it is lent.
 fn lending<const LENT: usize, G, T>(
     given: G,
     call: impl Fn(&G, &mut [u8]) -> T,
