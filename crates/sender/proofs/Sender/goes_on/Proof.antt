@@ -11,7 +11,7 @@ increment-requires-2 : tie.Need-increment-requires-2
 increment-requires-2 c κs = search needs
 
 returns : tie.Need-returns
-returns c = cc
+returns c = rw (c .before .increment2 .ensures, c .before .before .increment .ensures)
 
 pub goes-on-spec : {M : Type 1} → statement M
 goes-on-spec = tie.close (tie.spec increment-requires increment-requires-2 returns)

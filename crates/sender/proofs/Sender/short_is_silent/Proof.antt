@@ -11,7 +11,7 @@ increment-requires-2 : tie.Need-increment-requires-2
 increment-requires-2 c κs = search needs
 
 returns : tie.Need-returns
-returns c = cc
+returns c = rw (c .before .increment2 .ensures, c .before .before .before .increment .ensures)
 
 pub short-is-silent-spec : {M : Type 1} → statement M
 short-is-silent-spec = tie.close (tie.spec increment-requires increment-requires-2 returns)
