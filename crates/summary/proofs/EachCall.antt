@@ -6,9 +6,8 @@ use mathlib.Core.Bool.{true≢false}
 use mathlib.Core.List.{List}
 use mathlib.Core.Path.{_≡_, refl, sym, _∙_, ap}
 use native.Mathlib.Omega.{arith}
-use borrow.Author.Tests.{eq-eqb, ne-eqb}
 use lib.ListN.{length}
-use Rattle.frame.proofs.Choice.{pick-true, pick-false, pick-elim}
+use Rattle.frame.proofs.Choice.{pick-elim}
 use Rattle.frame.specs.Frames.{blankOf, lmNackOf, smUrmOf}
 use Rattle.frame.specs.declared.Frame.{Frame}
 use Rattle.sender.proofs.Demand1.{demand-1}
@@ -19,7 +18,7 @@ use Rattle.sender.specs.Hear.{taking, takingHold}
 use Rattle.sender.specs.Told.{refused, isRefused, Told, refusing}
 use Rattle.sender.specs.declared.Phase.{Phase}
 use Rattle.sender.specs.declared.Sender.{Sender}
-use Rattle.summary.proofs.Laws.{counts-no-other}
+use Rattle.summary.proofs.Laws.{counts-no-other, not-lent, lent-keeps}
 use Rattle.summary.specs.Calls.{Kept, kept, ifLent, keeping, begun, keptBy, keptOf}
 use Rattle.summary.specs.Counts.{cleared, counting}
 use Rattle.summary.specs.Summary.{EachCall}
@@ -52,15 +51,13 @@ told-by (post m) t counts = refl
 module _ (s : Sender) (call : Call) (counts : List ℕ) where
   -- lent 512 bytes, and lent another length
   pub lent-is : length counts ≡ 512 → keptOf s call counts ≡ keptBy call (answerOf s call) counts
-  unfolding ifLent
-  lent-is full = sym (pick-true _ (eq-eqb _ _ full) refl)
+  lent-is full = sym (lent-keeps s counts _ _ full refl)
 
   pub answers-alike : length counts ≡ 512 → keptOf s call counts .told ≡ answerOf s call
   answers-alike full = ap (λ (k : Kept). k .told) (lent-is full) ∙ told-by call (answerOf s call) counts
 
   pub unlent-is : (length counts ≡ 512 → ⊥) → keptOf s call counts ≡ kept (refusing s 5) counts
-  unfolding ifLent
-  unlent-is other = sym (pick-false _ (ne-eqb _ _ other) refl)
+  unlent-is other = sym (not-lent s counts _ _ other refl)
 
 -- ---- refusals
 

@@ -44,15 +44,15 @@ unfolding ifLent
 not-lent s counts t k other e = pick-false k (ne-eqb _ _ other) (rw e)
 
 -- what is lent has 512 bytes
-lent-is : (s : Sender) (counts : List ℕ) (a k : Kept) → length counts ≡ 512 → a ≡ k → a ≡ ifLent s counts k
+pub lent-keeps : (s : Sender) (counts : List ℕ) (a k : Kept) → length counts ≡ 512 → a ≡ k → a ≡ ifLent s counts k
 unfolding ifLent
-lent-is s counts a k full e = pick-true _ (eq-eqb _ _ full) e
+lent-keeps s counts a k full e = pick-true _ (eq-eqb _ _ full) e
 
 -- a call's answer, and its frame counted
 pub keeps : (s : Sender) (counts after : List ℕ) (a : Answer) (t : Told) → length counts ≡ 512 → told a ≡ t
     → after ≡ counting counts (a .frame)
     → kept (told a) after ≡ ifLent s counts (keeping t counts)
-keeps s counts after a t full same e = lent-is s counts _ _ full (subst (λ x. kept (told a) after ≡ keeping x counts) same (rw e))
+keeps s counts after a t full same e = lent-keeps s counts _ _ full (subst (λ x. kept (told a) after ≡ keeping x counts) same (rw e))
 
 -- a begin that is refused, and one that is accepted
 pub keeps-refused : (s : Sender) (counts : List ℕ) (a : Answer) (t : Told) (denied : Bool) → length counts ≡ 512 → told a ≡ t
@@ -61,7 +61,7 @@ pub keeps-refused : (s : Sender) (counts : List ℕ) (a : Answer) (t : Told) (de
     → kept (told a) counts ≡ ifLent s counts (begun t counts)
 unfolding begun
 keeps-refused s counts a t denied full same e holds =
-    lent-is s counts _ _ full
+    lent-keeps s counts _ _ full
     (subst (λ (x : Told). kept (told a) counts ≡ pick (isRefused (x .outcome)) (kept x counts) (keeping x cleared)) same
     (pick-true _ (sym e ∙ holds) refl))
 
@@ -75,7 +75,7 @@ pub keeps-begun : (s : Sender) (counts empty after : List ℕ) (a : Answer) (t :
 unfolding begun cleared
 keeps-begun s counts empty after a t denied full same e accepts zeros counted =
     let all : empty ≡ replicate 512 0 = subst (λ (n : ℕ). empty ≡ replicate n 0) full zeros in
-    lent-is s counts _ _ full
+    lent-keeps s counts _ _ full
     (subst (λ (x : Told). kept (told a) after ≡ pick (isRefused (x .outcome)) (kept x counts) (keeping x (replicate 512 0))) same
     (pick-false _ (sym e ∙ accepts) (rw (counted, all))))
 

@@ -1,5 +1,5 @@
--- `kospelna_summary::kospelna_summary_tick` meets its contract. The first three tests tell the ticks that are refused or emit nothing; the
--- others are the summary's.
+-- `kospelna_summary::kospelna_summary_tick` meets its contract. The first three tests tell the ticks that are refused or emit
+-- nothing; the others are the summary's.
 -- Assumes nothing.
 use borrow.Author.Needs.{needs}
 use Rattle.kospelna_summary.proofs.Laws.{calls, ticked-unlent, ticked-refused, ticked-silently}
