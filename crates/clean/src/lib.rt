@@ -1,18 +1,20 @@
 // The figures of a clean long transfer, against which one that lost frames is rated: what its sender reports.
+#![tactic(auto)]
+
 ghost use Rattle.std.specs.Prelude.{◌≡◌, ◌≤◌};
 ghost use Rattle.clean.specs.Figures.{figures_for, told_clean, figures_of};
 
 use frame::count::frame_count;
 
 // The ticks and the frames of the report.
-#[derive(Drop)]
+#[derive(Clone, Copy)]
 pub struct Figures {
     pub ticks: u16,
     pub frames: u16,
 }
 
 // What a clean transfer takes, or the number of the refusal.
-#[derive(Drop)]
+#[derive(Clone, Copy)]
 pub enum Clean {
     Takes(Figures),
     Refused(u8),

@@ -1,1 +1,2 @@
 // What the two ends and the line between them guarantee together: definitions and theorems, no code.
+#![tactic(auto)]

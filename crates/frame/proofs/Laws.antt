@@ -7,7 +7,6 @@ use mathlib.Core.List.{List, [], ◌∷◌, ◌++◌, map, append-nil}
 use native.Mathlib.Nat.{le_of_suc-le-suc, not-suc-le-zero}
 use native.Mathlib.Omega.{arith}
 use native.Mathlib.Numerals.{add-one}
-use borrow.Author.Rules.{length_unmapped}
 use borrow.Author.Tests.{le-leb, lt-leb, leb-true, eq-eqb, ne_eqb, eqb-true}
 use lib.Dec.{eqb}
 use lib.ListN.{length, get_or, take, drop, replicate, drop_of_length-le, get_or-eq_default}
@@ -192,19 +191,19 @@ module _ (f : Frame) (l : ℕ) where
     unfolding used_of pick
     named_judged none = e ∙ rw (u, none)
 
-    pub read_clean : length (map (λ (v : ℕ). v) f.bytes) ≡ 8 → filled ≡ true
+    pub read_clean : length f.bytes ≡ 8 → filled ≡ true
         → accepted (record { kind = f.kind; number = byte_of f 0; clean = true }) ≡ read_of f l
     unfolding clean_for pick
     read_clean eight t = go (has_part f) refl
       where
         go : (b : Bool) → has_part f ≡ b → accepted (record { kind = f.kind; number = byte_of f 0; clean = true }) ≡ read_of f l
-        go true has = rw t at (of_part (length_unmapped ℕ f.bytes 8 eight) has)
+        go true has = rw t at (of_part eight has)
         go false none = let whole : true ≡ clean_for f l = rw none refl in read_filled low high (named_judged none) whole t
 
     module _ {part : Bool} (p : part ≡ has_part f) (d : filled ≡ false) where
-      pub read_unclean : length (map (λ (v : ℕ). v) f.bytes) ≡ 8 → part ≡ true
+      pub read_unclean : length f.bytes ≡ 8 → part ≡ true
           → accepted (record { kind = f.kind; number = byte_of f 0; clean = false }) ≡ read_of f l
-      read_unclean eight t = rw d at (of_part (length_unmapped ℕ f.bytes 8 eight) (sym p ∙ t))
+      read_unclean eight t = rw d at (of_part eight (sym p ∙ t))
 
       pub read_dirty : part ≡ false → refused 6 ≡ read_of f l
       read_dirty t = read_unfilled low high (named_judged (sym p ∙ t)) d

@@ -1,4 +1,6 @@
 // The frames that both ends hand about: what they are, how they are read and how they are built.
+#![tactic(auto)]
+
 pub mod build;
 pub mod count;
 pub mod fill;
@@ -11,7 +13,7 @@ const FILLER: u8 = 0xFF;
 pub const LONGEST: u16 = 1785;
 
 // A frame: its kind and its eight data bytes, d0 to d7. It is passed and returned by value.
-#[derive(Drop)]
+#[derive(Clone, Copy)]
 pub struct Frame {
     pub kind: u8,
     pub bytes: [u8; 8],
@@ -19,7 +21,7 @@ pub struct Frame {
 
 // What reading tells of a frame: its kind; d0, which is the number of an information frame; and whether what stands behind
 // the message in an information frame is filler.
-#[derive(Drop)]
+#[derive(Clone, Copy)]
 pub struct Parsed {
     pub kind: u8,
     pub number: u8,
@@ -27,7 +29,7 @@ pub struct Parsed {
 }
 
 // What reading a frame answers: what it tells of the frame, or the number of the refusal.
-#[derive(Drop)]
+#[derive(Clone, Copy)]
 pub enum Reading {
     Read(Parsed),
     Refused(u8),

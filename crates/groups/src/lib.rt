@@ -1,4 +1,6 @@
 // The parameter groups: what each holds, where, and in which range. Two tables say it; reading and writing follow them.
+#![tactic(auto)]
+
 ghost use Rattle.std.specs.Prelude.{◌≡◌, ◌≤◌};
 ghost use Rattle.groups.specs.Answer.{told_finding};
 ghost use Rattle.groups.specs.Table.{find_of};
@@ -15,7 +17,7 @@ pub mod write;
 const FILLER: u8 = 0xFF;
 
 // How many bytes a field has: none, where a group has no such field, one, or two, low byte first.
-#[derive(Drop)]
+#[derive(Clone, Copy)]
 pub enum Width {
     None,
     Byte,
@@ -23,7 +25,7 @@ pub enum Width {
 }
 
 // A kind of field: the values from low to high are allowed, and the two marks.
-#[derive(Drop)]
+#[derive(Clone, Copy)]
 pub struct Kind {
     pub width: Width,
     pub low: u16,
@@ -32,14 +34,14 @@ pub struct Kind {
     pub other: u16,
 }
 
-#[derive(Drop)]
+#[derive(Clone, Copy)]
 pub enum Sender {
     Charger,
     Vehicle,
 }
 
 // A row of the table of groups. Its fields are numbers of kinds.
-#[derive(Drop)]
+#[derive(Clone, Copy)]
 pub struct Row {
     pub code: u8,
     pub length: usize,
@@ -52,7 +54,7 @@ pub struct Row {
 }
 
 // A group's code and the values of its fields, 0 where it has none.
-#[derive(Drop)]
+#[derive(Clone, Copy)]
 pub struct Group {
     pub code: u8,
     pub first: u16,
@@ -62,21 +64,21 @@ pub struct Group {
 }
 
 // What looking for a code answers: its row, or the number of the refusal.
-#[derive(Drop)]
+#[derive(Clone, Copy)]
 pub enum Finding {
     Row(Row),
     Refused(u8),
 }
 
 // What reading answers: the group, or the number of the refusal.
-#[derive(Drop)]
+#[derive(Clone, Copy)]
 pub enum Reading {
     Group(Group),
     Refused(u8),
 }
 
 // What writing answers: done, or the number of the refusal.
-#[derive(Drop)]
+#[derive(Clone, Copy)]
 pub enum Writing {
     Done,
     Refused(u8),

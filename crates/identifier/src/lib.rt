@@ -1,4 +1,6 @@
 // The 29-bit identifier of a frame on the bus: from its parts, and back to them.
+#![tactic(auto)]
+
 ghost use Rattle.std.specs.Prelude.{◌≡◌};
 ghost use Rattle.identifier.specs.Identifier.{Within, fits_of, number_of, parts_of};
 ghost use Rattle.identifier.specs.Answer.{told_joined, told_parted, join_of, parts_fit, part_of};
@@ -22,7 +24,7 @@ pub const VEHICLE_VERSION: u32 = 0x0C3656F4;
 
 // The parts, the first in the highest bits. Each is held wider than its place, so that one over its
 // width can be refused.
-#[derive(Drop)]
+#[derive(Clone, Copy)]
 pub struct Parts {
     pub p: u32,
     pub edp: u32,
@@ -33,14 +35,14 @@ pub struct Parts {
 }
 
 // What joining answers: the identifier, or the number of the refusal.
-#[derive(Drop)]
+#[derive(Clone, Copy)]
 pub enum Joined {
     Identifier(u32),
     Refused(u8),
 }
 
 // What parting answers: the parts, or the number of the refusal.
-#[derive(Drop)]
+#[derive(Clone, Copy)]
 pub enum Parted {
     Into(Parts),
     Refused(u8),

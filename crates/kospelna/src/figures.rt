@@ -7,7 +7,7 @@ use clean::Clean;
 
 // The refusal's number, 0 where there is none, and the figures, zeros where refused.
 #[repr(C)]
-#[derive(Drop)]
+#[derive(Clone, Copy)]
 pub struct FlatCleanFigures {
     pub refusal: u8,
     pub ticks: u16,

@@ -6,7 +6,7 @@ use frame::Frame;
 
 // The bytes d0 to d7 and a kind. With the bytes first C passes them in one register.
 #[repr(C)]
-#[derive(Drop)]
+#[derive(Clone, Copy)]
 pub struct FlatFrame {
     pub bytes: [u8; 8],
     pub kind: u8,

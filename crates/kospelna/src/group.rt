@@ -19,7 +19,7 @@ ghost use Rattle.groups.specs.Writing.{write_of};
 use groups::{Finding, Group, Reading, Row, Sender, Writing};
 
 #[repr(C)]
-#[derive(Drop)]
+#[derive(Clone, Copy)]
 pub struct FlatGroup {
     pub code: u8,
     pub first: u16,
@@ -30,7 +30,7 @@ pub struct FlatGroup {
 
 // The refusal's number, 0 where there is none, and the group, zeros where refused.
 #[repr(C)]
-#[derive(Drop)]
+#[derive(Clone, Copy)]
 pub struct FlatGroupReading {
     pub refusal: u8,
     pub group: FlatGroup,
@@ -38,14 +38,14 @@ pub struct FlatGroupReading {
 
 // The refusal's number, 0 where there is none.
 #[repr(C)]
-#[derive(Drop)]
+#[derive(Clone, Copy)]
 pub struct FlatGroupWriting {
     pub refusal: u8,
 }
 
 // Side 0 is the charger, 1 the vehicle; the fields are their kinds' numbers.
 #[repr(C)]
-#[derive(Drop)]
+#[derive(Clone, Copy)]
 pub struct FlatGroupRow {
     pub code: u8,
     pub length: usize,
@@ -59,7 +59,7 @@ pub struct FlatGroupRow {
 
 // The refusal's number, 0 where there is none, and the row, zeros where refused.
 #[repr(C)]
-#[derive(Drop)]
+#[derive(Clone, Copy)]
 pub struct FlatGroupFinding {
     pub refusal: u8,
     pub row: FlatGroupRow,

@@ -7,7 +7,7 @@ ghost use Rattle.identifier.specs.Named.{charger_address, vehicle_address, charg
 use identifier::{Joined, Parted, Parts};
 
 #[repr(C)]
-#[derive(Drop)]
+#[derive(Clone, Copy)]
 pub struct FlatIdentifierParts {
     pub p: u32,
     pub edp: u32,
@@ -19,7 +19,7 @@ pub struct FlatIdentifierParts {
 
 // The refusal's number, 0 where there is none, and the identifier, 0 where refused.
 #[repr(C)]
-#[derive(Drop)]
+#[derive(Clone, Copy)]
 pub struct FlatIdentifierJoining {
     pub refusal: u8,
     pub identifier: u32,
@@ -27,7 +27,7 @@ pub struct FlatIdentifierJoining {
 
 // The refusal's number, 0 where there is none, and the parts, zeros where refused.
 #[repr(C)]
-#[derive(Drop)]
+#[derive(Clone, Copy)]
 pub struct FlatIdentifierSplitting {
     pub refusal: u8,
     pub parts: FlatIdentifierParts,

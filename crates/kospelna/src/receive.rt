@@ -35,7 +35,7 @@ use receiver::{Answer, Connection, Delivery, Made, Misses, Outcome, Phase, Recei
 // has not is written as 0, the mark as false, and not read. In this order it has 16 bytes, so that C
 // passes it in registers.
 #[repr(C)]
-#[derive(Drop)]
+#[derive(Clone, Copy)]
 pub struct FlatReceiver {
     pub timeout: u16,
     pub capacity: u16,
@@ -54,7 +54,7 @@ pub struct FlatReceiver {
 // What making answers: the refusal's number, 0 where there is none, and the receiver, zeros where
 // refused.
 #[repr(C)]
-#[derive(Drop)]
+#[derive(Clone, Copy)]
 pub struct FlatReceiverMade {
     pub refusal: u8,
     pub receiver: FlatReceiver,
@@ -65,7 +65,7 @@ pub struct FlatReceiverMade {
 // a failure's cause; the delivered length; the bytes of a short delivery. What an outcome has not
 // is 0.
 #[repr(C)]
-#[derive(Drop)]
+#[derive(Clone, Copy)]
 pub struct FlatReceiverAnswer {
     pub next: FlatReceiver,
     pub emits: bool,
@@ -78,7 +78,7 @@ pub struct FlatReceiverAnswer {
 }
 
 // An outcome's numbers.
-#[derive(Drop)]
+#[derive(Clone, Copy)]
 pub(crate) struct Report {
     pub outcome: u8,
     pub refusal: u8,

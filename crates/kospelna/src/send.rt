@@ -32,7 +32,7 @@ use sender::{
 // the frames emitted since begin; wait and misses; the last start taken, the number of the frame
 // due, the window's last, and the gap count. What a phase has not is written as 0 and not read.
 #[repr(C)]
-#[derive(Drop)]
+#[derive(Clone, Copy)]
 pub struct FlatSender {
     pub gap: u16,
     pub timeout: u16,
@@ -54,7 +54,7 @@ pub struct FlatSender {
 // What making answers: the refusal's number, 0 where there is none, and the sender, zeros where
 // refused.
 #[repr(C)]
-#[derive(Drop)]
+#[derive(Clone, Copy)]
 pub struct FlatSenderMade {
     pub refusal: u8,
     pub sender: FlatSender,
@@ -64,7 +64,7 @@ pub struct FlatSenderMade {
 // the outcome's number (0 quiet, 1 refused, 3 failed, 5 sent); the refusal's number; a failure's
 // cause; a report's ticks and frames. What an outcome has not is 0.
 #[repr(C)]
-#[derive(Drop)]
+#[derive(Clone, Copy)]
 pub struct FlatSenderAnswer {
     pub next: FlatSender,
     pub emits: bool,
@@ -77,7 +77,7 @@ pub struct FlatSenderAnswer {
 }
 
 // A window of frames that is being sent, with the gap count.
-#[derive(Drop)]
+#[derive(Clone, Copy)]
 pub(crate) struct Window {
     pub start: u8,
     pub due: u8,
@@ -86,7 +86,7 @@ pub(crate) struct Window {
 }
 
 // An outcome's numbers.
-#[derive(Drop)]
+#[derive(Clone, Copy)]
 pub(crate) struct Report {
     pub outcome: u8,
     pub refusal: u8,

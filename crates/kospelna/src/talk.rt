@@ -47,7 +47,7 @@ use version::{
 };
 
 #[repr(C)]
-#[derive(Drop)]
+#[derive(Clone, Copy)]
 pub struct FlatVersions {
     pub count: u32,
     pub numbers: [u32; 8],
@@ -55,7 +55,7 @@ pub struct FlatVersions {
 
 // The refusal's number, 0 where there is none, and the list, of no versions where refused.
 #[repr(C)]
-#[derive(Drop)]
+#[derive(Clone, Copy)]
 pub struct FlatVersionListing {
     pub refusal: u8,
     pub versions: FlatVersions,
@@ -63,7 +63,7 @@ pub struct FlatVersionListing {
 
 // Verdict 0 is continue, 1 success, 2 failure.
 #[repr(C)]
-#[derive(Drop)]
+#[derive(Clone, Copy)]
 pub struct FlatVersionMessage {
     pub verdict: u8,
     pub version: u32,
@@ -72,14 +72,14 @@ pub struct FlatVersionMessage {
 
 // The eight bytes of a message.
 #[repr(C)]
-#[derive(Drop)]
+#[derive(Clone, Copy)]
 pub struct FlatVersionBytes {
     pub bytes: [u8; 8],
 }
 
 // The refusal's number, 0 where there is none, and the bytes, zeros where refused.
 #[repr(C)]
-#[derive(Drop)]
+#[derive(Clone, Copy)]
 pub struct FlatVersionWriting {
     pub refusal: u8,
     pub bytes: FlatVersionBytes,
@@ -87,7 +87,7 @@ pub struct FlatVersionWriting {
 
 // The refusal's number, 0 where there is none, and the message, zeros where refused.
 #[repr(C)]
-#[derive(Drop)]
+#[derive(Clone, Copy)]
 pub struct FlatVersionReading {
     pub refusal: u8,
     pub message: FlatVersionMessage,
@@ -96,7 +96,7 @@ pub struct FlatVersionReading {
 // Side 0 is the charger, 1 the vehicle; state 0 to 5 is S0 to S5; verdict as above. Any other
 // number is read as 0.
 #[repr(C)]
-#[derive(Drop)]
+#[derive(Clone, Copy)]
 pub struct FlatTalker {
     pub side: u8,
     pub versions: FlatVersions,
@@ -112,7 +112,7 @@ pub struct FlatTalker {
 // What making answers: the refusal's number, 0 where there is none, and the talker, zeros where
 // refused.
 #[repr(C)]
-#[derive(Drop)]
+#[derive(Clone, Copy)]
 pub struct FlatTalkerMade {
     pub refusal: u8,
     pub talker: FlatTalker,
@@ -121,7 +121,7 @@ pub struct FlatTalkerMade {
 // Outcome 0: quiet; 1: refused, with the refusal's number; 3: failed; 6: agreed, with the version;
 // 7: left. What an outcome has not is 0. Where emits is false, bytes are eight zeros.
 #[repr(C)]
-#[derive(Drop)]
+#[derive(Clone, Copy)]
 pub struct FlatTalkerAnswer {
     pub next: FlatTalker,
     pub emits: bool,

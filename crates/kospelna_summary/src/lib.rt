@@ -1,5 +1,7 @@
 // The summary over C's layouts: the sender's calls, which also keep the lent counts, and what is
 // read of these.
+#![tactic(auto)]
+
 ghost use Rattle.std.specs.Prelude.{◌≡◌};
 ghost use Rattle.kospelna.specs.Frames.{frame_from};
 ghost use Rattle.kospelna.specs.Send.{sender_from};
@@ -14,7 +16,7 @@ use summary::Counted;
 
 // The refusal's number, 0 where there is none; a number and its count, zeros where refused.
 #[repr(C)]
-#[derive(Drop)]
+#[derive(Clone, Copy)]
 pub struct FlatCount {
     pub refusal: u8,
     pub number: u8,

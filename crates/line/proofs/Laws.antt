@@ -6,7 +6,6 @@ use mathlib.Core.Path.{◌≡◌, refl, sym, ap, ◌∙◌}
 use mathlib.Core.List.{List, [], ◌∷◌, map}
 use native.Mathlib.Numerals.{unary_clauses}
 use native.Mathlib.Omega.{arith}
-use borrow.Author.Rules.{length_unmapped}
 use borrow.Author.Tests.{le-leb, lt-leb, ne_eqb, eq-eqb}
 use lib.ListN.{length, get_or, set}
 use lib.Seq.{sets}
@@ -82,12 +81,12 @@ listed (suc n) (b ∷ s) e = ap (λ (l : List ℕ). b ∷ l) (listed n s (omega 
 
 -- nine stores one after the other are those of the frame
 pub nine_stores : (bytes : List ℕ) (place : ℕ) (f : Frame)
-    → length (map (λ (v : ℕ). v) f.bytes) ≡ 8
+    → length f.bytes ≡ 8
     → set (set (set (set (set (set (set (set (set bytes (9 * place) f.kind) (9 * place + 1) (get_or f.bytes 0 0)) (9 * place + 2) (get_or f.bytes 1 0)) (9 * place + 3) (get_or f.bytes 2 0)) (9 * place + 4) (get_or f.bytes 3 0)) (9 * place + 5) (get_or f.bytes 4 0)) (9 * place + 6) (get_or f.bytes 5 0)) (9 * place + 7) (get_or f.bytes 6 0)) (9 * place + 8) (get_or f.bytes 7 0) ≡ stored bytes place f
 unfolding stored
 nine_stores bytes place f whole =
     simp unary_clauses
-    (ap (λ (s : List ℕ). sets bytes (9 * place) (f.kind ∷ s)) (sym (listed 8 f.bytes (length_unmapped ℕ f.bytes 8 whole))))
+    (ap (λ (s : List ℕ). sets bytes (9 * place) (f.kind ∷ s)) (sym (listed 8 f.bytes whole)))
 
 -- the paths of each function
 pub ruleset rests = (rest_empty, rest_full, rest_some)

@@ -1,4 +1,6 @@
 // One direction of the player's line: at most 64 frames, kept in lent bytes as a ring. A frame that is there is never moved.
+#![tactic(auto)]
+
 ghost use Rattle.std.specs.Prelude.{◌≡◌, ◌<◌, eqb, length};
 ghost use Rattle.line.specs.Ring.{empty_of, head_of, frame_at, stored, rest_of, kept, join_of};
 
@@ -8,7 +10,7 @@ use frame::Frame;
 const SIZE: usize = 576;
 
 // The place of the first frame, and how many frames there are from it on.
-#[derive(Drop)]
+#[derive(Clone, Copy)]
 pub struct Ring {
     pub first: u8,
     pub count: u8,

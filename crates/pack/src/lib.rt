@@ -1,4 +1,6 @@
 // Reading a run pack: its settings, and where its message and its events are.
+#![tactic(auto)]
+
 ghost use Rattle.std.specs.Prelude.{◌≡◌, ◌≤◌, drop};
 ghost use Rattle.pack.specs.Pack.{
   told_reading,
@@ -15,7 +17,7 @@ ghost use Rattle.pack.specs.Pack.{
 use frame::count::word;
 
 // The ends' settings as the pack has them, in its order.
-#[derive(Drop)]
+#[derive(Clone, Copy)]
 pub struct Settings {
     // G
     pub gap: u8,
@@ -33,7 +35,7 @@ pub struct Settings {
 
 // The settings, the length of the message, which starts at 23, and the number of the events, which
 // start behind it.
-#[derive(Drop)]
+#[derive(Clone, Copy)]
 pub struct Bodies {
     pub settings: Settings,
     pub message: u16,
@@ -41,7 +43,7 @@ pub struct Bodies {
 }
 
 // What reading answers: the bodies, or the number of the refusal.
-#[derive(Drop)]
+#[derive(Clone, Copy)]
 pub enum Reading {
     Pack(Bodies),
     Refused(u8),

@@ -1,5 +1,7 @@
 // Reads a run pack from standard input and prints what is played of it. Everything that matters is
 // in the crate player.
+#![tactic(auto)]
+
 use player::{Opening, Player};
 
 // The part of a page that is written goes out.

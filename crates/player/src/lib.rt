@@ -1,5 +1,7 @@
 // The player: reads a run pack, plays its events on the transport, and writes what is printed of
 // them into lent bytes. It knows of the transport what that promises, and of the ends nothing.
+#![tactic(auto)]
+
 mod call;
 mod open;
 mod parts;
@@ -10,7 +12,7 @@ use pack::Bodies;
 use transport::Ends;
 
 // The ends, where the pack's bodies are, and how many events have been played.
-#[derive(Drop)]
+#[derive(Clone, Copy)]
 pub struct Player {
     pub ends: Ends,
     pub bodies: Bodies,
@@ -18,14 +20,14 @@ pub struct Player {
 }
 
 // What opening a pack answers: the player, or the number of the refusal.
-#[derive(Drop)]
+#[derive(Clone, Copy)]
 pub enum Opening {
     Ready(Player),
     Refused(u8),
 }
 
 // The player after a call, and how many bytes of the page are written.
-#[derive(Drop)]
+#[derive(Clone, Copy)]
 pub struct Progress {
     pub player: Player,
     pub written: usize,

@@ -13,7 +13,7 @@ const SENDER: u8 = b'S';
 const RECEIVER: u8 = b'R';
 
 // The ends after an event, and the place after what was printed.
-#[derive(Drop)]
+#[derive(Clone, Copy)]
 pub(crate) struct Turn {
     pub ends: Ends,
     pub at: usize,

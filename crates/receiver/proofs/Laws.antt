@@ -9,7 +9,6 @@ use mathlib.Core.List.{List, ◌++◌, map, append-nil, append_assoc}
 use native.Mathlib.Nat.{le_refl}
 use native.Mathlib.Omega.{arith}
 use native.Mathlib.Numerals.{add-one}
-use borrow.Author.Rules.{length_unmapped}
 use borrow.Author.Tests.{leb-true, le-leb, lt-leb, lt-ltb, le-ltb, eq-eqb, ne_eqb}
 use borrow.Rule.Slice.PartMut.{put_mid}
 use lib.Dec.{leb}
@@ -282,7 +281,7 @@ part_back buffer source part at count size fits e =
     (rw (drop_of_length-le (drop at buffer) whole, append-nil, drop-drop, append_assoc))
 
 pub stores : (buffer bytes part : List ℕ) (number total before count : ℕ)
-    → length (map (λ (v : ℕ). v) bytes) ≡ 8
+    → length bytes ≡ 8
     → part
     ≡ take count (take 7 (drop 1 bytes)) ++ drop count (take (length buffer - 7 * before) (drop (7 * before) buffer))
     → before ≡ number - 1
@@ -290,12 +289,12 @@ pub stores : (buffer bytes part : List ℕ) (number total before count : ℕ)
     → put_mid (7 * before) (length buffer - 7 * before) buffer part ≡ storing buffer number total (drop 1 bytes)
 unfolding storing
 stores buffer bytes part number total before count eight e b n =
-    let seven : length (drop 1 bytes) ≤ 7 = rw length-drop (omega (arith, length_unmapped ℕ bytes 8 eight)) in
+    let seven : length (drop 1 bytes) ≤ 7 = rw length-drop (omega (arith, eight)) in
     part_back buffer (drop 1 bytes) part (7 * before) count 7 seven e ∙ cc
 
 -- an array ends where its bytes do
-pub array_end : (bytes : List ℕ) (size : ℕ) → length (map (λ (v : ℕ). v) bytes) ≡ size → size ≤ length bytes
-array_end bytes size e = omega (arith, length_unmapped ℕ bytes size e)
+pub array_end : (bytes : List ℕ) (size : ℕ) → length bytes ≡ size → size ≤ length bytes
+array_end bytes size e = omega (arith, e)
 
 -- ---- an information frame
 

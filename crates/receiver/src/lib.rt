@@ -1,4 +1,6 @@
 // The receiving end: its settings, its state and its answers. State goes in and out by value.
+#![tactic(auto)]
+
 mod announce;
 mod hear;
 mod hold;
@@ -12,7 +14,7 @@ mod window;
 use frame::Frame;
 
 // Timeout T in ticks, window C in frames, capacity K in bytes.
-#[derive(Drop)]
+#[derive(Clone, Copy)]
 pub struct Settings {
     pub timeout: u16,
     pub window: u8,
@@ -20,7 +22,7 @@ pub struct Settings {
 }
 
 // The N and L last delivered.
-#[derive(Drop)]
+#[derive(Clone, Copy)]
 pub struct Delivery {
     pub frames: u8,
     pub length: u16,
@@ -28,7 +30,7 @@ pub struct Delivery {
 
 // The timeouts in a row that a connection counts, all of one type: after an own LM_ACK, or after an accepted frame that
 // drew none. Where none is counted, what the connection waits after; where some are, it waits after an LM_ACK.
-#[derive(Drop)]
+#[derive(Clone, Copy)]
 pub enum Misses {
     NoneAfterAck,
     OneAfterAck,
@@ -38,7 +40,7 @@ pub enum Misses {
 }
 
 // What a timeout comes to: it is the third of its type in a row, or these misses stand after it.
-#[derive(Drop)]
+#[derive(Clone, Copy)]
 pub enum Timeout {
     Third,
     Counts(Misses),
@@ -47,7 +49,7 @@ pub enum Timeout {
 // An open connection: N and L as announced, the frame number expected (e) and the last of the window (w), the timeouts
 // counted and the ticks waited; whether it is held, and how many timeouts it has had while held. In this order it is laid
 // out without gaps.
-#[derive(Drop)]
+#[derive(Clone, Copy)]
 pub struct Connection {
     pub frames: u8,
     pub expected: u8,
@@ -60,21 +62,21 @@ pub struct Connection {
 }
 
 // Idle with nothing delivered that is remembered, Idle with the last delivery (Done), or Open.
-#[derive(Drop)]
+#[derive(Clone, Copy)]
 pub enum Phase {
     Idle,
     Done(Delivery),
     Open(Connection),
 }
 
-#[derive(Drop)]
+#[derive(Clone, Copy)]
 pub struct Receiver {
     pub settings: Settings,
     pub phase: Phase,
 }
 
 // What making answers: the receiver, or the number of the refusal.
-#[derive(Drop)]
+#[derive(Clone, Copy)]
 pub enum Made {
     End(Receiver),
     Refused(u8),
@@ -82,7 +84,7 @@ pub enum Made {
 
 // What a call reports: nothing, a refusal by its number, a delivery of L bytes, a failure by its cause, or a short
 // delivery.
-#[derive(Drop)]
+#[derive(Clone, Copy)]
 pub enum Outcome {
     Quiet,
     Refused(u8),
@@ -93,7 +95,7 @@ pub enum Outcome {
 
 // What a call answers. Where emits is false, frame is the blank frame. bytes are those of a short delivery, else eight
 // zeros.
-#[derive(Drop)]
+#[derive(Clone, Copy)]
 pub struct Answer {
     pub next: Receiver,
     pub emits: bool,

@@ -1,4 +1,6 @@
 // The sending end: its settings, its state and its answers. State goes in and out by value.
+#![tactic(auto)]
+
 mod ack;
 mod begin;
 mod close;
@@ -17,7 +19,7 @@ mod waiting;
 use frame::Frame;
 
 // Gap G, timeout T and sending time M, in ticks.
-#[derive(Drop)]
+#[derive(Clone, Copy)]
 pub struct Settings {
     pub gap: u16,
     pub timeout: u16,
@@ -26,7 +28,7 @@ pub struct Settings {
 
 // What is known of the message that was begun (L, N and its first byte), and what has been counted
 // since: the ticks (age) and the frames emitted.
-#[derive(Drop)]
+#[derive(Clone, Copy)]
 pub struct Transfer {
     pub length: u16,
     pub frames: u8,
@@ -36,7 +38,7 @@ pub struct Transfer {
 }
 
 // Opening: the announcement is out, and no LM_ACK has been taken.
-#[derive(Drop)]
+#[derive(Clone, Copy)]
 pub struct Announced {
     pub transfer: Transfer,
     pub wait: u16,
@@ -44,7 +46,7 @@ pub struct Announced {
 }
 
 // Sending: the frames from next to last of the window are to go out; start is the last start taken.
-#[derive(Drop)]
+#[derive(Clone, Copy)]
 pub struct Streamed {
     pub transfer: Transfer,
     pub start: u8,
@@ -55,7 +57,7 @@ pub struct Streamed {
 }
 
 // Waiting: the window has gone out; its last frame goes again at a timeout.
-#[derive(Drop)]
+#[derive(Clone, Copy)]
 pub struct Awaited {
     pub transfer: Transfer,
     pub start: u8,
@@ -65,13 +67,13 @@ pub struct Awaited {
 }
 
 // Short: SM_RM is out, and no SM_ACK has come.
-#[derive(Drop)]
+#[derive(Clone, Copy)]
 pub struct Single {
     pub transfer: Transfer,
     pub wait: u16,
 }
 
-#[derive(Drop)]
+#[derive(Clone, Copy)]
 pub enum Phase {
     Idle,
     Opening(Announced),
@@ -80,21 +82,21 @@ pub enum Phase {
     Short(Single),
 }
 
-#[derive(Drop)]
+#[derive(Clone, Copy)]
 pub struct Sender {
     pub settings: Settings,
     pub phase: Phase,
 }
 
 // What making answers: the sender, or the number of the refusal.
-#[derive(Drop)]
+#[derive(Clone, Copy)]
 pub enum Made {
     End(Sender),
     Refused(u8),
 }
 
 // What a call reports: nothing, a refusal by its number, or how the transfer finished.
-#[derive(Drop)]
+#[derive(Clone, Copy)]
 pub enum Outcome {
     Quiet,
     Refused(u8),
@@ -103,7 +105,7 @@ pub enum Outcome {
 }
 
 // What a call answers. Where emits is false, frame is the blank frame.
-#[derive(Drop)]
+#[derive(Clone, Copy)]
 pub struct Answer {
     pub next: Sender,
     pub emits: bool,

@@ -1,5 +1,7 @@
 // How often each information frame has gone out since the begin, beside the sender: the sender's calls, which also keep the
 // counts, and what is read of these. The counts lie in lent bytes.
+#![tactic(auto)]
+
 pub mod calls;
 mod counts;
 pub mod most;
@@ -11,14 +13,14 @@ pub const SIZE: usize = 512;
 pub const NOT_LENT: u8 = 5;
 
 // How many information frames with this number have gone out.
-#[derive(Drop)]
+#[derive(Clone, Copy)]
 pub struct Count {
     pub number: u8,
     pub count: u16,
 }
 
 // What reading the counts answers, or the number of the refusal.
-#[derive(Drop)]
+#[derive(Clone, Copy)]
 pub enum Counted {
     Read(Count),
     Refused(u8),

@@ -1,5 +1,7 @@
 // The lines that the player prints, written into a lent slice from a place on. Each function
 // answers the place after what it wrote; bytes that find the slice full are left out.
+#![tactic(auto)]
+
 mod lines;
 mod number;
 mod page;

@@ -6,7 +6,6 @@ use mathlib.Core.Path.{◌≡◌, refl, sym, ap, ◌∙◌}
 use mathlib.Core.Bool.{Bool, true, false, ◌&&◌}
 use mathlib.Core.List.{List, [], ◌∷◌, ◌++◌, map, append-nil}
 use native.Mathlib.Omega.{arith}
-use borrow.Author.Rules.{length_unmapped}
 use borrow.Author.Tests.{eqb-true, eqb-false, eq-eqb, ne_eqb}
 use lib.Dec.{eqb}
 use lib.ListN.{length, take}
@@ -49,13 +48,13 @@ all_frames ring bytes = take_all 64 (frames_in ring bytes) (frames_limit ring by
 pub line_joined : (ring r : Ring) (f : Frame) (emits : Bool) (bytes after : List ℕ)
     → kept r after ≡ join_of ring f bytes
     → length bytes ≡ 576
-    → length (map (λ (v : ℕ). v) f.bytes) ≡ 8
+    → length f.bytes ≡ 8
     → emits ≡ true
     → frames_in r after ≡ take 64 (frames_in ring bytes ++ emission emits f)
 line_joined ring r f emits bytes after e size eight t =
     rw t
     (ap (λ (k : Kept). frames_in k.ring k.bytes) e
-    ∙ frames_joined ring f bytes size (length_unmapped ℕ f.bytes 8 eight))
+    ∙ frames_joined ring f bytes size eight)
 
 pub line_alone : (ring : Ring) (f : Frame) (emits : Bool) (bytes : List ℕ) → emits ≡ false
     → frames_in ring bytes ≡ take 64 (frames_in ring bytes ++ emission emits f)

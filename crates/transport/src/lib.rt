@@ -1,4 +1,6 @@
 // Both ends and both directions of the line: one function for each call. Each answers the ends and what was said.
+#![tactic(auto)]
+
 mod call;
 mod give;
 mod make;
@@ -10,7 +12,7 @@ use receiver::Receiver;
 use sender::Sender;
 
 // Both ends, and both directions of the line as rings in lent bytes.
-#[derive(Drop)]
+#[derive(Clone, Copy)]
 pub struct Ends {
     pub sender: Sender,
     pub receiver: Receiver,
@@ -20,7 +22,7 @@ pub struct Ends {
 
 // What the called end said. Where emits is false, frame is the blank frame; the outcome of an end that was not called is
 // quiet; bytes are those of a short delivery, else eight zeros.
-#[derive(Drop)]
+#[derive(Clone, Copy)]
 pub struct Said {
     pub emits: bool,
     pub frame: Frame,
@@ -30,14 +32,14 @@ pub struct Said {
 }
 
 // What a call answers.
-#[derive(Drop)]
+#[derive(Clone, Copy)]
 pub struct Answer {
     pub next: Ends,
     pub said: Said,
 }
 
 // What making answers: the ends, or the number of the refusal.
-#[derive(Drop)]
+#[derive(Clone, Copy)]
 pub enum Made {
     Ready(Ends),
     Refused(u8),

@@ -1,5 +1,7 @@
 // Version talk: the list of versions that an end supports, the version message, and the talker of
 // either side.
+#![tactic(auto)]
+
 mod act;
 mod charger;
 pub mod list;
@@ -12,14 +14,14 @@ pub mod wire;
 // of base 256), rising. The first count of them stand; listing puts 0 after them, and a talker that
 // was made looks at none of those. The count is as wide as a number, so that a list has no gap and
 // is copied as it lies.
-#[derive(Drop)]
+#[derive(Clone, Copy)]
 pub struct Versions {
     pub count: u32,
     pub numbers: [u32; 8],
 }
 
 // Whether versions are a list that an end can have; if not, the number of the refusal.
-#[derive(Drop)]
+#[derive(Clone, Copy)]
 pub enum ListOutcome {
     Accepted,
     Refused(u8),
@@ -27,14 +29,14 @@ pub enum ListOutcome {
 
 // What listing versions answers. Where they are refused, versions are none: count 0 and eight
 // zeros.
-#[derive(Drop)]
+#[derive(Clone, Copy)]
 pub struct Listed {
     pub versions: Versions,
     pub outcome: ListOutcome,
 }
 
 // The result field of a version message.
-#[derive(Drop)]
+#[derive(Clone, Copy)]
 pub enum Verdict {
     Continue,
     Success,
@@ -43,7 +45,7 @@ pub enum Verdict {
 
 // What a version message says: the result, the version, and the control-pilot byte, which nobody
 // judges.
-#[derive(Drop)]
+#[derive(Clone, Copy)]
 pub struct Message {
     pub verdict: Verdict,
     pub version: u32,
@@ -51,21 +53,21 @@ pub struct Message {
 }
 
 // What reading a message answers: the message, or the number of the refusal.
-#[derive(Drop)]
+#[derive(Clone, Copy)]
 pub enum MessageReading {
     Message(Message),
     Refused(u8),
 }
 
 // Which table a talker follows.
-#[derive(Drop)]
+#[derive(Clone, Copy)]
 pub enum Side {
     Charger,
     Vehicle,
 }
 
 // S0 start, S1 negotiating, S2 agreed on a version below 2.0.0, S3 agreed, S4 failed, S5 left.
-#[derive(Drop)]
+#[derive(Clone, Copy)]
 pub enum State {
     S0,
     S1,
@@ -78,7 +80,7 @@ pub enum State {
 // A talker: its side, what it supports and its control-pilot byte; its state, the place Ns in the
 // list, the result that its messages carry, and the ticks of T1 (period) and Tout0 (age). In S3 the
 // vehicle's T1 runs while timing is true.
-#[derive(Drop)]
+#[derive(Clone, Copy)]
 pub struct Talker {
     pub side: Side,
     pub versions: Versions,
@@ -92,7 +94,7 @@ pub struct Talker {
 }
 
 // What making a talker answers. Where it is refused, the talker is a charger with no versions.
-#[derive(Drop)]
+#[derive(Clone, Copy)]
 pub struct Made {
     pub talker: Talker,
     pub outcome: ListOutcome,
@@ -100,7 +102,7 @@ pub struct Made {
 
 // What a call reports: nothing, a refusal by its number, the version agreed on, that the talk
 // failed, or that it was left.
-#[derive(Drop)]
+#[derive(Clone, Copy)]
 pub enum Outcome {
     Quiet,
     Refused(u8),
@@ -110,7 +112,7 @@ pub enum Outcome {
 }
 
 // What a call answers. Where emits is false, bytes are eight zeros.
-#[derive(Drop)]
+#[derive(Clone, Copy)]
 pub struct Answer {
     pub next: Talker,
     pub emits: bool,

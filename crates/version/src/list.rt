@@ -22,7 +22,7 @@ ghost use Rattle.version.specs.List.{
 use crate::{ListOutcome, Listed, Versions};
 
 // A place in a list, if there is one.
-#[derive(Drop)]
+#[derive(Clone, Copy)]
 pub(crate) enum Found {
     Nowhere,
     Here(u32),

@@ -7,7 +7,7 @@ use crate::vehicle::vehicle_cell;
 use crate::{Side, State};
 
 // A column: what is heard or due.
-#[derive(Drop)]
+#[derive(Clone, Copy)]
 pub(crate) enum Trigger {
     Connected,
     PeriodDue,
@@ -25,7 +25,7 @@ pub(crate) enum Trigger {
 }
 
 // What a cell says is done.
-#[derive(Drop)]
+#[derive(Clone, Copy)]
 pub(crate) enum Entry {
     Nothing,
     Opens,
