@@ -114,10 +114,10 @@ module _ (st : Settings) (small : st.limit ≤ 60000) (m : List ℕ) (n : ℕ) (
       (λ soon. waits (in_time_lem t k early) (opening (older t k))))
 
   -- the window's next frame has gone out
-  after_frame : (x : Streamed) → Keeps m x.transfer n → 1 ≤ x.next → x.next ≤ x.last → x.last ≤ frames_of m
+  after_frame_lem : (x : Streamed) → Keeps m x.transfer n → 1 ≤ x.next → x.next ≤ x.last → x.last ≤ frames_of m
       → Moving m (n + 1) false (after_frame x)
   unfolding after_frame
-  after_frame x k low mid high =
+  after_frame_lem x k low mid high =
       pick_elim (Moving m (n + 1) false) _ (λ end. waiting (older_counted x.transfer k) (omega arith) high)
       (λ inside.
       let h = leb-false x.last x.next inside in
@@ -131,7 +131,7 @@ module _ (st : Settings) (small : st.limit ≤ 60000) (m : List ℕ) (n : ℕ) (
       let t = x.transfer in
       over_elim P (sender_in st (Sending x)) t _ over
       (λ early. limit_elim P st.gap x.gap
-      (adds (in_time_lem t k early) (after_frame x k low mid high) (information (carries x.next low (omega arith))))
+      (adds (in_time_lem t k early) (after_frame_lem x k low mid high) (information (carries x.next low (omega arith))))
       (λ soon. waits (in_time_lem t k early) (sending (older t k) low mid high)))
 
   tick_waiting_lem : (x : Awaited) → Keeps m x.transfer n → 1 ≤ x.last → x.last ≤ frames_of m

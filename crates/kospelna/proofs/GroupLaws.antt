@@ -59,7 +59,7 @@ write_through s {t} w e x =
     ap (λ (f : FlatGroupWriting). written f t) w ∙ ap written_out (e ∙ ap (λ (g : Group). write_of g s) x)
 
 -- a row's side by its number
-pub row_out : (x : Row) {n : ℕ} → n ≡ side_number x.sender
+pub row_out_lem : (x : Row) {n : ℕ} → n ≡ side_number x.sender
     → record {
       code = x.code;
       length = x.length;
@@ -71,7 +71,7 @@ pub row_out : (x : Row) {n : ℕ} → n ≡ side_number x.sender
       fourth = x.fourth;
     }
     ≡ row_out x
-row_out x e = rw e
+row_out_lem x e = rw e
 
 module _ {a : Finding} where
   pub find_accepted : {x : Row} {f : FlatGroupRow} → f ≡ row_out x → a ≡ findings.Row x
@@ -93,7 +93,7 @@ pub ruleset group-paths = (
   write_done,
   write_refused,
   write_through,
-  row_out,
+  row_out_lem,
   find_accepted,
   find_refused,
   find_through,

@@ -63,9 +63,9 @@ pub record Layout (pack : List ℕ) : Type 0 where
 split : (a b : Bool) → (a && b) ≡ true → (a ≡ true) × (b ≡ true)
 split a b h = (and-eq-true_iff a b).0 h
 
-pub laid_out : (pack : List ℕ) → laid_out pack ≡ true → Layout pack
+pub laid_out_lem : (pack : List ℕ) → laid_out pack ≡ true → Layout pack
 unfolding laid_out
-laid_out pack h =
+laid_out_lem pack h =
     let g = split _ _ h in
     let f = split _ _ g.0 in
     let e = split _ _ f.0 in
@@ -100,7 +100,7 @@ module _ (pack : List ℕ) (b : Bodies) (read : bodies_of pack ≡ accepted b) w
   pub read_layout : Layout pack
   unfolding bodies_of
   read_layout =
-      laid_out pack (passed (laid_out pack) (all_events (events_of pack (bodies_in pack))) (bodies_in pack) b read).0
+      laid_out_lem pack (passed (laid_out pack) (all_events (events_of pack (bodies_in pack))) (bodies_in pack) b read).0
 
   -- every event is 1 to 8
   pub read_events : all_events (events_of pack b) ≡ true

@@ -157,9 +157,9 @@ pub ruleset ticks = (over, in_time_lem, at_limit_lem, short_of, at_third, before
 -- what goes on, and what goes out
 module _ (s : Sender) {a : Told} {p : Sender} {q : Phase} (next : p ≡ in_phase s q) where
   module _ {u : Transfer} {n : ℕ} where
-    pub opening_on : (x : Announced) → u ≡ aged x.transfer → n ≡ increment_of x.wait
+    pub opening_on_lem : (x : Announced) → u ≡ aged x.transfer → n ≡ increment_of x.wait
         → q ≡ opening_with u n x.misses → a ≡ silently p → a ≡ opening_on s x
-    opening_on x aging growing phase e = cc
+    opening_on_lem x aging growing phase e = cc
 
     pub sending_on_lem : (x : Streamed) → u ≡ aged x.transfer → n ≡ increment_of x.gap
         → q ≡ sending_with x u x.next n → a ≡ silently p → a ≡ sending_on s x
@@ -169,9 +169,9 @@ module _ (s : Sender) {a : Told} {p : Sender} {q : Phase} (next : p ≡ in_phase
         → q ≡ waiting_with x u n x.misses → a ≡ silently p → a ≡ waiting_on s x
     waiting_on_lem x aging growing phase e = cc
 
-    pub short_on : (x : Single) → u ≡ aged x.transfer → n ≡ increment_of x.wait
+    pub short_on_lem : (x : Single) → u ≡ aged x.transfer → n ≡ increment_of x.wait
         → q ≡ short_with u n → a ≡ silently p → a ≡ short_on s x
-    short_on x aging growing phase e = cc
+    short_on_lem x aging growing phase e = cc
 
   module _ {f : Frame} (out : a ≡ emitting p f) where
     module _ {u v : Transfer} (counting : v ≡ counted u) where
@@ -194,7 +194,7 @@ module _ (s : Sender) {a : Told} {p : Sender} {q : Phase} (next : p ≡ in_phase
     sending_next_lem x m phase frame = cc
 
 pub ruleset results =
-    (opening_on, sending_on_lem, waiting_on_lem, short_on, opening_again_lem, waiting_again_lem, short_again_lem, sending_next_lem)
+    (opening_on_lem, sending_on_lem, waiting_on_lem, short_on_lem, opening_again_lem, waiting_again_lem, short_again_lem, sending_next_lem)
 
 -- by the phase
 pub tick_in : (s : Sender) (m : List ℕ) {a : Told} {p : Phase} → s.phase ≡ p

@@ -48,10 +48,10 @@ module _ (due on : Told) (emits : due.emits ≡ true) (silent : on.emits ≡ fal
   short_by false false fails none = (silent, λ e. refl)
 
 -- a phase of a long transfer
-goes_on : (s : Sender) (t : Transfer) (limit count : ℕ) (due on : Told) → due.emits ≡ true → on.emits ≡ false
+goes_on_lem : (s : Sender) (t : Transfer) (limit count : ℕ) (due on : Told) → due.emits ≡ true → on.emits ≡ false
     → IsSilent (unless_over s t (failing_with s) (at_limit limit count due on)) (goes_on s t limit count) on
 unfolding unless_over at_limit
-goes_on s t limit count due on emits silent =
+goes_on_lem s t limit count due on emits silent =
     rw (below_is (increment_of count) limit, below_is (increment_of t.age) s.settings.limit)
     (long_by due on emits silent (leb s.settings.limit (increment_of t.age)) (leb limit (increment_of count)) _ refl)
 
@@ -65,11 +65,11 @@ in_phase_lem : (s : Sender) (p : Phase) (m : List ℕ) → IsSilent (tick_phase 
 unfolding tick_phase silent_in silent_tick_in tick_opening tick_sending tick_waiting tick_short short_silently unless_over at_limit
 in_phase_lem s Idle m = (refl, λ e. refl)
 in_phase_lem s (Opening x) m =
-    goes_on s x.transfer s.settings.timeout x.wait _ _
+    goes_on_lem s x.transfer s.settings.timeout x.wait _ _
     (miss_emits s x.transfer x.misses _ refl) refl
-in_phase_lem s (Sending x) m = goes_on s x.transfer s.settings.gap x.gap _ _ refl refl
+in_phase_lem s (Sending x) m = goes_on_lem s x.transfer s.settings.gap x.gap _ _ refl refl
 in_phase_lem s (Waiting x) m =
-    goes_on s x.transfer s.settings.timeout x.wait _ _
+    goes_on_lem s x.transfer s.settings.timeout x.wait _ _
     (miss_emits s x.transfer x.misses _ refl) refl
 in_phase_lem s (Short x) m =
     rw (below_is (increment_of x.wait) s.settings.timeout)

@@ -50,7 +50,7 @@ pub data Asked : Phase → Transfer → ℕ → ℕ → Type 0 where
 
 pub data Ticks (s : Sender) (m : List ℕ) : Phase → Told → Type 0 where
   rests : Ticks s m Idle (silently s)
-  opening_on : {x : Announced}
+  opening_on_lem : {x : Announced}
       → increment_of x.transfer.age < s.settings.limit
       → increment_of x.wait < s.settings.timeout
       → Ticks s m (Opening x) (opening_on s x)
@@ -73,7 +73,7 @@ pub data Ticks (s : Sender) (m : List ℕ) : Phase → Told → Type 0 where
       → increment_of x.transfer.age < s.settings.limit
       → increment_of x.misses < 3
       → Ticks s m (Waiting x) (waiting_again s x m)
-  short_on : {x : Single}
+  short_on_lem : {x : Single}
       → increment_of x.transfer.age < s.settings.limit
       → increment_of x.wait < s.settings.timeout
       → Ticks s m (Short x) (short_on s x)
@@ -154,7 +154,7 @@ module _ (s : Sender) where
   tick_does m (Opening x) =
       let P : Told → Type 0 = Ticks s m (Opening x) in
       over_elim P s x.transfer _ (fails 3 opening)
-      (λ young. timeout_elim P s x.transfer x.wait x.misses (fails 2 opening) (opening_again_lem young) (opening_on young))
+      (λ young. timeout_elim P s x.transfer x.wait x.misses (fails 2 opening) (opening_again_lem young) (opening_on_lem young))
   tick_does m (Sending x) =
       let P : Told → Type 0 = Ticks s m (Sending x) in
       over_elim P s x.transfer _ (fails 3 (windowed sending))
@@ -166,7 +166,7 @@ module _ (s : Sender) where
   tick_does m (Short x) =
       let P : Told → Type 0 = Ticks s m (Short x) in
       over_elim P s x.transfer _ fails_short
-      (λ young. limit_elim P s.settings.timeout x.wait (short_again_lem young) (short_on young))
+      (λ young. limit_elim P s.settings.timeout x.wait (short_again_lem young) (short_on_lem young))
 
   window_does : {p : Phase} {t : Transfer} {taken misses : ℕ} → Windowed p t taken misses → (start count : ℕ)
       → Hears s p (ack_window s t taken misses start count)

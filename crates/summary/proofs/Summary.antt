@@ -271,11 +271,11 @@ module _ (limit : ℕ) (s : Sender) (counts : List ℕ) (events : List Event)
       (omega (arith, h.age, h.emitted), omega (arith, h.age, h.emitted, limited))
 
   -- after a frame of a window the transfer is still long
-  after_frame : (x : Streamed) (after : List ℕ) (own : List Frame)
+  after_frame_lem : (x : Streamed) (after : List ℕ) (own : List Frame)
       → LongHolds after own (long_in events) (counted (aged x.transfer))
       → PhaseHolds after own (long_in events) (after_frame x)
   unfolding after_frame
-  after_frame x after own l = pick_elim (PhaseHolds after own (long_in events)) _ (λ last. l) (λ more. l)
+  after_frame_lem x after own l = pick_elim (PhaseHolds after own (long_in events)) _ (λ last. l) (λ more. l)
 
   -- a tick that emits an information frame and goes on
   informs : (m : List ℕ) (next : Sender) (f : Frame) (number : ℕ) (t : Transfer) → f.kind ≡ 1 → byte_of f 0 ≡ number
@@ -352,7 +352,7 @@ module _ (limit : ℕ) (s : Sender) (counts : List ℕ) (events : List Event)
   tick_keeps {m} (sending_next_lem {x} young) i h at reach =
       let top = i.0.frames in
       informs m _ _ x.next x.transfer refl refl (omega (arith, i.2, top.2)) reach limited i.0.counted young h
-      (λ after own l. after_frame x after own l)
+      (λ after own l. after_frame_lem x after own l)
   tick_keeps {m} (waiting_on_lem young early) i h at reach =
       silent (tick m) _ (refl, refl) refl refl reach limited h (λ frames r. absurd r)
   tick_keeps {m} (waiting_again_lem {x} young few) i h at reach =

@@ -152,13 +152,13 @@ given_forward_lem k c lent w (f ∷ rest) e n l fits r =
     (left_short k f rest (rw e at fits.forward))
     fits.back (l f rest e) r
 
-given_back : (k : Rest) (c : Call) (w : World) (fs : List Frame) → w.back ≡ fs → lent_by c w ≡ []
+given_back_lem : (k : Rest) (c : Call) (w : World) (fs : List Frame) → w.back ≡ fs → lent_by c w ≡ []
     → ((f : Frame) (rest : List Frame) → w.back ≡ f ∷ rest → left_by c w ≡ with_lines w w.forward (leaving k f rest))
     → Fits w
     → Only w c (given_back k c w fs)
 unfolding given_back
-given_back k c w [] e n l fits r = absurd (false≢true r)
-given_back k c w (f ∷ rest) e n l fits r =
+given_back_lem k c w [] e n l fits r = absurd (false≢true r)
+given_back_lem k c w (f ∷ rest) e n l fits r =
     sender_told c w (to_sender f) (leaving k f rest)
     (hear_tells (Honest w.sender) w.sender (honest_forms w.sender) f)
     fits.forward (left_short k f rest (rw e at fits.back))
@@ -185,8 +185,8 @@ call_only w (hear_forward b) fits = given_forward_lem gone (hear_forward b) b w 
 call_only w (repeat_forward b) fits =
     given_forward_lem still (repeat_forward b) b w w.forward refl refl (λ f rest e. rw (sym e) refl) fits
 call_only w lose_forward fits = λ e. absurd (false≢true e)
-call_only w hear_back fits = given_back gone hear_back w w.back refl refl (λ f rest e. rw e refl) fits
-call_only w repeat_back fits = given_back still repeat_back w w.back refl refl (λ f rest e. rw (sym e) refl) fits
+call_only w hear_back fits = given_back_lem gone hear_back w w.back refl refl (λ f rest e. rw e refl) fits
+call_only w repeat_back fits = given_back_lem still repeat_back w w.back refl refl (λ f rest e. rw (sym e) refl) fits
 call_only w lose_back fits = λ e. absurd (false≢true e)
 
 -- ---- making

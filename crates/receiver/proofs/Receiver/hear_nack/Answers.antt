@@ -1,0 +1,14 @@
+-- `receiver::Receiver::hear_nack` meets its contract. In each phase the callee answers what the definition has for
+-- that phase.
+-- Assumes nothing.
+use Rattle.receiver.proofs.Laws.{nacks}
+use Rattle.receiver.proofs.Receiver.hear_nack.Goals as goal
+
+pub returns-in-Idle : goal.returns-in-Idle
+returns-in-Idle c = search nacks
+
+pub returns-in-Done : goal.returns-in-Done
+returns-in-Done c = search nacks
+
+pub returns-in-Open : goal.returns-in-Open
+returns-in-Open c = search nacks

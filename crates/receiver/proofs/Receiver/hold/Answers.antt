@@ -1,0 +1,14 @@
+-- `receiver::Receiver::hold` meets its contract. In each phase the callee answers what the definition has for that
+-- phase.
+-- Assumes nothing.
+use Rattle.receiver.proofs.Laws.{holds}
+use Rattle.receiver.proofs.Receiver.hold.Goals as goal
+
+pub returns-in-Idle : goal.returns-in-Idle
+returns-in-Idle c = search holds
+
+pub returns-in-Done : goal.returns-in-Done
+returns-in-Done c = search holds
+
+pub returns-in-Open : goal.returns-in-Open
+returns-in-Open c = search holds

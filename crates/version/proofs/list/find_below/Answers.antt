@@ -1,0 +1,18 @@
+-- `version::list::find_below` meets its contract. The invariant: the highest version below stands
+use mathlib.Core.Path.{refl}
+use native.Mathlib.Nat.{le_refl}
+use borrow.Author.Rules.{rules}
+use Rattle.version.proofs.Laws.{sinks}
+use Rattle.version.proofs.list.find_below.Goals as goal
+
+pub loop-i-init : goal.loop-i-init
+loop-i-init c = (le_refl _, refl)
+
+pub returns-then-numbers-i : goal.returns-then-numbers-i
+returns-then-numbers-i c = search (rules, sinks)
+
+pub loop-i-preserved : goal.loop-i-preserved
+loop-i-preserved c = (search rules, search (rules, sinks))
+
+pub returns : goal.returns
+returns c = search (rules, sinks)
