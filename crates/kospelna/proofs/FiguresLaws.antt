@@ -27,7 +27,7 @@ pub clean_through : (length gap : ℕ) {r : FlatCleanFigures} {a : Result Figure
     → r ≡ clean_out (figures_of length gap)
 clean_through length gap w e = w ∙ ap clean_out e
 
-pub ruleset clean-paths = (clean_taken, clean_refused, clean_through)
+pub ruleset clean_paths = (clean_taken, clean_refused, clean_through)
 
 -- ---- back and forth
 

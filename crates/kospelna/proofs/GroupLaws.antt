@@ -86,7 +86,7 @@ pub find_through : (n : ℕ) {r : FlatGroupFinding} {a : Result Row} → r ≡ f
     → r ≡ finding_out (find_of n)
 find_through n w e = w ∙ ap finding_out e
 
-pub ruleset group-paths = (
+pub ruleset group_paths = (
   read_accepted,
   read_refused,
   read_through,

@@ -45,7 +45,7 @@ module _ {p : Parted} where
 pub part_through : (n : ℕ) {r : FlatIdentifierSplitting} {a : Result Parts} → r ≡ splitting_out a → a ≡ part_of n → r ≡ splitting_out (part_of n)
 part_through n w e = w ∙ ap splitting_out e
 
-pub ruleset identify-paths = (
+pub ruleset identify_paths = (
   joined_accepted,
   joined_refused,
   join_through,

@@ -86,7 +86,7 @@ pub verdict_other : {n : ℕ} → (n ≡ 1 → ⊥) → (n ≡ 2 → ⊥) → Co
 unfolding verdict_in pick
 verdict_other {n} a b = rw (ne_eqb n 1 a, ne_eqb n 2 b)
 
-pub ruleset number-paths = (
+pub ruleset number_paths = (
   side_1,
   side_other,
   state_1,
@@ -149,7 +149,7 @@ pub read_through : (s : List ℕ) {f : FlatVersionReading} {j : Result Message} 
     → f ≡ reading_out (read_of s)
 read_through s w e = w ∙ ap reading_out e
 
-pub ruleset message-paths = (
+pub ruleset message_paths = (
   listed_out_lem,
   list_through,
   message_in_lem,
@@ -243,7 +243,7 @@ module _ {a : Told} {f : FlatTalkerAnswer} {t u : Talker} (w : f ≡ answer_out 
   pub functions_through : a ≡ functions_heard_of t → t ≡ u → f ≡ answer_out (functions_heard_of u)
   functions_through = through functions_heard_of
 
-pub ruleset talker-paths = (
+pub ruleset talker_paths = (
   talker_in_lem,
   talker_out_lem,
   made_out_lem,

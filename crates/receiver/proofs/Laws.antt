@@ -129,7 +129,7 @@ module _ (r : Receiver) (x : Connection) {wait : ℕ} (w : wait ≡ increment_of
   unfolding tick_open
   tick_free e due free = pick_true _ (late due) (pick_false _ free e)
 
-pub ruleset ticks-open = (free_fails, free_asks, held_fails, held_goes_on, tick_waits, tick_held, tick_free)
+pub ruleset ticks_open = (free_fails, free_asks, held_fails, held_goes_on, tick_waits, tick_held, tick_free)
 
 module _ (r : Receiver) {a : Told} where
   pub tick_idle : a ≡ silently r → r.phase ≡ Idle → a ≡ tick_of r
@@ -312,7 +312,7 @@ module _ (r : Receiver) (x : Connection) {a : Told} where
     unfolding stored
     stored_goes_on e inside = pick_false _ (ne_eqb _ _ more) (pick_false _ (ne_eqb _ _ inside) e)
 
-pub ruleset stores-on = (stored_ends, stored_asks, stored_goes_on)
+pub ruleset stores_on = (stored_ends, stored_asks, stored_goes_on)
 
 module _ (r : Receiver) (x : Connection) (p : Parsed) (bytes buffer : List ℕ) where
   module _ {a : Told} {unclean : Bool} (u : unclean ≡ is_unclean x p) where

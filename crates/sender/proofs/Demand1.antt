@@ -8,7 +8,7 @@ use native.Mathlib.Omega.{arith}
 use Rattle.frame.proofs.Choice.{pick_elim}
 use Rattle.frame.specs.Result as result
 use Rattle.sender.proofs.Heard.{hearing_does}
-use Rattle.sender.proofs.View.{Ticks, rests, opening_on, opening_again_lem, sending_on_lem, sending_next_lem, waiting_on_lem, waiting_again_lem, short_on, short_again_lem, fails, fails_short, Calls, refuses, begins_long, begins_short, posts, ticks, hears, call_does}
+use Rattle.sender.proofs.View.{Ticks, rests, opening_on_lem, opening_again_lem, sending_on_lem, sending_next_lem, waiting_on_lem, waiting_again_lem, short_on_lem, short_again_lem, fails, fails_short, Calls, refuses, begins_long, begins_short, posts, ticks, hears, call_does}
 use Rattle.sender.specs.Begin.{begin_long, begin_short}
 use Rattle.sender.specs.Call.{Call}
 use Rattle.sender.specs.Demand1.{Unchanged, Demand1}
@@ -36,13 +36,13 @@ report_is (of_failed _ _ _) number e = failed_is number e
 module _ {s : Sender} where
   ticks_leave : {m : List ℕ} {p : Phase} {t : Told} → Ticks s m p t → Leaves s t
   ticks_leave rests = quiet_is
-  ticks_leave (opening_on _ _) = quiet_is
+  ticks_leave (opening_on_lem _ _) = quiet_is
   ticks_leave (opening_again_lem _ _) = quiet_is
   ticks_leave (sending_on_lem _ _) = quiet_is
   ticks_leave (sending_next_lem _) = quiet_is
   ticks_leave (waiting_on_lem _ _) = quiet_is
   ticks_leave (waiting_again_lem _ _) = quiet_is
-  ticks_leave (short_on _ _) = quiet_is
+  ticks_leave (short_on_lem _ _) = quiet_is
   ticks_leave (short_again_lem _) = quiet_is
   ticks_leave (fails _ _) = failed_is
   ticks_leave fails_short = failed_is

@@ -219,7 +219,7 @@ module _ (x : Streamed) {p : Phase} {u v : Transfer} (aging : u ≡ aged x.trans
   unfolding after_frame pick
   after_other more e = cc (lt-leb _ _ more)
 
-pub ruleset After-frame = (after_last, after_other)
+pub ruleset after_frames = (after_last, after_other)
 
 -- the part that is lent starts at the message's end where it would start past it
 drop_from : (m : List ℕ) (k : ℕ) (inside : Bool) → leb k (length m) ≡ inside
@@ -296,7 +296,7 @@ module _ (a : Told) (s : Sender) (f : Frame) (reading : Reading)
   unfolding hear_of hear_read
   hear_refused number n is asked e = cc
 
-pub ruleset hear-paths = (hear_read_lem, hear_refused)
+pub ruleset hear_paths = (hear_read_lem, hear_refused)
 
 -- by the kind's number
 module _ (a : Told) (s : Sender) (f : Frame) (parsed : Parsed) where
@@ -329,4 +329,4 @@ module _ (a : Told) (s : Sender) (f : Frame) (parsed : Parsed) where
   unfolding hear_kind pick
   kind_five is e = rw is e
 
-pub ruleset kind-paths = (kind_ack, kind_nack, kind_end, kind_short_ack, kind_five, kind_other)
+pub ruleset kind_paths = (kind_ack, kind_nack, kind_end, kind_short_ack, kind_five, kind_other)

@@ -14,7 +14,7 @@ use Rattle.frame.specs.Result.{accepted}
 use Rattle.frame.proofs.Choice.{pick_elim}
 use Rattle.frame.proofs.Laws.{increment_is}
 use Rattle.frame.specs.Count.{frame_count_of, increment_of}
-use Rattle.sender.proofs.View.{Windowed, sending, waiting, Asked, from_first, from_taken, Ticks, rests, opening_on, opening_again_lem, sending_on_lem, sending_next_lem, waiting_on_lem, waiting_again_lem, short_on, short_again_lem, fails, fails_short, Hears, refuses, ignores, above, takes, takes_hold, nacked, finished, finished_short, Calls, begins_long, begins_short, posts, ticks, hears, call_does}
+use Rattle.sender.proofs.View.{Windowed, sending, waiting, Asked, from_first, from_taken, Ticks, rests, opening_on_lem, opening_again_lem, sending_on_lem, sending_next_lem, waiting_on_lem, waiting_again_lem, short_on_lem, short_again_lem, fails, fails_short, Hears, refuses, ignores, above, takes, takes_hold, nacked, finished, finished_short, Calls, begins_long, begins_short, posts, ticks, hears, call_does}
 use Rattle.sender.specs.Begin.{begin_long, begin_short}
 use Rattle.sender.specs.Call.{Call}
 use Rattle.sender.specs.Hear.{taking, taking_hold}
@@ -101,7 +101,7 @@ module _ (s : Sender) (h : Within s) where
 
   ticks_within : {m : List ℕ} {p : Phase} {t : Told} → Ticks s m p t → PhaseWithin s.settings p → Keeps t
   ticks_within rests w = h
-  ticks_within (opening_on {x} young early) w = enters _ ((older_long x.transfer w.0 young).0, early, w.2)
+  ticks_within (opening_on_lem {x} young early) w = enters _ ((older_long x.transfer w.0 young).0, early, w.2)
   ticks_within (opening_again_lem {x} young few) w =
       enters _ ((older_long x.transfer w.0 young).1, h.settings.timeout.0, few)
   ticks_within (sending_on_lem {x} young early) w =
@@ -111,7 +111,7 @@ module _ (s : Sender) (h : Within s) where
       enters _ ((older_long x.transfer w.0 young).0, w.1, w.2, early, w.4)
   ticks_within (waiting_again_lem {x} young few) w =
       enters _ ((older_long x.transfer w.0 young).1, w.1, w.2, h.settings.timeout.0, few)
-  ticks_within (short_on {x} young early) w =
+  ticks_within (short_on_lem {x} young early) w =
       let c = older x.transfer w.0.counted young in
       enters _ (record { counted = c.0; length = w.0.length; frames = w.0.frames }, early)
   ticks_within (short_again_lem {x} young) w =

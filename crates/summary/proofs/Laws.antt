@@ -34,7 +34,7 @@ pub counts_no_other : (counts : List ℕ) (f : Frame) → (f.kind ≡ 1 → ⊥)
 unfolding counting
 counts_no_other counts f other = pick_false _ (ne_eqb _ _ other) refl
 
-pub ruleset frames-counted = (counts_information, counts_no_other)
+pub ruleset frames_counted = (counts_information, counts_no_other)
 
 -- ---- the calls
 
@@ -79,7 +79,7 @@ keeps_begun s counts empty after a t denied full same e accepts zeros counted =
     (subst (λ (x : Told). kept (told a) after ≡ pick (is_refused x.outcome) (kept x counts) (keeping x (replicate 512 0))) same
     (pick_false _ (sym e ∙ accepts) (rw (counted, all))))
 
-pub ruleset calls-keep = (not_lent, keeps, keeps_refused, keeps_begun)
+pub ruleset calls_keep = (not_lent, keeps, keeps_refused, keeps_begun)
 
 -- ---- reading the counts
 
@@ -96,7 +96,7 @@ pub counted_is : (counts : List ℕ) (number count : ℕ) → count ≡ count_at
 unfolding count_for
 counted_is counts number count e = rw e
 
-pub ruleset counts-read = (reads_none, reads_count, counted_is)
+pub ruleset counts_read = (reads_none, reads_count, counted_is)
 
 -- at first 0 is named
 pub most_first : (counts : List ℕ) → 0 ≡ most_to counts 0

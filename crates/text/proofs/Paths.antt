@@ -29,7 +29,7 @@ pub byte_left_out : (s : List ℕ) (at b : ℕ) → length s ≤ at → page s a
 unfolding put
 byte_left_out s at b full = sym (byte_full (page s at) b full)
 
-pub ruleset bytes-put = (byte_put, byte_left_out)
+pub ruleset bytes_put = (byte_put, byte_left_out)
 
 pub nothing_put : (p : Page) → p ≡ put p []
 unfolding put
@@ -69,7 +69,7 @@ more_digits p (suc places) n {q} h e k some large =
     then p _ _ (h ∙ ap (λ (x : ℕ). put q (x ∷ [])) e) (rw fewer at k)
     ∙ ap (put p) (pick_false _ (le-ltb n 10 large) refl)
 
-pub ruleset digits-put = (no_digits, last_digit, more_digits)
+pub ruleset digits_put = (no_digits, last_digit, more_digits)
 
 pub spaced_put : (p : Page) (n : ℕ) {q r : Page} → r ≡ put q (digits_in 5 n) → q ≡ put p (32 ∷ []) → r ≡ put p (spaced n)
 unfolding spaced decimal
@@ -83,7 +83,7 @@ pub hex_high : (n : ℕ) → 10 ≤ n → 55 + n ≡ hex_glyph n
 unfolding hex_glyph
 hex_high n h = pick_false _ (le-ltb n 10 h) refl
 
-pub ruleset hex-digits = (hex_low, hex_high)
+pub ruleset hex_digits = (hex_low, hex_high)
 
 pub hex_put : (p : Page) (b : ℕ) {q r s : Page} {high low : ℕ} → s ≡ put r (low ∷ []) → low ≡ hex_glyph (b % 16)
     → r ≡ put q (high ∷ []) → high ≡ hex_glyph (b / 16) → q ≡ put p (32 ∷ []) → s ≡ put p (hexes (b ∷ []))
@@ -211,6 +211,6 @@ module _ (p : Page) (number : ℕ) where
   unfolding receiver_report
   receiver_short bytes h e = rw e h
 
-pub ruleset sender-reports = (sender_quiet, sender_refused_lem, sender_sent, sender_failed)
+pub ruleset sender_reports = (sender_quiet, sender_refused_lem, sender_sent, sender_failed)
 
-pub ruleset receiver-reports = (receiver_quiet, receiver_refused, receiver_delivered, receiver_failed, receiver_short)
+pub ruleset receiver_reports = (receiver_quiet, receiver_refused, receiver_delivered, receiver_failed, receiver_short)

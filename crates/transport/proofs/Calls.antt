@@ -185,7 +185,7 @@ module _ (ends : Ends) (a : Answer) (bytes after : List ℕ) (t : receiver.Told)
   resumes_receiver e size h forward buffer =
       lent_one (length bytes) (world_of ends forward bytes buffer) resume size (h resume nobody forward buffer ∙ rw e refl)
 
-pub ruleset begins-and-ticks =
+pub ruleset begins_and_ticks =
     (no_forward, no_back, begins, ticks_sender_lem, ticks_receiver_lem, holds_receiver_lem, resumes_receiver)
 
 -- ---- a frame given to an end

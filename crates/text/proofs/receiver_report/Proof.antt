@@ -1,7 +1,7 @@
 -- `text::receiver_report` meets its contract. By the outcome.
 -- Assumes nothing.
 use borrow.Author.Rules.{rules}
-use Rattle.text.proofs.Paths.{receiver-reports}
+use Rattle.text.proofs.Paths.{receiver_reports}
 use Rattle.text.proofs.receiver_report.Statement.{statement}
 use Rattle.text.proofs.receiver_report.Tie as tie
 
@@ -30,28 +30,28 @@ short-line-requires : tie.Need-short-line-requires
 short-line-requires c κs = search rules
 
 returns : tie.Need-returns
-returns c = search receiver-reports
+returns c = search receiver_reports
 
 returns-2 : tie.Need-returns-2
-returns-2 c = search receiver-reports
+returns-2 c = search receiver_reports
 
 same_length : tie.Need-same-length
 same_length c = search rules
 
 returns-3 : tie.Need-returns-3
-returns-3 c = search receiver-reports
+returns-3 c = search receiver_reports
 
 same-length-2 : tie.Need-same-length-2
 same-length-2 c = search rules
 
 returns-4 : tie.Need-returns-4
-returns-4 c = search receiver-reports
+returns-4 c = search receiver_reports
 
 same-length-3 : tie.Need-same-length-3
 same-length-3 c = search rules
 
 returns-5 : tie.Need-returns-5
-returns-5 c = search receiver-reports
+returns-5 c = search receiver_reports
 
 pub receiver_report_spec : {M : Type 1} → statement M
 receiver_report_spec =

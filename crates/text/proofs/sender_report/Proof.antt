@@ -1,7 +1,7 @@
 -- `text::sender_report` meets its contract. By the outcome.
 -- Assumes nothing.
 use borrow.Author.Rules.{rules}
-use Rattle.text.proofs.Paths.{sender-reports}
+use Rattle.text.proofs.Paths.{sender_reports}
 use Rattle.text.proofs.sender_report.Statement.{statement}
 use Rattle.text.proofs.sender_report.Tie as tie
 
@@ -24,22 +24,22 @@ failed-line-requires : tie.Need-failed-line-requires
 failed-line-requires c κs = search rules
 
 returns : tie.Need-returns
-returns c = search sender-reports
+returns c = search sender_reports
 
 returns-2 : tie.Need-returns-2
-returns-2 c = search sender-reports
+returns-2 c = search sender_reports
 
 same_length : tie.Need-same-length
 same_length c = search rules
 
 returns-3 : tie.Need-returns-3
-returns-3 c = search sender-reports
+returns-3 c = search sender_reports
 
 same-length-2 : tie.Need-same-length-2
 same-length-2 c = search rules
 
 returns-4 : tie.Need-returns-4
-returns-4 c = search sender-reports
+returns-4 c = search sender_reports
 
 pub sender_report_spec : {M : Type 1} → statement M
 sender_report_spec =

@@ -9,4 +9,4 @@ unfolding sender_from
 returns-in-0 c = rw c.in-0.is
 
 pub returns-in_default : goal.returns-in_default
-returns-in_default c = sender_vehicle _ c.in_default.rest.1
+returns-in_default c = sender_vehicle _ c.in_default.in_default-own.rest.1

@@ -13,4 +13,4 @@ unfolding width_from
 returns-in-2 c = rw c.in-2.is
 
 pub returns-in_default : goal.returns-in_default
-returns-in_default c = width_none _ c.in_default.rest.0.1 c.in_default.rest.1
+returns-in_default c = width_none _ c.in_default.in_default-own.rest.0.1 c.in_default.in_default-own.rest.1

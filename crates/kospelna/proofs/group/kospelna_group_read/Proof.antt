@@ -1,7 +1,7 @@
 -- `kospelna::group::kospelna_group_read` meets its contract. What reading answers is written.
 -- Assumes nothing.
 use borrow.Author.Rules.{rules}
-use Rattle.kospelna.proofs.GroupLaws.{group-paths}
+use Rattle.kospelna.proofs.GroupLaws.{group_paths}
 use Rattle.kospelna.proofs.group.kospelna_group_read.Statement.{statement}
 use Rattle.kospelna.proofs.group.kospelna_group_read.Tie as tie
 
@@ -12,7 +12,7 @@ write-reading-requires : tie.Need-write-reading-requires
 write-reading-requires c κs = search rules
 
 returns : tie.Need-returns
-returns c = search group-paths
+returns c = search group_paths
 
 pub kospelna_group_read_spec : {M : Type 1} → statement M
 kospelna_group_read_spec = tie.close (tie.spec read-requires write-reading-requires returns)

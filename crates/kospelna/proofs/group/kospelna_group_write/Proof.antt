@@ -1,7 +1,7 @@
 -- `kospelna::group::kospelna_group_write` meets its contract. What writing the group that was read answers is written, and the bytes are as it left them.
 -- Assumes nothing.
 use borrow.Author.Rules.{rules}
-use Rattle.kospelna.proofs.GroupLaws.{group-paths}
+use Rattle.kospelna.proofs.GroupLaws.{group_paths}
 use Rattle.kospelna.proofs.group.kospelna_group_write.Statement.{statement}
 use Rattle.kospelna.proofs.group.kospelna_group_write.Tie as tie
 
@@ -18,7 +18,7 @@ same_length : tie.Need-same-length
 same_length c = search rules
 
 returns : tie.Need-returns
-returns c = search group-paths
+returns c = search group_paths
 
 pub kospelna_group_write_spec : {M : Type 1} → statement M
 kospelna_group_write_spec =

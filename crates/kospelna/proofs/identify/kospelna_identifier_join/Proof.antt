@@ -1,7 +1,7 @@
 -- `kospelna::identify::kospelna_identifier_join` meets its contract. What joining the parts that were read answers is written.
 -- Assumes nothing.
 use borrow.Author.Rules.{rules}
-use Rattle.kospelna.proofs.IdentifyLaws.{identify-paths}
+use Rattle.kospelna.proofs.IdentifyLaws.{identify_paths}
 use Rattle.kospelna.proofs.identify.kospelna_identifier_join.Statement.{statement}
 use Rattle.kospelna.proofs.identify.kospelna_identifier_join.Tie as tie
 
@@ -15,7 +15,7 @@ write-joining-requires : tie.Need-write-joining-requires
 write-joining-requires c κs = search rules
 
 returns : tie.Need-returns
-returns c = search identify-paths
+returns c = search identify_paths
 
 pub kospelna_identifier_join_spec : {M : Type 1} → statement M
 kospelna_identifier_join_spec =

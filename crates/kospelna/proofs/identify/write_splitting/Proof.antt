@@ -1,7 +1,7 @@
 -- `kospelna::identify::write_splitting` meets its contract. By the answer.
 -- Assumes nothing.
 use borrow.Author.Rules.{rules}
-use Rattle.kospelna.proofs.IdentifyLaws.{identify-paths}
+use Rattle.kospelna.proofs.IdentifyLaws.{identify_paths}
 use Rattle.kospelna.proofs.identify.write_splitting.Statement.{statement}
 use Rattle.kospelna.proofs.identify.write_splitting.Tie as tie
 
@@ -15,10 +15,10 @@ enum-known-parted-2 : tie.Need-enum-known-parted-2
 enum-known-parted-2 c = search rules
 
 returns : tie.Need-returns
-returns c = search identify-paths
+returns c = search identify_paths
 
 returns-2 : tie.Need-returns-2
-returns-2 c = search identify-paths
+returns-2 c = search identify_paths
 
 pub write_splitting_spec : {M : Type 1} → statement M
 write_splitting_spec =

@@ -1,7 +1,7 @@
 -- `kospelna::talk::kospelna_talker_connect` meets its contract. What the talker that was read answers is written.
 -- Assumes nothing.
 use borrow.Author.Rules.{rules}
-use Rattle.kospelna.proofs.TalkLaws.{talker-paths}
+use Rattle.kospelna.proofs.TalkLaws.{talker_paths}
 use Rattle.kospelna.proofs.talk.kospelna_talker_connect.Statement.{statement}
 use Rattle.kospelna.proofs.talk.kospelna_talker_connect.Tie as tie
 
@@ -15,7 +15,7 @@ write-answer-requires : tie.Need-write-answer-requires
 write-answer-requires c κs = search rules
 
 returns : tie.Need-returns
-returns c = search talker-paths
+returns c = search talker_paths
 
 pub kospelna_talker_connect_spec : {M : Type 1} → statement M
 kospelna_talker_connect_spec =

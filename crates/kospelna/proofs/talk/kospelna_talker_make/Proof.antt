@@ -1,7 +1,7 @@
 -- `kospelna::talk::kospelna_talker_make` meets its contract. What making answers of what was read is written.
 -- Assumes nothing.
 use borrow.Author.Rules.{rules}
-use Rattle.kospelna.proofs.TalkLaws.{talker-paths}
+use Rattle.kospelna.proofs.TalkLaws.{talker_paths}
 use Rattle.kospelna.proofs.talk.kospelna_talker_make.Statement.{statement}
 use Rattle.kospelna.proofs.talk.kospelna_talker_make.Tie as tie
 
@@ -18,7 +18,7 @@ write-made-requires : tie.Need-write-made-requires
 write-made-requires c κs = search rules
 
 returns : tie.Need-returns
-returns c = search talker-paths
+returns c = search talker_paths
 
 pub kospelna_talker_make_spec : {M : Type 1} → statement M
 kospelna_talker_make_spec =

@@ -2,7 +2,7 @@
 -- read, or the refusal.
 -- Assumes nothing.
 use borrow.Author.Rules.{rules}
-use Rattle.kospelna.proofs.TalkLaws.{message-paths}
+use Rattle.kospelna.proofs.TalkLaws.{message_paths}
 use Rattle.kospelna.proofs.talk.kospelna_version_message_write.Statement.{statement}
 use Rattle.kospelna.proofs.talk.kospelna_version_message_write.Tie as tie
 
@@ -19,10 +19,10 @@ no-bytes-requires : tie.Need-no-bytes-requires
 no-bytes-requires c κs = search rules
 
 returns : tie.Need-returns
-returns c = search message-paths
+returns c = search message_paths
 
 returns-2 : tie.Need-returns-2
-returns-2 c = search message-paths
+returns-2 c = search message_paths
 
 pub kospelna_version_message_write_spec : {M : Type 1} → statement M
 kospelna_version_message_write_spec =

@@ -1,7 +1,7 @@
 -- `kospelna::talk::read_talker` meets its contract. Field by field, side, state and result from their numbers.
 -- Assumes nothing.
 use borrow.Author.Rules.{rules}
-use Rattle.kospelna.proofs.TalkLaws.{talker-paths}
+use Rattle.kospelna.proofs.TalkLaws.{talker_paths}
 use Rattle.kospelna.proofs.talk.read_talker.Statement.{statement}
 use Rattle.kospelna.proofs.talk.read_talker.Tie as tie
 
@@ -18,7 +18,7 @@ read-verdict-requires : tie.Need-read-verdict-requires
 read-verdict-requires c κs = search rules
 
 returns : tie.Need-returns
-returns c = search talker-paths
+returns c = search talker_paths
 
 pub read_talker_spec : {M : Type 1} → statement M
 read_talker_spec =

@@ -1,7 +1,7 @@
 -- `kospelna::talk::write_answer` meets its contract. Field by field, the outcome as its numbers.
 -- Assumes nothing.
 use borrow.Author.Rules.{rules}
-use Rattle.kospelna.proofs.TalkLaws.{talker-paths}
+use Rattle.kospelna.proofs.TalkLaws.{talker_paths}
 use Rattle.kospelna.proofs.talk.write_answer.Statement.{statement}
 use Rattle.kospelna.proofs.talk.write_answer.Tie as tie
 
@@ -21,7 +21,7 @@ outcome-version-requires : tie.Need-outcome-version-requires
 outcome-version-requires c κs = search rules
 
 returns : tie.Need-returns
-returns c = search talker-paths
+returns c = search talker_paths
 
 pub write_answer_spec : {M : Type 1} → statement M
 write_answer_spec =

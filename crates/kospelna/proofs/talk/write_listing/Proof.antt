@@ -1,7 +1,7 @@
 -- `kospelna::talk::write_listing` meets its contract. The list and the refusal's number.
 -- Assumes nothing.
 use borrow.Author.Rules.{rules}
-use Rattle.kospelna.proofs.TalkLaws.{message-paths}
+use Rattle.kospelna.proofs.TalkLaws.{message_paths}
 use Rattle.kospelna.proofs.talk.write_listing.Statement.{statement}
 use Rattle.kospelna.proofs.talk.write_listing.Tie as tie
 
@@ -12,7 +12,7 @@ list-refusal-requires : tie.Need-list-refusal-requires
 list-refusal-requires c κs = search rules
 
 returns : tie.Need-returns
-returns c = search message-paths
+returns c = search message_paths
 
 pub write_listing_spec : {M : Type 1} → statement M
 write_listing_spec =

@@ -1,7 +1,7 @@
 -- `kospelna::talk::write_talker` meets its contract. Field by field, side, state and result as their numbers.
 -- Assumes nothing.
 use borrow.Author.Rules.{rules}
-use Rattle.kospelna.proofs.TalkLaws.{talker-paths}
+use Rattle.kospelna.proofs.TalkLaws.{talker_paths}
 use Rattle.kospelna.proofs.talk.write_talker.Statement.{statement}
 use Rattle.kospelna.proofs.talk.write_talker.Tie as tie
 
@@ -18,7 +18,7 @@ verdict-number-requires : tie.Need-verdict-number-requires
 verdict-number-requires c κs = search rules
 
 returns : tie.Need-returns
-returns c = search talker-paths
+returns c = search talker_paths
 
 pub write_talker_spec : {M : Type 1} → statement M
 write_talker_spec =

@@ -2,7 +2,7 @@
 -- does not, the counts are cleared and its frame is counted.
 -- Assumes nothing.
 use borrow.Author.Rules.{rules}
-use Rattle.summary.proofs.Laws.{calls-keep}
+use Rattle.summary.proofs.Laws.{calls_keep}
 use Rattle.summary.proofs.calls.begin.Statement.{statement}
 use Rattle.summary.proofs.calls.begin.Tie as tie
 
@@ -10,7 +10,7 @@ refusing-requires : tie.Need-refusing-requires
 refusing-requires c κs = search rules
 
 returns : tie.Need-returns
-returns c = search calls-keep
+returns c = search calls_keep
 
 begin-requires : tie.Need-begin-requires
 begin-requires c κs = search rules
@@ -19,7 +19,7 @@ is-refused-requires : tie.Need-is-refused-requires
 is-refused-requires c κs = search rules
 
 returns-2 : tie.Need-returns-2
-returns-2 c = search calls-keep
+returns-2 c = search calls_keep
 
 fill-requires : tie.Need-fill-requires
 fill-requires c κs = search rules
@@ -31,7 +31,7 @@ same_length : tie.Need-same-length
 same_length c = search rules
 
 returns-3 : tie.Need-returns-3
-returns-3 c = search calls-keep
+returns-3 c = search calls_keep
 
 pub begin_spec : {M : Type 1} → statement M
 begin_spec =

@@ -2,7 +2,7 @@
 -- counted.
 -- Assumes nothing.
 use borrow.Author.Rules.{rules}
-use Rattle.summary.proofs.Laws.{calls-keep}
+use Rattle.summary.proofs.Laws.{calls_keep}
 use Rattle.summary.proofs.calls.hear.Statement.{statement}
 use Rattle.summary.proofs.calls.hear.Tie as tie
 
@@ -10,7 +10,7 @@ refusing-requires : tie.Need-refusing-requires
 refusing-requires c κs = search rules
 
 returns : tie.Need-returns
-returns c = search calls-keep
+returns c = search calls_keep
 
 hear-requires : tie.Need-hear-requires
 hear-requires c κs = search rules
@@ -22,7 +22,7 @@ same_length : tie.Need-same-length
 same_length c = search rules
 
 returns-2 : tie.Need-returns-2
-returns-2 c = search calls-keep
+returns-2 c = search calls_keep
 
 pub hear_spec : {M : Type 1} → statement M
 hear_spec =

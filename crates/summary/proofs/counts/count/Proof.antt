@@ -1,7 +1,7 @@
 -- `summary::counts::count` meets its contract: the frame's kind is the definition's test.
 -- Assumes nothing.
 use borrow.Author.Rules.{rules}
-use Rattle.summary.proofs.Laws.{frames-counted}
+use Rattle.summary.proofs.Laws.{frames_counted}
 use Rattle.summary.proofs.counts.count.Statement.{statement}
 use Rattle.summary.proofs.counts.count.Tie as tie
 
@@ -15,10 +15,10 @@ same_length : tie.Need-same-length
 same_length c = search rules
 
 returns : tie.Need-returns
-returns c = search frames-counted
+returns c = search frames_counted
 
 returns-2 : tie.Need-returns-2
-returns-2 c = search frames-counted
+returns-2 c = search frames_counted
 
 pub count_spec : {M : Type 1} → statement M
 count_spec = tie.close (tie.spec element-copy-out-add add-requires same_length returns returns-2)

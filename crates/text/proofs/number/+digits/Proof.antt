@@ -4,7 +4,7 @@ use Prim.Native.Nat.{ℕ, ◌<◌}
 use borrow.Author.Rules.{rules}
 use borrow.Fn.Kinds.{In}
 use borrow.Fn.PlainCycle.{Measures, is, falls, and}
-use Rattle.text.proofs.Paths.{digits-put}
+use Rattle.text.proofs.Paths.{digits_put}
 use Rattle.text.proofs.number.+digits.Lts-digits as digits-lts
 use Rattle.text.proofs.number.digit.Reads as digit-reads
 use Rattle.text.proofs.number.digits.Kinds as digits-kinds
@@ -30,7 +30,7 @@ digits_returns : (t : ℕ) → digits-lts.Need-returns (
   digits_below t,
   digits.Post,
 ) (digits_at t) digits.Post
-digits_returns t c = search digits-put
+digits_returns t c = search digits_put
 
 digits_digit_requires : (t : ℕ) → digits-lts.Need-digit-requires (
   digit-reads.Asked,
@@ -70,7 +70,7 @@ digits_returns_2 : (t : ℕ) → digits-lts.Need-returns-2 (
   digits_below t,
   digits.Post,
 ) (digits_at t) digits.Post
-digits_returns_2 t c = search digits-put
+digits_returns_2 t c = search digits_put
 
 digits_sub_digits : (t : ℕ) → digits-lts.Need-overflow-sub-digits (
   digit-reads.Asked,
@@ -130,7 +130,7 @@ digits_returns_3 : (t : ℕ) → digits-lts.Need-returns-3 (
   digits_below t,
   digits.Post,
 ) (digits_at t) digits.Post
-digits_returns_3 t c = search digits-put
+digits_returns_3 t c = search digits_put
 
 pub +digits-spec : {M : Type 1} → statement M
 +digits-spec = close μ-digits λ t. digits-lts.spec (

@@ -1,7 +1,7 @@
 -- `text::number::hex_digit` meets its contract. By the test that the definition makes.
 -- Assumes nothing.
 use borrow.Author.Rules.{rules}
-use Rattle.text.proofs.Paths.{hex-digits}
+use Rattle.text.proofs.Paths.{hex_digits}
 use Rattle.text.proofs.number.hex_digit.Statement.{statement}
 use Rattle.text.proofs.number.hex_digit.Tie as tie
 
@@ -12,10 +12,10 @@ add-result-2 : tie.Need-overflow-add-result-2
 add-result-2 c = search rules
 
 returns : tie.Need-returns
-returns c = search hex-digits
+returns c = search hex_digits
 
 returns-2 : tie.Need-returns-2
-returns-2 c = search hex-digits
+returns-2 c = search hex_digits
 
 pub hex_digit_spec : {M : Type 1} → statement M
 hex_digit_spec = tie.close (tie.spec add-result add-result-2 returns returns-2)

@@ -1,7 +1,7 @@
 -- `text::page::put_byte` meets its contract. By the test that the definition makes.
 -- Assumes nothing.
 use borrow.Author.Rules.{rules}
-use Rattle.text.proofs.Paths.{bytes-put}
+use Rattle.text.proofs.Paths.{bytes_put}
 use Rattle.text.proofs.page.put_byte.Statement.{statement}
 use Rattle.text.proofs.page.put_byte.Tie as tie
 
@@ -15,10 +15,10 @@ same_length : tie.Need-same-length
 same_length c = search rules
 
 returns : tie.Need-returns
-returns c = search bytes-put
+returns c = search bytes_put
 
 returns-2 : tie.Need-returns-2
-returns-2 c = search bytes-put
+returns-2 c = search bytes_put
 
 pub put_byte_spec : {M : Type 1} → statement M
 put_byte_spec = tie.close (tie.spec slice-write-out add-result same_length returns returns-2)

@@ -1,5 +1,5 @@
 use borrow.Author.Rules.{rules}
-use Rattle.transport.proofs.Calls.{begins-and-ticks}
+use Rattle.transport.proofs.Calls.{begins_and_ticks}
 use Rattle.transport.proofs.Ends.hold.Statement.{statement}
 use Rattle.transport.proofs.Ends.hold.Tie as tie
 
@@ -7,7 +7,7 @@ unheard-requires : tie.Need-unheard-requires
 unheard-requires c κs = search rules
 
 returns : tie.Need-returns
-returns c = search begins-and-ticks
+returns c = search begins_and_ticks
 
 hold-requires : tie.Need-hold-requires
 hold-requires c κs = search rules
@@ -19,7 +19,7 @@ same_length : tie.Need-same-length
 same_length c = search rules
 
 returns-2 : tie.Need-returns-2
-returns-2 c = search begins-and-ticks
+returns-2 c = search begins_and_ticks
 
 pub hold_spec : {M : Type 1} → statement M
 hold_spec =

@@ -1,5 +1,5 @@
 use borrow.Author.Rules.{rules}
-use Rattle.transport.proofs.Calls.{begins-and-ticks}
+use Rattle.transport.proofs.Calls.{begins_and_ticks}
 use Rattle.transport.proofs.Ends.resume.Statement.{statement}
 use Rattle.transport.proofs.Ends.resume.Tie as tie
 
@@ -7,7 +7,7 @@ unheard-requires : tie.Need-unheard-requires
 unheard-requires c κs = search rules
 
 returns : tie.Need-returns
-returns c = search begins-and-ticks
+returns c = search begins_and_ticks
 
 resume-requires : tie.Need-resume-requires
 resume-requires c κs = search rules
@@ -19,7 +19,7 @@ same_length : tie.Need-same-length
 same_length c = search rules
 
 returns-2 : tie.Need-returns-2
-returns-2 c = search begins-and-ticks
+returns-2 c = search begins_and_ticks
 
 pub resume_spec : {M : Type 1} → statement M
 resume_spec =
