@@ -620,7 +620,8 @@ module _ (t : Talker) {a : Told} where
     unfolding tick_talking
     talking_period d e g early q due =
         pick_false _ (lt-leb 15000 (next_age t) (omega arith))
-        (pick_true _ (le-leb 50 (next_period t) (omega arith)) (rw (← g) (rw (← e) d)))
+        (pick_true _ (le-leb 50 (next_period t) (omega arith))
+        (d ∙ ap (λ (u : Talker). triggered u 0 period_due) (e ∙ ap (aged t t.period) g)))
 
     pub talking_waits : a ≡ silently n → n ≡ aged t period age → age ≡ next_age t → age < 15000
         → period ≡ next_period t

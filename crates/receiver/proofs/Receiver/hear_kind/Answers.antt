@@ -1,9 +1,9 @@
 -- `receiver::Receiver::hear_kind` meets its contract. At each kind number that the receiver takes, the definition
 -- is the arm's; at every other it is refusal 7.
 -- Assumes nothing.
-use mathlib.Core.Logic.{⊎_elim}
 use Rattle.receiver.proofs.Laws.{kind_even, kind_other, hears}
 use Rattle.receiver.proofs.Receiver.hear_kind.Goals as goal
+use Rattle.receiver.proofs.Receiver.hear_kind.Goals.{in-0-1, in_default-1}
 
 pub returns-in-1 : goal.returns-in-1
 returns-in-1 c = search hears
@@ -18,8 +18,4 @@ pub returns-in-7 : goal.returns-in-7
 returns-in-7 c = search hears
 
 pub returns-in-0 : goal.returns-in-0
-returns-in-0 c = ⊎_elim (λ w. kind_even _ _ _ _ c.refusing.ensures w.keys5)
-    (λ w.
-    let no = w.rest in
-    kind_other _ _ _ _ c.refusing.ensures no.0.0.0.0.1 no.0.0.0.1 no.0.0.1 no.0.1)
-    c.in-0-1.branch
+returns-in-0 c = elim c.in-0-1.branch [ in-0-1 w ↦ search (kind_even, kind_other) | in_default-1 w ↦ search (kind_even, kind_other) ]
