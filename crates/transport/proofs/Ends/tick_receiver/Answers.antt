@@ -1,0 +1,8 @@
+use Rattle.transport.proofs.Calls.{begins_and_ticks}
+use Rattle.transport.proofs.Ends.tick_receiver.Goals as goal
+
+pub returns-then-back-ne-LINE : goal.returns-then-back-ne-LINE
+returns-then-back-ne-LINE c = search begins_and_ticks
+
+pub returns : goal.returns
+returns c = search begins_and_ticks
