@@ -91,16 +91,16 @@ timeout_shows r x tick ticks TwoAfterAck later = fails_shows (in_phase r (Open x
 timeout_shows r x tick ticks NoneAfterFrame later = ap {B = List ℕ} (λ rest. at tick (2 ∷ x.expected ∷ []) ++ rest) (later OneAfterFrame)
 timeout_shows r x tick ticks OneAfterFrame later = ap {B = List ℕ} (λ rest. at tick (2 ∷ x.expected ∷ []) ++ rest) (later OneAfterAck)
 
-open_shows : (r : Receiver) (x : Connection) (tick ticks : ℕ) → x.held ≡ false
+open_shows : (r : Receiver) (tick ticks : ℕ) (x : Connection) → x.held ≡ false
     → receiver_ticks (in_phase r (Open x)) tick ticks ≡ open_numbers r.settings.timeout x.expected x.wait x.misses tick ticks
 unfolding receiver_ticks open_numbers after pick
-open_shows r x tick zero free = refl
-open_shows r x tick (suc ticks) free =
+open_shows r tick zero x free = refl
+open_shows r tick (suc ticks) x free =
     ap (λ (t : Told). after t tick ticks) (free_tick r x free)
     ∙ by_test tick ticks _ _ _ _
     (leb r.settings.timeout (increment_of x.wait))
-    (timeout_shows r x tick ticks x.misses (λ counted. open_shows r _ (suc tick) ticks free))
-    (open_shows r _ (suc tick) ticks free)
+    (timeout_shows r x tick ticks x.misses (λ counted. open_shows r (suc tick) ticks _ free))
+    (open_shows r (suc tick) ticks _ free)
 
 -- a word's bytes give the word
 word_back : (l : ℕ) → l ≤ 1785 → word_of (low_byte l) (high_byte l) ≡ l
@@ -145,7 +145,7 @@ alone_shows : (r : Receiver) (frames l : ℕ) (buffer : List ℕ) (ticks : ℕ)
 unfolding receiver_in_silence
 alone_shows r frames l buffer ticks idle low room high fits lent =
     ap (λ (t : Told). receiver_ticks t.next 1 ticks) (opens r frames l buffer idle low room high fits lent)
-    ∙ open_shows r _ 1 ticks refl
+    ∙ open_shows r 1 ticks _ refl
 
 by_fit : (timeout window capacity frames l : ℕ) (buffer : List ℕ) (ticks : ℕ) (fit : Bool)
     → 9 ≤ l

@@ -70,21 +70,21 @@ tick_lent : (s : Sender) (message : List ℕ) (x : Announced)
 unfolding tick_of lent_to tick_phase pick
 tick_lent s message x lent = rw (eq-eqb (length message) x.transfer.length lent)
 
-opening_shows : (s : Sender) (message : List ℕ) (x : Announced) (tick ticks : ℕ)
+opening_shows : (s : Sender) (message : List ℕ) (tick ticks : ℕ) (x : Announced)
     → length message ≡ x.transfer.length
     → sender_ticks (in_phase s (Opening x)) message tick ticks
     ≡ opening_numbers s.settings.timeout s.settings.limit x.transfer.age x.wait x.misses tick ticks
 unfolding sender_ticks opening_numbers after tick_opening unless_over at_limit unless_third announcement_of pick
-opening_shows s message x tick zero lent = refl
-opening_shows s message x tick (suc ticks) lent =
+opening_shows s message tick zero x lent = refl
+opening_shows s message tick (suc ticks) x lent =
     ap (λ t. after t message tick ticks) (tick_lent s message x lent)
     ∙ by_tests (in_phase s (Opening x)) (aged x.transfer) message tick ticks _ _ _ _
     (leb s.settings.limit (increment_of x.transfer.age))
     (leb s.settings.timeout (increment_of x.wait))
     (leb 3 (increment_of x.misses))
     (ap {B = List ℕ} (λ rest. at tick frame0 ++ rest)
-    (opening_shows s message _ (suc tick) ticks lent))
-    (opening_shows s message _ (suc tick) ticks lent)
+    (opening_shows s message (suc tick) ticks _ lent))
+    (opening_shows s message (suc tick) ticks _ lent)
 
 -- the numbers of a run from making on
 pub sender_numbers : ℕ → ℕ → ℕ → List ℕ
@@ -101,7 +101,7 @@ alone_shows : (s : Sender) (message : List ℕ) (ticks : ℕ)
 unfolding sender_in_silence begin_long announcement_of pick
 alone_shows s message ticks idle low high =
     rw (begins_long s message idle low high)
-    (ap {B = List ℕ} (λ rest. at 0 frame0 ++ rest) (opening_shows s message _ 1 ticks refl))
+    (ap {B = List ℕ} (λ rest. at 0 frame0 ++ rest) (opening_shows s message 1 ticks _ refl))
 
 by_fit : (gap timeout limit : ℕ) (message : List ℕ) (ticks : ℕ) (fit : Bool)
     → 9 ≤ length message

@@ -19,7 +19,7 @@ use Rattle.summary.specs.Seen.{Past, next, run_of, LentOwn}
 own : (p : Past) (calls : List Call) → LentOwn p (lendings p calls)
 unfolding lendings
 own p [] = tt
-own p (call ∷ calls) = ((λ taken. refl), own _ calls)
+own p (call ∷ calls) = ((λ taken. refl), own (next p (record { call = call; lent = p.counts })) calls)
 
 pub examples : Examples
 unfolding

@@ -18,7 +18,7 @@ use Rattle.frame.specs.Frames.{byte_of, blank_of, announcement_of, information_o
 use Rattle.frame.specs.Result.{accepted}
 use Rattle.frame.specs.declared.Frame.{Frame}
 use Rattle.sender.proofs.Reachable.{reachable_within}
-use Rattle.sender.proofs.View.{sending, waiting, Long, opening, windowed, Asked, from_first, from_taken, Ticks, rests, opening_on, opening_again_lem, sending_on_lem, sending_next_lem, waiting_on_lem, waiting_again_lem, short_on, short_again_lem, fails, fails_short, Hears, refuses, ignores, above, takes, takes_hold, nacked, finished, finished_short, Calls, begins_long, begins_short, posts, ticks, hears, call_does}
+use Rattle.sender.proofs.View.{sending, waiting, Long, opening, windowed, Asked, from_first, from_taken, Ticks, rests, opening_on_lem, opening_again_lem, sending_on_lem, sending_next_lem, waiting_on_lem, waiting_again_lem, short_on_lem, short_again_lem, fails, fails_short, Hears, refuses, ignores, above, takes, takes_hold, nacked, finished, finished_short, Calls, begins_long, begins_short, posts, ticks, hears, call_does}
 use Rattle.sender.specs.Begin.{begin_long, begin_short}
 use Rattle.sender.specs.Call.{Call, begin, tick, hear, post, answer_of}
 use Rattle.sender.specs.Hear.{taking, taking_hold}
@@ -343,7 +343,7 @@ module _ (limit : ℕ) (s : Sender) (counts : List ℕ) (events : List Event)
       → After (tick m) t (counting counts t.frame)
   unfolding announcement_of information_of pick
   tick_keeps {m} rests i h at reach = silent (tick m) _ (refl, refl) refl refl reach limited (rw at tt) (λ frames r. absurd r)
-  tick_keeps {m} (opening_on young early) i h at reach =
+  tick_keeps {m} (opening_on_lem young early) i h at reach =
       silent (tick m) _ (refl, refl) refl refl reach limited h (λ frames r. absurd r)
   tick_keeps {m} (opening_again_lem {x} young few) i h at reach =
       informs m _ _ 0 x.transfer refl refl (omega arith) reach limited i.0.counted young h (λ after own l. l)
@@ -359,7 +359,7 @@ module _ (limit : ℕ) (s : Sender) (counts : List ℕ) (events : List Event)
       let top = i.0.frames in
       informs m _ _ x.last x.transfer refl refl (omega (arith, i.2, top.2)) reach limited i.0.counted young h
       (λ after own l. l)
-  tick_keeps {m} (short_on young early) i h at reach =
+  tick_keeps {m} (short_on_lem young early) i h at reach =
       silent (tick m) _ (refl, refl) refl refl reach limited h (λ frames r. absurd r)
   tick_keeps {m} (short_again_lem {x} young) i h at reach =
       repeats m _ x.transfer reach limited i.0.counted young h (λ own l. l)
