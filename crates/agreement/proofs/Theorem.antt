@@ -194,10 +194,13 @@ tick_met : (e : Event) (past : List Event) → LimitAt e past → Excused e.acti
 tick_met e past l (inl is, f) = inl (l.only is f)
 tick_met e past l (inr is, f) = inr (is, f)
 
-met : {events : List Event} → LimitKept events → ExcusedIn events → Seen MeetsLimit events ⊎ Seen MeetsGreeting events
-met (l, k) (now {e} {past} x) =
+met_by : {events : List Event} → ExcusedIn events → LimitKept events → Seen MeetsLimit events ⊎ Seen MeetsGreeting events
+met_by (now {e} {past} x) (l, k) =
     ⊎_elim (λ m. inl (now m)) (λ m. inr (now m)) (tick_met e past l x)
-met (l, k) (before s) = ⊎_elim (λ m. inl (before m)) (λ m. inr (before m)) (met k s)
+met_by (before s) (l, k) = ⊎_elim (λ m. inl (before m)) (λ m. inr (before m)) (met_by s k)
+
+met : {events : List Event} → LimitKept events → ExcusedIn events → Seen MeetsLimit events ⊎ Seen MeetsGreeting events
+met kept excused = met_by excused kept
 
 module _ {a b : List ℕ} {w : World} {events : List Event} (i : Inv a b (Reason a b events) w events) where
   named : (side : Side) (v : ℕ) → Reported side (agreed v) events → HighestShared a b v

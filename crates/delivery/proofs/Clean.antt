@@ -41,10 +41,10 @@ module _ {st : Settings} {rs : receiver-settings.Settings} {m : List ℕ} (c : C
   -- ---- the promise, read off a stage
 
   -- a frame of the message is due before tick N × G is over
-  pub not_yet : {ticks start number last gap : ℕ} → Inside m start number last → gap < st.gap
+  pub not_yet_lem : {ticks start number last gap : ℕ} → Inside m start number last → gap < st.gap
       → ticks + st.gap ≡ number * st.gap + gap
       → ticks < frames_of m * st.gap
-  not_yet {number = number} i g t =
+  not_yet_lem {number = number} i g t =
       let inside = i.inside in
       let final = i.final in
       let within : number ≤ frames_of m = omega arith in
@@ -68,7 +68,7 @@ module _ {st : Settings} {rs : receiver-settings.Settings} {m : List ℕ} (c : C
   promises (opens _) = unreported (λ _ e. cons≢nil e.0)
   promises (asks _ _ _ _ _ _) = unreported (λ _ e. cons≢nil e.1)
   promises (sends i _ g _ t _ _) =
-      let early = not_yet i g t in
+      let early = not_yet_lem i g t in
       unreported (λ late _. omega arith)
   promises (sent _ _ _) = unreported (λ _ e. cons≢nil e.0)
   promises (ends _ _ _ _) = unreported (λ _ e. cons≢nil e.1)

@@ -25,7 +25,7 @@ use Rattle.sender.specs.Tick.{lent_to, tick_of}
 use Rattle.sender.specs.declared.Phase.TheVariants.{Sending}
 use Rattle.sender.specs.declared.Settings.{Settings}
 use Rattle.sender.specs.declared.Streamed.{Streamed}
-use Rattle.delivery.proofs.Clean.{plain, next_stands, not_yet, cleanly, fitting, clean_allowed}
+use Rattle.delivery.proofs.Clean.{plain, next_stands, not_yet_lem, cleanly, fitting, clean_allowed}
 use Rattle.delivery.proofs.CleanReceives.{hears_announcement, hears_accepted, waits_on}
 use Rattle.delivery.proofs.CleanSends.{hears_ack, hears_end}
 use Rattle.delivery.proofs.CleanStages.{Clear, Paced, Inside, sends_world, end_of_ack, clean_report, none_kept, none_repeated, none_passed, none_answered, Stage, opens, asks, sends, sent, ends, over}
@@ -100,8 +100,8 @@ module _ {st : Settings} {rs : receiver-settings.Settings} {m : List ℕ} (c : C
       → Advice
       (sends_world st rs m ticks start number last gap wait misses forward back buffer)
       turn (since m ticks 0 []) []
-  advice_sends anyone i g p t d e = tick_sender (d, e) tt refl (not_yet c false i g t) (lent_taken _ refl)
-  advice_sends senders i g p t d e = tick_sender (d, e) tt refl (not_yet c false i g t) (lent_taken _ refl)
+  advice_sends anyone i g p t d e = tick_sender (d, e) tt refl (not_yet_lem c false i g t) (lent_taken _ refl)
+  advice_sends senders i g p t d e = tick_sender (d, e) tt refl (not_yet_lem c false i g t) (lent_taken _ refl)
   advice_sends receivers {number = number} {last} {gap} {wait} {misses} i g p t d e =
       let patient = c.patient in
       tick_receiver (d, e) refl (ap (λ (a : receiver.Told). a.emits)

@@ -147,6 +147,7 @@ module _ (m : List ℕ) (rs : Settings) where
 
     pub half_information : {q : Phase} {h : Heard} → number ≤ frames_of m → Informed rs number (fill_to 7 (part_from number m)) left q h
         → Halfway m q left → Ends m rs h
+    half_information inside (ended {y = y} _) h = elim h [ ]
     half_information inside (above over) (opened many long low high before) = absurd (omega arith)
     half_information inside (delivers {x} at whole) (opened many long low high before) =
         ends x {left = stored x} many long (rw (at, long) (last_stored m left x.expected held fits low high before (whole ∙ many)))
