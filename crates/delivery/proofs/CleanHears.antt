@@ -76,10 +76,16 @@ module _ {st : Settings} {rs : receiver-settings.Settings} {m : List ℕ} (c : C
   answered_by gone number last may a = a
   answered_by still number last may a = stages.Answered.more may a
 
+  -- a repeat behind the acknowledgements is one of them
+  answered_joined : {start number last gap : ℕ} {fs : List Frame} → repeats ≡ true → start ≡ number → gap ≡ 0
+      → Answered st rs m repeats start number last gap fs
+      → Answered st rs m repeats start number last gap (fs ++ window_ack number last ∷ [])
+  answered_joined may same cleared stages.Answered.none = rw (same, cleared) (stages.Answered.more may stages.Answered.none)
+  answered_joined may same cleared (stages.Answered.more e a) = stages.Answered.more e (answered_joined may refl refl a)
+
   answered_join : {number last : ℕ} {fs : List Frame} → repeats ≡ true → Answered st rs m repeats number number last 0 fs
       → Answered st rs m repeats number number last 0 (fs ++ window_ack number last ∷ [])
-  answered_join may stages.Answered.none = stages.Answered.more may stages.Answered.none
-  answered_join may (stages.Answered.more e a) = stages.Answered.more e (answered_join may a)
+  answered_join may a = answered_joined may refl refl a
 
   passed_first : (k : Rest) → MayKeep k → Passed st rs m repeats 1 1 0 (leaving k (announcement st rs m) [])
   passed_first gone may = stages.Passed.none

@@ -2,7 +2,7 @@
 use Prim.Native.Nat.{ℕ, ◌≤◌, ◌<◌}
 use mathlib.Core.Bool.{Bool, true, false}
 use mathlib.Core.List.{List, [], ◌∷◌, ◌++◌, append-nil}
-use mathlib.Core.Path.{◌≡◌, refl, ◌∙◌}
+use mathlib.Core.Path.{◌≡◌, refl, subst, ◌∙◌}
 use native.Mathlib.Nat.{add-zero}
 use native.Mathlib.Omega.{arith}
 use borrow.Author.Tests.{leb-true, leb-false, eqb-true, eqb-false}
@@ -416,6 +416,13 @@ receiver_pause_live k d (long {r = r} wide fits young v s) =
     long_took (record { long = wide; fits = fits }) young v (stage_pause r.settings k d s)
 receiver_pause_live k d (short {r = r} narrow young v l e c) = short_pauses narrow young v e c l (view.pause_does k r)
 
+-- the first frame of a short transfer's line is its SM_RM
+is_repeated : {m : List ℕ} {f : Frame} → Repeats m f → f ≡ sm_rm_of m
+is_repeated repeats = refl
+
+first_repeats : {m : List ℕ} {f : Frame} {rest : List Frame} → Line (Repeats m) (f ∷ rest) → f ≡ sm_rm_of m
+first_repeats (more first l) = is_repeated first
+
 pub receiver_hear_live : {Lax : Type 0} {st : Settings} {s : Sender} {r : Receiver} {f : Frame} {rest back : List Frame} {buffer : List ℕ}
     {b : Begun} (k : Rest) (lent : List ℕ)
     → Live Lax st s r (f ∷ rest) back buffer b
@@ -425,8 +432,9 @@ receiver_hear_live {b = b} k lent (resting h) d = record { live = resting (had_f
 receiver_hear_live k lent (long {m} {r = r} wide fits young v s) d =
     let w : Fits m = record { long = wide; fits = fits } in
     long_took w young v (stage_hear w r.settings lent k s d)
-receiver_hear_live k lent (short {r = r} narrow young v (more repeats l) e c) d =
-    short_hear narrow young v e c (left_line k (more repeats l)) (view.hear_does r _ lent)
+receiver_hear_live {f = f} k lent (short {r = r} narrow young v l e c) d =
+    short_hear narrow young v e c (left_line k l)
+    (subst (λ (g : Frame). view.Hears r.settings g lent r.phase (receiver-hear.hear_of r f lent)) (first_repeats l) (view.hear_does r f lent))
 
 -- ---- losses
 

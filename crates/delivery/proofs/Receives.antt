@@ -4,16 +4,16 @@ use mathlib.Core.Bool.{false, false≢true, ◌&&◌}
 use mathlib.Core.List.{List}
 use mathlib.Core.Path.{◌≡◌, refl, sym, ◌∙◌}
 use native.Mathlib.Omega.{arith}
-use lib.ListN.{length, take}
+use lib.ListN.{length, take, drop}
 use borrow.Author.Tests.{eqb-true}
 use lib.Dec.{eqb}
 use Rattle.frame.specs.Choice.{pick}
-use Rattle.frame.specs.Frames.{fill_to, part_from, word_at, announcement_of, information_of}
+use Rattle.frame.specs.Frames.{byte_of, fill_to, part_from, word_at, announcement_of, information_of}
 use Rattle.frame.specs.Reading.{read_of, named_of, all_filler}
 use Rattle.frame.proofs.Choice.{pick_elim, both_right}
 use Rattle.frame.proofs.Laws.{word_whole}
 use Rattle.frame.specs.declared.Frame.{Frame}
-use Rattle.receiver.proofs.View.{receiver_in, Ticks, rests, waits, retries, repeats, expires, Pause, Pauses, denied, holds, resumes, Announced, nacks, opens, again, Informed, above, delivers, asks, goes_on, Hears, refuses, ignores, announced, informed, closes, short, short_only_lem}
+use Rattle.receiver.proofs.View.{receiver_in, Ticks, rests, waits, retries, repeats, expires, Pause, Pauses, denied, holds, resumes, Announced, nacks, opens, again, Informed, ended, above, delivers, asks, goes_on, Hears, refuses, ignores, announced, informed, closes, short, short_only_lem}
 use Rattle.receiver.specs.Hear.{ending, storing, announced_again, announce_open, hear_announcement, hear_numbered, hear_unless_held, hear_kind, hear_read, hear_of}
 use Rattle.receiver.specs.State.{moved}
 use Rattle.receiver.specs.Told.{Told, Heard, heard, refusing, silently, emitting, failing_with}
@@ -38,27 +38,36 @@ pub data Read (rs : Settings) (q : Phase) (lent : List ℕ) (P : Heard → Type 
   read : {h : Heard} → Unrefused h → P h → Read rs q lent P h
 
 module _ {rs : Settings} {lent : List ℕ} where
+  -- of any frame of kind 1: number 0 announces, a number from 1 informs
+  announcement_taken : (f : Frame) {q : Phase} {h : Heard} → f.kind ≡ 1 → byte_of f 0 ≡ 0 → Hears rs f lent q h
+      → Read rs q lent (Announced rs (byte_of f 1) (word_at f 2 3) lent q) h
+  announcement_taken f one first (refuses number _) = refused number
+  announcement_taken f one first ignores = ignored
+  announcement_taken f one first (announced _ _ a) = read (announced_taken a) a
+  announcement_taken f one first (informed _ _ z _) = absurd (omega arith)
+  announcement_taken f one first (closes k) = absurd (omega arith)
+  announcement_taken f one first (short k) = absurd (omega arith)
+  announcement_taken f one first (short_only_lem k) = absurd (omega arith)
+
+  information_taken : (f : Frame) {q : Phase} {h : Heard} → f.kind ≡ 1 → 1 ≤ byte_of f 0 → Hears rs f lent q h
+      → Read rs q lent (λ g. (length lent ≡ 1785) × Informed rs (byte_of f 0) (drop 1 f.bytes) lent q g) h
+  information_taken f one low (refuses n _) = refused n
+  information_taken f one low ignores = ignored
+  information_taken f one low (announced _ z _) = absurd (omega arith)
+  information_taken f one low (informed held _ _ i) = read (informed_taken i) (held, i)
+  information_taken f one low (closes k) = absurd (omega arith)
+  information_taken f one low (short k) = absurd (omega arith)
+  information_taken f one low (short_only_lem k) = absurd (omega arith)
+
   pub reads_announcement : {q : Phase} {h : Heard} (frames l : ℕ) → l < 65536 → Hears rs (announcement_of frames l) lent q h
       → Read rs q lent (Announced rs frames l lent q) h
   unfolding announcement_of
-  reads_announcement frames l small (refuses number _) = refused number
-  reads_announcement frames l small ignores = ignored
-  reads_announcement frames l small (announced _ _ a) = read (announced_taken a) (rw (word_whole l small) at a)
-  reads_announcement frames l small (informed _ _ z _) = absurd (omega arith)
-  reads_announcement frames l small (closes k) = absurd (omega arith)
-  reads_announcement frames l small (short k) = absurd (omega arith)
-  reads_announcement frames l small (short_only_lem k) = absurd (omega arith)
+  reads_announcement frames l small h = rw (word_whole l small) at (announcement_taken (announcement_of frames l) refl refl h)
 
   pub reads_information : {q : Phase} {h : Heard} (number : ℕ) (m : List ℕ) → 1 ≤ number → Hears rs (information_at number m) lent q h
       → Read rs q lent (λ g. (length lent ≡ 1785) × Informed rs number (fill_to 7 (part_from number m)) lent q g) h
   unfolding information_of
-  reads_information number m low (refuses n _) = refused n
-  reads_information number m low ignores = ignored
-  reads_information number m low (announced _ z _) = absurd (omega arith)
-  reads_information number m low (informed held _ _ i) = read (informed_taken i) (held, i)
-  reads_information number m low (closes k) = absurd (omega arith)
-  reads_information number m low (short k) = absurd (omega arith)
-  reads_information number m low (short_only_lem k) = absurd (omega arith)
+  reads_information number m low h = information_taken (information_at number m) refl low h
 
 -- an announcement while the receiver is past the first frame of another transfer: refused or ignored
 pub early_reads : (rs : Settings) (frames l : ℕ) (lent : List ℕ) (q : Phase) → Early q
