@@ -1,4 +1,4 @@
--- `text::line::frame_line` meets its contract. The parts of the line are written one after the other.
+-- `text::lines::frame_line` meets its contract. The parts of the line are written one after the other.
 -- Assumes nothing.
 use Rattle.text.proofs.Paths.{frame_put}
 use Rattle.text.proofs.lines.frame_line.Goals as goal

@@ -1,4 +1,4 @@
--- `text::line::put_head` meets its contract. The parts of the text are written one after the other.
+-- `text::lines::put_head` meets its contract. The parts of the text are written one after the other.
 -- Assumes nothing.
 use Rattle.text.proofs.Paths.{head_put}
 use Rattle.text.proofs.lines.put_head.Goals as goal

@@ -1,5 +1,5 @@
--- `text::number::put_hexes` meets its contract. The invariant: the digits of the first i bytes are written. The measure is
-use Prim.Native.Nat.{◌-◌}
+-- `text::number::put_hexes` meets its contract. The bytes are written one after the other.
+-- Assumes nothing.
 use borrow.Author.Rules.{rules}
 use Rattle.text.proofs.Paths.{nothing_put, hexes_more, hexes_end}
 use Rattle.text.specs.Text.{hexes}

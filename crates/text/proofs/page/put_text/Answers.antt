@@ -1,5 +1,5 @@
--- `text::page::put_text` meets its contract. The invariant: the first i bytes of the text are written. The measure is what
-use Prim.Native.Nat.{◌-◌}
+-- `text::page::put_text` meets its contract. The bytes are written one after the other.
+-- Assumes nothing.
 use borrow.Author.Rules.{rules}
 use Rattle.text.proofs.Paths.{nothing_put, text_more, text_ends}
 use Rattle.text.proofs.page.put_text.Goals as goal
