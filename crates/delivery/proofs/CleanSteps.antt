@@ -2,7 +2,7 @@
 -- Assumes nothing.
 use Prim.Native.Nat.{ℕ}
 use mathlib.Core.Bool.{Bool, true, false, not, true≢false, false≢true}
-use mathlib.Core.Path.{◌≡◌, refl, sym, ◌∙◌, subst, subst⁻¹}
+use mathlib.Core.Path.{◌≡◌, refl, sym, ◌∙◌, subst⁻¹}
 use mathlib.Core.List.{List, [], ◌∷◌, append-nil}
 use borrow.Author.Tests.{not-true}
 use Rattle.frame.specs.Choice.{pick}
@@ -17,9 +17,8 @@ use Rattle.sender.proofs.Choices.{begin_elim, tick_elim}
 use Rattle.sender.specs.Begin.{begin_of, begin_short, begin_long}
 use Rattle.sender.specs.Tick.{tick_of}
 use Rattle.sender.specs.Told as sender
-use Rattle.sender.specs.declared.Phase.{Phase}
 use Rattle.sender.specs.declared.Settings.{Settings}
-use Rattle.delivery.proofs.CleanStages.{listens, Clear, announced, informed, Stage, opens, asks, sends, sent, ends, over, After}
+use Rattle.delivery.proofs.CleanStages.{listens, Clear, Stage, opens, asks, sends, sent, ends, over, After}
 use Rattle.delivery.proofs.Sends.{tick_taken}
 use Rattle.delivery.specs.Clean.{Turn, Empty, turn_in, CleanCall, reports_in}
 use Rattle.delivery.specs.Demand3.{LentMessage, Condition}

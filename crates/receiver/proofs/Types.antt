@@ -1,21 +1,20 @@
 -- Every call counts by type as document 02, E4, says: a walk over the view, and over the five that can be counted.
 -- Assumes nothing.
-use Prim.Native.Nat.{ℕ, ◌+◌, ◌≤◌}
-use mathlib.Core.Bool.{Bool, true, false}
+use Prim.Native.Nat.{ℕ, ◌+◌}
+use mathlib.Core.Bool.{Bool, true}
 use mathlib.Core.List.{List}
 use mathlib.Core.Path.{◌≡◌, refl, sym, ap, ◌∙◌}
 use native.Mathlib.Omega.{arith}
 use borrow.Author.Tests.{ne_eqb, eq-eqb}
-use lib.Dec.{eqb, leb}
+use lib.Dec.{leb}
 use Rattle.frame.specs.Choice.{pick}
-use Rattle.frame.specs.Count.{increment_of}
 use Rattle.frame.specs.Frames.{lm_ack_of}
 use Rattle.frame.specs.declared.Frame.{Frame}
 use Rattle.receiver.proofs.Laws.{tick_free}
 use Rattle.receiver.proofs.View.{receiver_in, Shut, Ticks, rests, waits, retries, repeats, expires, tick_does, Counted, first_after_ack, second_after_ack, first_after_frame, first_again, Pause, hold, resume, Pauses, denied, holds, resumes, pause_does, nacks, opens, again, ended, above, delivers, asks, goes_on, Hears, refuses, ignores, announced, informed, closes, short, short_only_lem, hear_does}
 use Rattle.receiver.specs.Hear.{opening}
 use Rattle.receiver.specs.Misses.{acknowledged, timed_out}
-use Rattle.receiver.specs.Tick.{timeout_by, tick_open, tick_phase, tick_of}
+use Rattle.receiver.specs.Tick.{timeout_by, tick_phase, tick_of}
 use Rattle.receiver.specs.Told as told
 use Rattle.receiver.specs.Told.{Told, quiet, failed}
 use Rattle.receiver.specs.Types.{count_of, number_of, acknowledges, times_out, count_after, CountsTick, CountsPause, CountsHear, ThirdFails, CountsByType}

@@ -9,7 +9,6 @@ use mathlib.Core.List.{List}
 use native.Mathlib.Omega.{arith}
 use borrow.Author.Tests.{leb-true, leb-false, eqb-true, eqb-false, le-leb, lt-leb}
 use lib.Dec.{eqb, leb}
-use lib.ListN.{length}
 use Rattle.frame.specs.Result.{accepted}
 use Rattle.frame.proofs.Choice.{pick_elim}
 use Rattle.frame.proofs.Laws.{increment_is}

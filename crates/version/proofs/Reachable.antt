@@ -18,11 +18,11 @@ use Rattle.version.proofs.Cells.{Cell, rests, negotiates, starts, declines, goes
 use Rattle.version.proofs.Inverse.{read_written}
 use Rattle.version.proofs.Places.{made_is, list_is, three_bytes_lem, place_of_holds, place_below_highest}
 use Rattle.version.specs.Calls.{Call, connect, tick, hear, stop, greet, functions_heard, answer_of}
-use Rattle.version.specs.List.{version_of, is_list, standing, Place, nowhere, here, find, find_below}
+use Rattle.version.specs.List.{version_of, standing, Place, nowhere, here, find, find_below}
 use Rattle.version.specs.Message.{read_of}
 use Rattle.version.specs.Reachable.{Reachable, made, called, Timing, StateWithin, PeriodWithin, AgeWithin, Within, Exact, EveryReachable}
 use Rattle.version.specs.Table.{Trigger, connected, period_due, success_other, success_below2, success2, failure_heard, continue_same, continue_lower, continue_higher, continue_none, greeted, stopped, limit_due, Entry, vehicle_s1}
-use Rattle.version.specs.Talk.{fresh, make_of, place_or, keeps_timing, doing, triggered, connect_of, stop_of, greet_of, functions_state, functions_heard_of, success_trigger, higher_trigger, else_trigger, continue_at, continue_trigger, heard_trigger, hear_judged, hear_of, next_period, next_age, limit_is_due, period_is_due, aged, tick_talking, tick_settled, tick_state, tick_of}
+use Rattle.version.specs.Talk.{make_of, place_or, keeps_timing, doing, triggered, connect_of, stop_of, greet_of, functions_state, functions_heard_of, success_trigger, higher_trigger, else_trigger, continue_at, continue_trigger, heard_trigger, hear_judged, hear_of, next_period, next_age, limit_is_due, period_is_due, aged, tick_talking, tick_settled, tick_state, tick_of}
 use Rattle.version.specs.Told.{Told, own_version, moved}
 use Rattle.version.specs.declared.Message.{Message}
 use Rattle.version.specs.declared.Side.{Side}

@@ -1,5 +1,5 @@
 -- `frame::fill::fill` meets its contract. The invariant: i bytes are the new one, and after them is what was
-use Prim.Native.Nat.{ℕ, ◌-◌, ◌<◌}
+use Prim.Native.Nat.{ℕ, ◌<◌}
 use mathlib.Core.Path.{refl, ◌∙◌, ap}
 use mathlib.Core.List.{List}
 use borrow.Author.Rules.{rules}

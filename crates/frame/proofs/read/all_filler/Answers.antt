@@ -1,5 +1,4 @@
 -- `frame::read::all_filler` meets its contract. The invariant: the bytes from `from` on are filler just if those from
-use Prim.Native.Nat.{◌-◌}
 use mathlib.Core.Path.{refl}
 use Rattle.frame.proofs.Laws.{filler_on, filler_stops, filler_ends}
 use Rattle.frame.proofs.read.all_filler.Goals as goal

@@ -1,5 +1,4 @@
 -- `groups::table::word_in` meets its contract. The invariant: looking through the whole table finds what looking from word i on
-use Prim.Native.Nat.{◌-◌}
 use mathlib.Core.Path.{refl, ◌∙◌, sym}
 use Rattle.groups.proofs.Words.{word_here, word_on, word_ends}
 use Rattle.groups.proofs.table.word_in.Goals as goal

@@ -1,5 +1,4 @@
 -- `receiver::store::copy` meets its contract. The invariant: the first j bytes are those of the source, the rest is
-use Prim.Native.Nat.{◌-◌}
 use mathlib.Core.Path.{◌≡◌}
 use native.Mathlib.Omega.{arith}
 use borrow.Author.Rules.{rules}

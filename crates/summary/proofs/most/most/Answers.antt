@@ -1,5 +1,4 @@
 -- `summary::most::most` meets its contract. The invariant: the number named of those from 0 to the last one read, and its
-use Prim.Native.Nat.{◌-◌}
 use borrow.Author.Rules.{rules}
 use Rattle.summary.proofs.Laws.{naming}
 use Rattle.summary.proofs.most.most.Goals as goal

@@ -1,5 +1,4 @@
 -- `version::list::find` meets its contract. The invariant: the version stands from place i on, if
-use Prim.Native.Nat.{◌-◌}
 use mathlib.Core.Path.{refl}
 use borrow.Author.Rules.{rules}
 use Rattle.version.proofs.Laws.{seeks}

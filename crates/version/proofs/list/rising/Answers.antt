@@ -1,5 +1,4 @@
 -- `version::list::rising` meets its contract. The invariant: the list rises just if it does from
-use Prim.Native.Nat.{◌-◌}
 use mathlib.Core.Path.{refl}
 use borrow.Author.Rules.{rules}
 use Rattle.version.proofs.Laws.{rises}
