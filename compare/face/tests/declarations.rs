@@ -1,6 +1,7 @@
-//! The declarations in `src/ffi.rs`, `src/values.rs` and `include/kospelna.h` are those of `crates/kospelna/src/` and
-//! `crates/kospelna_summary/src/`: the same structs with the same fields and the same functions with the same parameters and
-//! results, by name, type and order; and the same numbers of a receiver's misses, by name.
+//! The declarations in `src/ffi.rs`, `src/values.rs` and `include/kospelna.h` are those of the crates: the structs of
+//! `crates/kospelna/src/` and `crates/kospelna_summary/src/`, with the same fields, and the functions that `crates/kospelna_c/src/`
+//! and `crates/kospelna_summary_c/src/` export, with the same parameters and results, by name, type and order; and the same
+//! numbers of a receiver's misses, by name.
 
 use std::collections::BTreeMap;
 use std::path::Path;
@@ -133,7 +134,8 @@ fn misses_of_the_crates(text: &str) -> Numbers {
 
 /// What the crates declare.
 fn declared_by_the_crates() -> (Structs, Functions, Numbers) {
-    let folders = ["kospelna", "kospelna_summary"].map(|name| format!("../../crates/{name}/src"));
+    let crates = ["kospelna", "kospelna_c", "kospelna_summary", "kospelna_summary_c"];
+    let folders = crates.map(|name| format!("../../crates/{name}/src"));
     let text = folders.map(|folder| text(&folder, "rt")).concat();
     let functions = functions(&text, "pub extern \"C\" fn ");
     (structs(&text), functions, misses_of_the_crates(&text))

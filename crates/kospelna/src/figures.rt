@@ -33,8 +33,7 @@ fn write_figures(answer: Clean) -> FlatCleanFigures
 
 // The ticks and the frames that a clean long transfer takes at a gap, or refusal 2 for the length,
 // then 1 for the gap.
-#[unsafe(no_mangle)]
-pub extern "C" fn kospelna_clean_figures_of(length: u32, gap: u32) -> FlatCleanFigures
+pub fn kospelna_clean_figures_of(length: u32, gap: u32) -> FlatCleanFigures
     ensures { result ≡ clean_out (figures_of length gap) }
 {
     write_figures(clean::figures_of(length, gap))

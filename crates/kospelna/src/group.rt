@@ -171,8 +171,7 @@ fn write_finding(finding: Finding) -> FlatGroupFinding
 
 // The group in eight lent bytes: refusal 9 for the length, the code and the filler, then 10 for a
 // value.
-#[unsafe(no_mangle)]
-pub extern "C" fn kospelna_group_read(bytes: &[u8]) -> FlatGroupReading
+pub fn kospelna_group_read(bytes: &[u8]) -> FlatGroupReading
     ensures { result ≡ reading_out (read_of bytes.now) }
 {
     write_reading(groups::read::read(bytes))
@@ -180,8 +179,7 @@ pub extern "C" fn kospelna_group_read(bytes: &[u8]) -> FlatGroupReading
 
 // A group into eight lent bytes: refusal 9 for the length and the code, then 10 for a value; a
 // refusal leaves the bytes.
-#[unsafe(no_mangle)]
-pub extern "C" fn kospelna_group_write(group: FlatGroup, bytes: &mut [u8]) -> FlatGroupWriting
+pub fn kospelna_group_write(group: FlatGroup, bytes: &mut [u8]) -> FlatGroupWriting
     ensures { written result bytes.new ≡ written_out (write_of (group_in group) bytes.old) }
 {
     let g = read_group(group);
@@ -190,8 +188,7 @@ pub extern "C" fn kospelna_group_write(group: FlatGroup, bytes: &mut [u8]) -> Fl
 }
 
 // The row of a code in the table of groups, or refusal 9.
-#[unsafe(no_mangle)]
-pub extern "C" fn kospelna_group_find(code: u8) -> FlatGroupFinding
+pub fn kospelna_group_find(code: u8) -> FlatGroupFinding
     ensures { result ≡ finding_out (find_of code) }
 {
     write_finding(groups::find(code))

@@ -97,8 +97,7 @@ fn write_splitting(parted: Parted) -> FlatIdentifierSplitting
 }
 
 // The identifier of parts, or refusal 8.
-#[unsafe(no_mangle)]
-pub extern "C" fn kospelna_identifier_join(parts: FlatIdentifierParts) -> FlatIdentifierJoining
+pub fn kospelna_identifier_join(parts: FlatIdentifierParts) -> FlatIdentifierJoining
     ensures { result ≡ joining_out (join_of (parts_in parts)) }
 {
     let x = read_parts(parts);
@@ -106,40 +105,35 @@ pub extern "C" fn kospelna_identifier_join(parts: FlatIdentifierParts) -> FlatId
 }
 
 // The parts of an identifier, or refusal 8.
-#[unsafe(no_mangle)]
-pub extern "C" fn kospelna_identifier_split(identifier: u32) -> FlatIdentifierSplitting
+pub fn kospelna_identifier_split(identifier: u32) -> FlatIdentifierSplitting
     ensures { result ≡ splitting_out (part_of identifier) }
 {
     write_splitting(identifier::part(identifier))
 }
 
 // The charger's address.
-#[unsafe(no_mangle)]
-pub extern "C" fn kospelna_charger_address() -> u32
+pub fn kospelna_charger_address() -> u32
     ensures { result ≡ charger_address }
 {
     identifier::charger_address()
 }
 
 // The vehicle's address.
-#[unsafe(no_mangle)]
-pub extern "C" fn kospelna_vehicle_address() -> u32
+pub fn kospelna_vehicle_address() -> u32
     ensures { result ≡ vehicle_address }
 {
     identifier::vehicle_address()
 }
 
 // The identifier of the charger's version message.
-#[unsafe(no_mangle)]
-pub extern "C" fn kospelna_charger_version_identifier() -> u32
+pub fn kospelna_charger_version_identifier() -> u32
     ensures { result ≡ charger_version }
 {
     identifier::charger_version()
 }
 
 // The identifier of the vehicle's version message.
-#[unsafe(no_mangle)]
-pub extern "C" fn kospelna_vehicle_version_identifier() -> u32
+pub fn kospelna_vehicle_version_identifier() -> u32
     ensures { result ≡ vehicle_version }
 {
     identifier::vehicle_version()

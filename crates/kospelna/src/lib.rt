@@ -1,6 +1,6 @@
-// The face that programs in C link: flat structs by value, numbers for what is an enum inside. Each
-// function's promise is the definition that it stands for, through the translation.
-// include/kospelna.h declares it.
+// The face for programs in C: flat structs by value, numbers for what is an enum inside. Each
+// function's promise is the definition that it stands for, through the translation. The crate
+// kospelna_c exports the functions under their names, and include/kospelna.h declares them.
 #![tactic(auto)]
 
 pub mod figures;

@@ -275,44 +275,35 @@ fn write_made(m: Made) -> FlatReceiverMade
 }
 
 // An idle receiver with these settings, nothing delivered.
-#[unsafe(no_mangle)]
-pub extern "C" fn kospelna_receiver_make(
-    timeout: u16,
-    window: u16,
-    capacity: u16,
-) -> FlatReceiverMade
+pub fn kospelna_receiver_make(timeout: u16, window: u16, capacity: u16) -> FlatReceiverMade
     ensures { result ≡ flat_made (make_of timeout window capacity) }
 {
     write_made(Receiver::make(timeout, window, capacity))
 }
 
 // A tick.
-#[unsafe(no_mangle)]
-pub extern "C" fn kospelna_receiver_tick(receiver: FlatReceiver) -> FlatReceiverAnswer
+pub fn kospelna_receiver_tick(receiver: FlatReceiver) -> FlatReceiverAnswer
     ensures { result ≡ flat_answer (tick_of (receiver_from receiver)) }
 {
     write_answer(read_receiver(receiver).tick())
 }
 
 // The transfer is held.
-#[unsafe(no_mangle)]
-pub extern "C" fn kospelna_receiver_hold(receiver: FlatReceiver) -> FlatReceiverAnswer
+pub fn kospelna_receiver_hold(receiver: FlatReceiver) -> FlatReceiverAnswer
     ensures { result ≡ flat_answer (hold_of (receiver_from receiver)) }
 {
     write_answer(read_receiver(receiver).hold())
 }
 
 // The hold ends.
-#[unsafe(no_mangle)]
-pub extern "C" fn kospelna_receiver_resume(receiver: FlatReceiver) -> FlatReceiverAnswer
+pub fn kospelna_receiver_resume(receiver: FlatReceiver) -> FlatReceiverAnswer
     ensures { result ≡ flat_answer (resume_of (receiver_from receiver)) }
 {
     write_answer(read_receiver(receiver).resume())
 }
 
 // A frame is heard, with the buffer lent.
-#[unsafe(no_mangle)]
-pub extern "C" fn kospelna_receiver_hear(
+pub fn kospelna_receiver_hear(
     receiver: FlatReceiver,
     frame: FlatFrame,
     buffer: &mut [u8],

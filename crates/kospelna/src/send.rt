@@ -297,40 +297,35 @@ fn write_made(m: Made) -> FlatSenderMade
 }
 
 // An idle sender with these settings.
-#[unsafe(no_mangle)]
-pub extern "C" fn kospelna_sender_make(gap: u16, timeout: u16, limit: u16) -> FlatSenderMade
+pub fn kospelna_sender_make(gap: u16, timeout: u16, limit: u16) -> FlatSenderMade
     ensures { result ≡ flat_made (make_of gap timeout limit) }
 {
     write_made(Sender::make(gap, timeout, limit))
 }
 
 // Begins a transfer of the lent message.
-#[unsafe(no_mangle)]
-pub extern "C" fn kospelna_sender_begin(sender: FlatSender, message: &[u8]) -> FlatSenderAnswer
+pub fn kospelna_sender_begin(sender: FlatSender, message: &[u8]) -> FlatSenderAnswer
     ensures { result ≡ flat_answer (begin_of (sender_from sender) message.now) }
 {
     write_answer(read_sender(sender).begin(message))
 }
 
 // Emits the lent message as one SM_URM.
-#[unsafe(no_mangle)]
-pub extern "C" fn kospelna_sender_post(sender: FlatSender, message: &[u8]) -> FlatSenderAnswer
+pub fn kospelna_sender_post(sender: FlatSender, message: &[u8]) -> FlatSenderAnswer
     ensures { result ≡ flat_answer (post_of (sender_from sender) message.now) }
 {
     write_answer(read_sender(sender).post(message))
 }
 
 // A tick, lent the message that was begun.
-#[unsafe(no_mangle)]
-pub extern "C" fn kospelna_sender_tick(sender: FlatSender, message: &[u8]) -> FlatSenderAnswer
+pub fn kospelna_sender_tick(sender: FlatSender, message: &[u8]) -> FlatSenderAnswer
     ensures { result ≡ flat_answer (tick_of (sender_from sender) message.now) }
 {
     write_answer(read_sender(sender).tick(message))
 }
 
 // A frame is heard.
-#[unsafe(no_mangle)]
-pub extern "C" fn kospelna_sender_hear(sender: FlatSender, frame: FlatFrame) -> FlatSenderAnswer
+pub fn kospelna_sender_hear(sender: FlatSender, frame: FlatFrame) -> FlatSenderAnswer
     ensures { result ≡ flat_answer (hear_of (sender_from sender) (frame_from frame)) }
 {
     write_answer(read_sender(sender).hear(read_frame(frame)))

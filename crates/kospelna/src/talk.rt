@@ -405,16 +405,14 @@ fn write_answer(a: Answer) -> FlatTalkerAnswer
 }
 
 // A list of 1 to 8 strictly rising versions, three bytes for each, or refusal 11.
-#[unsafe(no_mangle)]
-pub extern "C" fn kospelna_version_list(bytes: &[u8]) -> FlatVersionListing
+pub fn kospelna_version_list(bytes: &[u8]) -> FlatVersionListing
     ensures { result ≡ listing_out (list_of bytes.now) }
 {
     write_listing(version::list::list(bytes))
 }
 
 // The bytes of a message, or refusal 10.
-#[unsafe(no_mangle)]
-pub extern "C" fn kospelna_version_message_write(message: FlatVersionMessage) -> FlatVersionWriting
+pub fn kospelna_version_message_write(message: FlatVersionMessage) -> FlatVersionWriting
     ensures { result ≡ writing_out (message_bytes message) }
 {
     if message.verdict <= 2 {
@@ -429,8 +427,7 @@ pub extern "C" fn kospelna_version_message_write(message: FlatVersionMessage) ->
 }
 
 // The message of eight bytes, or refusal 10.
-#[unsafe(no_mangle)]
-pub extern "C" fn kospelna_version_message_read(bytes: FlatVersionBytes) -> FlatVersionReading
+pub fn kospelna_version_message_read(bytes: FlatVersionBytes) -> FlatVersionReading
     ensures { result ≡ reading_out (read_of (bytes_in bytes)) }
 {
     let b = bytes.bytes;
@@ -438,12 +435,7 @@ pub extern "C" fn kospelna_version_message_read(bytes: FlatVersionBytes) -> Flat
 }
 
 // A talker in S0, Ns at the highest version, the result continue; or refusal 11.
-#[unsafe(no_mangle)]
-pub extern "C" fn kospelna_talker_make(
-    side: u8,
-    versions: FlatVersions,
-    control: u8,
-) -> FlatTalkerMade
+pub fn kospelna_talker_make(side: u8, versions: FlatVersions, control: u8) -> FlatTalkerMade
     ensures { result ≡ making_out (make_of (side_in side) (versions_in versions) control) }
 {
     let of = read_side(side);
@@ -452,8 +444,7 @@ pub extern "C" fn kospelna_talker_make(
 }
 
 // The physical connection is complete.
-#[unsafe(no_mangle)]
-pub extern "C" fn kospelna_talker_connect(talker: FlatTalker) -> FlatTalkerAnswer
+pub fn kospelna_talker_connect(talker: FlatTalker) -> FlatTalkerAnswer
     ensures { result ≡ answer_out (connect_of (talker_in talker)) }
 {
     let t = read_talker(talker);
@@ -461,8 +452,7 @@ pub extern "C" fn kospelna_talker_connect(talker: FlatTalker) -> FlatTalkerAnswe
 }
 
 // One millisecond passes.
-#[unsafe(no_mangle)]
-pub extern "C" fn kospelna_talker_tick(talker: FlatTalker) -> FlatTalkerAnswer
+pub fn kospelna_talker_tick(talker: FlatTalker) -> FlatTalkerAnswer
     ensures { result ≡ answer_out (tick_of (talker_in talker)) }
 {
     let t = read_talker(talker);
@@ -470,11 +460,7 @@ pub extern "C" fn kospelna_talker_tick(talker: FlatTalker) -> FlatTalkerAnswer
 }
 
 // A message of the other side is heard.
-#[unsafe(no_mangle)]
-pub extern "C" fn kospelna_talker_hear(
-    talker: FlatTalker,
-    bytes: FlatVersionBytes,
-) -> FlatTalkerAnswer
+pub fn kospelna_talker_hear(talker: FlatTalker, bytes: FlatVersionBytes) -> FlatTalkerAnswer
     ensures { result ≡ answer_out (hear_of (talker_in talker) (bytes_in bytes)) }
 {
     let t = read_talker(talker);
@@ -483,8 +469,7 @@ pub extern "C" fn kospelna_talker_hear(
 }
 
 // A fault, or the other side opens its switch.
-#[unsafe(no_mangle)]
-pub extern "C" fn kospelna_talker_stop(talker: FlatTalker) -> FlatTalkerAnswer
+pub fn kospelna_talker_stop(talker: FlatTalker) -> FlatTalkerAnswer
     ensures { result ≡ answer_out (stop_of (talker_in talker)) }
 {
     let t = read_talker(talker);
@@ -492,8 +477,7 @@ pub extern "C" fn kospelna_talker_stop(talker: FlatTalker) -> FlatTalkerAnswer
 }
 
 // The old protocol's greeting (CHM) is heard.
-#[unsafe(no_mangle)]
-pub extern "C" fn kospelna_talker_greet(talker: FlatTalker) -> FlatTalkerAnswer
+pub fn kospelna_talker_greet(talker: FlatTalker) -> FlatTalkerAnswer
     ensures { result ≡ answer_out (greet_of (talker_in talker)) }
 {
     let t = read_talker(talker);
@@ -501,8 +485,7 @@ pub extern "C" fn kospelna_talker_greet(talker: FlatTalker) -> FlatTalkerAnswer
 }
 
 // The charger's supported functions are heard.
-#[unsafe(no_mangle)]
-pub extern "C" fn kospelna_talker_functions_heard(talker: FlatTalker) -> FlatTalkerAnswer
+pub fn kospelna_talker_functions_heard(talker: FlatTalker) -> FlatTalkerAnswer
     ensures { result ≡ answer_out (functions_heard_of (talker_in talker)) }
 {
     let t = read_talker(talker);

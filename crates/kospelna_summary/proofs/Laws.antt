@@ -2,7 +2,7 @@
 -- Assumes nothing.
 use Prim.Native.Nat.{ℕ}
 use mathlib.Core.Path.{◌≡◌, refl, sym, ap, subst, ◌∙◌}
-use mathlib.Core.Bool.{Bool, true, false, not, not-not}
+use mathlib.Core.Bool.{Bool, true, false}
 use mathlib.Core.List.{List}
 use native.Mathlib.Omega.{arith}
 use lib.ListN.{length}
@@ -69,18 +69,15 @@ module _ (a : FlatSenderAnswer) (t : Told) (s : Sender) (m counts : List ℕ) (a
 
   module _ (q r : Sender) (lent : Bool) (asked : q ≡ s) (read : r ≡ s) (full : length counts ≡ 512)
       (test : lent ≡ lent_to q.phase m) where
-    is_not : {b : Bool} → not lent ≡ b → lent ≡ not b
-    is_not e = sym (not-not lent) ∙ ap not e
-
-    pub ticked_refused : not lent ≡ true → t ≡ refusing r 4 → flat_with a counts ≡ flat_kept (kept_of s (tick m) counts)
+    pub ticked_refused : lent ≡ false → t ≡ refusing r 4 → flat_with a counts ≡ flat_kept (kept_of s (tick m) counts)
     ticked_refused fails e =
-        uncounted (refused_tick s m counts full (rw (← asked) (sym test ∙ is_not fails)) ∙ rw (e, read))
+        uncounted (refused_tick s m counts full (rw (← asked) (sym test ∙ fails)) ∙ rw (e, read))
 
-    pub ticked_silently : (u : Sender) (silent : Bool) → u ≡ s → not lent ≡ false → silent ≡ silent_in u u.phase
+    pub ticked_silently : (u : Sender) (silent : Bool) → u ≡ s → lent ≡ true → silent ≡ silent_in u u.phase
         → silent ≡ true → t ≡ silent_tick_in r r.phase → flat_with a counts ≡ flat_kept (kept_of s (tick m) counts)
     ticked_silently u silent known holds mute passes e =
         uncounted
-        (silent_tick s m counts full (rw (← asked) (sym test ∙ is_not holds)) (rw (← known) (sym mute ∙ passes)) ∙ rw (e, read))
+        (silent_tick s m counts full (rw (← asked) (sym test ∙ holds)) (rw (← known) (sym mute ∙ passes)) ∙ rw (e, read))
 
 pub ruleset calls = (begun, posted, ticked, heard)
 

@@ -1,5 +1,5 @@
 // The summary over C's layouts: the sender's calls, which also keep the lent counts, and what is
-// read of these.
+// read of these. The crate kospelna_summary_c exports the functions under their names.
 #![tactic(auto)]
 
 ghost use Rattle.std.specs.Prelude.{◌≡◌};
@@ -41,8 +41,7 @@ fn write_count(answer: Counted) -> FlatCount
 }
 
 // Begins a transfer of the lent message; where it is accepted the counts start again.
-#[unsafe(no_mangle)]
-pub extern "C" fn kospelna_summary_begin(
+pub fn kospelna_summary_begin(
     sender: FlatSender,
     message: &[u8],
     counts: &mut [u8],
@@ -54,8 +53,7 @@ pub extern "C" fn kospelna_summary_begin(
 }
 
 // Emits the lent message as one SM_URM.
-#[unsafe(no_mangle)]
-pub extern "C" fn kospelna_summary_post(
+pub fn kospelna_summary_post(
     sender: FlatSender,
     message: &[u8],
     counts: &mut [u8],
@@ -69,8 +67,7 @@ pub extern "C" fn kospelna_summary_post(
 // A tick, lent the message that was begun. One that is refused or emits nothing is answered before
 // the summary's, without a frame. Each of these ways reads the flat sender for itself and takes of it
 // what it needs: read once for all, it would be taken apart whole before the first test.
-#[unsafe(no_mangle)]
-pub extern "C" fn kospelna_summary_tick(
+pub fn kospelna_summary_tick(
     sender: FlatSender,
     message: &[u8],
     counts: &mut [u8],
@@ -91,8 +88,7 @@ pub extern "C" fn kospelna_summary_tick(
 }
 
 // A frame is heard.
-#[unsafe(no_mangle)]
-pub extern "C" fn kospelna_summary_hear(
+pub fn kospelna_summary_hear(
     sender: FlatSender,
     frame: FlatFrame,
     counts: &mut [u8],
@@ -104,16 +100,14 @@ pub extern "C" fn kospelna_summary_hear(
 }
 
 // The count of a number.
-#[unsafe(no_mangle)]
-pub extern "C" fn kospelna_summary_count(number: u8, counts: &[u8]) -> FlatCount
+pub fn kospelna_summary_count(number: u8, counts: &[u8]) -> FlatCount
     ensures { result ≡ count_out (count_of number counts.now) }
 {
     write_count(summary::most::count_of(number, counts))
 }
 
 // The number that was sent most often, and its count.
-#[unsafe(no_mangle)]
-pub extern "C" fn kospelna_summary_most(counts: &[u8]) -> FlatCount
+pub fn kospelna_summary_most(counts: &[u8]) -> FlatCount
     ensures { result ≡ count_out (most_of counts.now) }
 {
     write_count(summary::most::most_of(counts))

@@ -1,0 +1,19 @@
+-- `kospelna::send::read_phase` meets its contract. By the phase's number; at every other it is Idle.
+-- Assumes nothing.
+use Rattle.kospelna.proofs.SendPaths.{reads}
+use Rattle.kospelna.proofs.send.read_phase.Goals as goal
+
+pub returns-in-1 : goal.returns-in-1
+returns-in-1 c = search reads
+
+pub returns-in-2 : goal.returns-in-2
+returns-in-2 c = search reads
+
+pub returns-in-3 : goal.returns-in-3
+returns-in-3 c = search reads
+
+pub returns-in-4 : goal.returns-in-4
+returns-in-4 c = search reads
+
+pub returns-in_default : goal.returns-in_default
+returns-in_default c = search reads
