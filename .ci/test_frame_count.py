@@ -1,19 +1,59 @@
 #!/usr/bin/env python3
 """Holds .ci/frame-count to its word: a count by arithmetic alone passes, and every other way to find it is told."""
+import json
 import os
+import shutil
 import subprocess
 import sys
 import tempfile
 import unittest
 
 HERE = os.path.dirname(os.path.abspath(__file__))
-CRATES = {"kospelna": "libkospelna.a", "kospelna_summary": "libkospelna_summary.a", "play": "play"}
+CRATES = """frame:
+sender: frame
+kospelna: sender
+kospelna_c staticlib: kospelna
+kospelna_summary_c staticlib: kospelna
+play: sender
+"""
+OWN = {"kospelna_c": "src/lib.rt", "kospelna_summary_c": "src/lib.rt", "play": "src/main.rt"}
+BUILT = {
+    "libkospelna.a": "target/staticlib/libkospelna.a",
+    "libkospelna_summary.a": "target/staticlib/libkospelna_summary.a",
+    "play": "crates/play/out/play",
+}
+STANDARD = ("core", "std", "std_alloc", "std_collections", "std_heap", "std_io")
 
-WIDER = "(assign (place 2 lnil) (op1 (cast unsigned unsigned 64) (copy (place 1 lnil))))"
-SUM = "(assign (place 3 lnil) (op2 (add unsigned) (copy (place 2 lnil)) (int 64 6)))"
-PRODUCT = "(assign (place 4 lnil) (op2 (mul unsigned) (copy (place 3 lnil)) (int 64 74899)))"
-SHIFT = "(assign (place 5 lnil) (op2 (shr unsigned) (copy (place 4 lnil)) (int 64 19)))"
-NARROWER = "(assign (place 0 lnil) (op1 (cast unsigned unsigned 16) (copy (place 5 lnil))))"
+
+def local(number, *steps):
+    return {"local": number, "steps": [*steps]}
+
+
+def copy(number, *steps):
+    return {"Copy": local(number, *steps)}
+
+
+def constant(value, width=64):
+    return {"Int": {"width": width, "value": value}}
+
+
+def assign(to, value, *steps):
+    return {"Assign": [local(to, *steps), value]}
+
+
+def cast(width, of):
+    return {"Op1": [{"Cast": ["Unsigned", "Unsigned", width]}, of]}
+
+
+def operation(name, left, right):
+    return {"Op2": [{name: "Unsigned"}, left, right]}
+
+
+WIDER = assign(2, cast(64, copy(1)))
+SUM = assign(3, operation("Add", copy(2), constant(6)))
+PRODUCT = assign(4, operation("Mul", copy(3), constant(74899)))
+SHIFT = assign(5, operation("Shr", copy(4), constant(19)))
+NARROWER = assign(0, cast(16, copy(5)))
 COUNT = [WIDER, SUM, PRODUCT, SHIFT, NARROWER]
 
 MACHINE = """
@@ -28,41 +68,49 @@ MACHINE = """
 
 
 def function(name, statements):
-    """A function as `rt mir` prints it, and the rest of the list that it stands in."""
-    body = "return"
-    for statement in reversed(statements):
-        body = f"(seq {statement} {body})"
-    return f'(lcons (fn-def "{name}" (fnItem 0 lnil 1 (lcons (local (tyInt 16) valueLocal) lnil) {body})) '
+    """A function as a library has it: what comes between two statements, and each of them."""
+    body = [part for statement in statements for part in ("Seq", statement)] + ["Return"]
+    return [name, {"params": 1, "body": body}]
 
 
-def program(*functions):
-    return "program " + "".join(functions) + "lnil" + ")" * len(functions)
+def written(folder, path, text):
+    """A file of the folder; none where the text is None."""
+    if text is not None:
+        os.makedirs(os.path.dirname(f"{folder}/{path}"), exist_ok=True)
+        with open(f"{folder}/{path}", "w", encoding="utf-8") as file:
+            file.write(text)
+        os.chmod(f"{folder}/{path}", 0o755)
 
 
-def tools(printed):
-    """The files of a folder in which `rt mir CRATE` and `objdump .. FILE` print these texts, by CRATE and by FILE's name."""
-    files = {f"printed/{name}": text for name, text in printed.items()}
-    files["rt"] = '#!/bin/sh\ncat "${0%/*}/printed/$2"\n'
-    files["objdump"] = '#!/bin/sh\ncat "${0%/*}/printed/${3##*/}.s"\n'
-    return files
+def library(name, *functions):
+    return f"rlib/{name}.rlib/toolchain/mir.json", json.dumps(functions)
 
 
-def told(count=None, beside="", machine=MACHINE, **other):
-    """Status and lines of the check where the code is this, the same in all three; other: texts by name, None for a missing one."""
-    count = function("frame::count::frame_count", COUNT if count is None else count)
-    printed = {"frame": program(count)}
-    printed |= {crate: program(count, *filter(None, [beside])) for crate in CRATES}
-    printed |= {f"{built}.s": machine for built in CRATES.values()}
-    printed = {name: text for name, text in (printed | other).items() if text is not None}
+def told(count=None, name="frame::count::frame_count", beside=(), machine=MACHINE, **other):
+    """Status and lines of the check where the code is this, the same in all three; `beside` is one more function of sender. Of
+    `other` each is a text in the place of a file: of a crate's own code, by the crate; of a built file, by its name; of the standard
+    library's functions, "std"; None for a missing one."""
     with tempfile.TemporaryDirectory() as folder:
-        os.mkdir(f"{folder}/printed")
-        for name, text in tools(printed).items():
-            with open(f"{folder}/{name}", "w", encoding="utf-8") as file:
-                file.write(text)
-            os.chmod(f"{folder}/{name}", 0o755)
+        shutil.copy(f"{HERE}/frame-count", folder)
+        os.mkdir(f"{folder}/.ci")
+        os.rename(f"{folder}/frame-count", f"{folder}/.ci/frame-count")
+        written(folder, "crates.txt", CRATES)
+        count = [function(name, COUNT if count is None else count)]
+        for crate, functions in {"frame": count, "sender": [*beside], "kospelna": []}.items():
+            path, text = library(crate, *functions)
+            written(folder, f"crates/{crate}/out/{path}", other.get(crate, text))
+        for crate, path in OWN.items():
+            written(folder, f"crates/{crate}/{path}", other.get(crate, "// The count / 7 is elsewhere.\nfn main() {}\n"))
+        for built, path in BUILT.items():
+            written(folder, path, other.get(f"{built}.s", machine))
+        for crate in STANDARD:
+            path, text = library(crate)
+            written(folder, "kit/rlibs/" + path.removeprefix("rlib/"), other.get(crate, text))
+        written(folder, "bin/rt", f"#!/bin/sh\necho {folder}/kit/START-HERE.md\n")
+        written(folder, "bin/objdump", '#!/bin/sh\ncat "$3"\n')
         run = subprocess.run(
-            [sys.executable, f"{HERE}/frame-count"], capture_output=True, text=True, check=False,
-            env=dict(os.environ, PATH=f"{folder}:{os.environ['PATH']}"),
+            [sys.executable, f"{folder}/.ci/frame-count"], capture_output=True, text=True, check=False,
+            env=dict(os.environ, PATH=f"{folder}/bin:{os.environ['PATH']}"),
         )
         return run.returncode, run.stdout + run.stderr
 
@@ -76,44 +124,52 @@ class Written(unittest.TestCase):
         )
 
     def test_a_division_by_a_power_of_two(self):
-        for operation in ("div", "rem"):
-            halved = f"(assign (place 5 lnil) (op2 ({operation} unsigned) (copy (place 4 lnil)) (int 64 524288)))"
+        for name in ("Div", "Rem"):
+            halved = assign(5, operation(name, copy(4), constant(524288)))
             self.assertEqual(told([WIDER, SUM, PRODUCT, halved, NARROWER])[0], 0)
 
     def test_all_else_is_told(self):
-        divided = "(assign (place 5 lnil) (op2 (%s unsigned) (copy (place 3 lnil)) %s))"
-        read = "(assign (place 5 lnil) (rvOpd (copy (place 4 (lcons (deref (tyInt 8)) lnil)))))"
-        for name, other in {
-            "division by seven": divided % ("div", "(int 64 7)"),
-            "remainder by seven": divided % ("rem", "(int 64 7)"),
-            "division by 0": divided % ("div", "(int 64 0)"),
-            "division by a number that is not known": divided % ("div", "(copy (place 2 lnil))"),
-            "branch": f"(if (copy (place 4 lnil)) {SHIFT} skip)",
-            "branch by a number": f"(switch (copy (place 4 lnil)) (arm (lcons 0 lnil) {SHIFT} (default {SHIFT})))",
-            "loop": f"(block (loop {SHIFT}))",
-            "call": '(call (direct (fnRef "frame::count::low_byte")) (lcons (copy (place 4 lnil)) lnil) (place 5 lnil))',
-            "read of a table": read,
-            "write to memory": "(assign (place 4 (lcons (deref (tyInt 8)) lnil)) (rvOpd (int 8 0)))",
-            "order": "(assign (place 5 lnil) (op2 (le unsigned) (copy (place 4 lnil)) (int 64 7)))",
-            "comparison": "(assign (place 5 lnil) (op2 eq (copy (place 4 lnil)) (int 64 7)))",
+        for name, others in {
+            "division by seven": [assign(5, operation("Div", copy(3), constant(7)))],
+            "remainder by seven": [assign(5, operation("Rem", copy(3), constant(7)))],
+            "division by 0": [assign(5, operation("Div", copy(3), constant(0)))],
+            "division by a number that is not known": [assign(5, operation("Div", copy(3), copy(2)))],
+            "branch": ["Seq", {"If": copy(4)}, SHIFT, "Skip"],
+            "branch by a number": ["Seq", {"Switch": [copy(4), [[0]], True]}, SHIFT, SHIFT],
+            "loop": ["Seq", "Block", "Loop", SHIFT],
+            "call": ["Seq", {"Call": [{"Direct": "frame::count::low_byte"}, [copy(4)], local(5)]}],
+            "read of a table": [assign(5, {"Opd": copy(4, {"Deref": {"Int": 8}})})],
+            "part of a value": [assign(5, {"Opd": copy(4, {"Field": 0})})],
+            "write to memory": [assign(4, {"Opd": constant(0, 8)}, {"Deref": {"Int": 8}})],
+            "order": [assign(5, operation("Le", copy(4), constant(7)))],
+            "comparison": [assign(5, {"Op2": ["Eq", copy(4), constant(7)]})],
         }.items():
             with self.subTest(name):
-                status, said = told([WIDER, SUM, PRODUCT, other, NARROWER])
+                status, said = told([WIDER, SUM, PRODUCT, *others, NARROWER])
                 self.assertEqual(status, 1)
                 self.assertIn("frame::count::frame_count: it is not arithmetic alone: ", said)
 
     def test_no_product_or_two(self):
-        for count, statements in {0: [WIDER, NARROWER], 2: [*COUNT[:3], PRODUCT.replace("74899", "9363"), *COUNT[3:]]}.items():
+        second = assign(4, operation("Mul", copy(3), constant(9363)))
+        for count, statements in {0: [WIDER, NARROWER], 2: [*COUNT[:3], second, *COUNT[3:]]}.items():
             said = f"frame::count::frame_count: not one product by a constant, but {count}\n"
             self.assertEqual(told(statements), (1, said))
 
     def test_a_second_place_that_divides_by_seven(self):
-        for operation in ("div", "rem"):
-            rest = f"(assign (place 3 lnil) (op2 ({operation} unsigned) (copy (place 2 lnil)) (int 16 7)))"
-            status, said = told(beside=function("sender::begin::frames", [rest]))
-            self.assertEqual((status, said), (1, "sender::begin::frames: it divides by 7\n"))
-        digits = "(assign (place 3 lnil) (op2 (div unsigned) (copy (place 2 lnil)) (int 16 10)))"
-        self.assertEqual(told(beside=function("text::number::digits", [digits]))[0], 0)
+        for name in ("Div", "Rem"):
+            rest = function("sender::begin::frames", [assign(3, operation(name, copy(2), constant(7, 16)))])
+            self.assertEqual(told(beside=[rest]), (1, "sender::begin::frames: it divides by 7\n"))
+            of_std = json.dumps([function("std::days::week", [assign(3, operation(name, copy(2), constant(7, 16)))])])
+            self.assertEqual(told(std=of_std), (1, "std::days::week: it divides by 7\n"))
+        digits = function("sender::digits", [assign(3, operation("Div", copy(2), constant(10, 16)))])
+        self.assertEqual(told(beside=[digits])[0], 0)
+
+    def test_a_crate_of_the_built_files_that_divides_by_seven(self):
+        for crate, path in OWN.items():
+            for divides in ("x / 7", "x % 7", "x /= 7;", "x/7"):
+                said = f"crates/{crate}/{path}:2: it divides by 7\n"
+                self.assertEqual(told(**{crate: f"fn one() {{\n    {divides}\n}}\n"}), (1, said))
+        self.assertEqual(told(play="x / 70; x / 7.5; // x / 7\n")[0], 0)
 
 
 class Compiled(unittest.TestCase):
@@ -142,19 +198,19 @@ class Compiled(unittest.TestCase):
 
     def test_no_product_in_one_of_the_files(self):
         without = MACHINE.replace("0x12493", "0x24924925")
-        self.assertEqual(told(**{"play.s": without}), (1, "target/bin/play: it has no product by 74899\n"))
+        self.assertEqual(told(**{"play.s": without}), (1, "crates/play/out/play: it has no product by 74899\n"))
 
 
 class Missing(unittest.TestCase):
     def test_what_is_not_built(self):
-        for name in ("frame", "kospelna", "play.s"):
+        for name in ("frame", "sender", "std_io", "play.s", "libkospelna.a.s"):
             status, said = told(**{name: None})
-            self.assertEqual(status, 2)
+            self.assertEqual(status, 2, name)
             self.assertTrue(said.startswith("frame-count: "), said)
 
     def test_a_count_under_another_name(self):
         said = "frame-count: crates/frame has no frame::count::frame_count\n"
-        self.assertEqual(told(frame=program(function("frame::count::frames", COUNT))), (2, said))
+        self.assertEqual(told(name="frame::count::frames"), (2, said))
 
 
 if __name__ == "__main__":

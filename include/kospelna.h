@@ -1,5 +1,5 @@
 /* Kospelna for programs in C: the two transport ends of GB/T 27930 category B, version talk, parameter groups.
- * Link target/staticlib/libkospelna.a, which `rt staticlib kospelna` makes for x86-64, and beside it the summary's library
+ * Link target/staticlib/libkospelna.a, which `.ci/staticlib` makes for x86-64, and beside it the summary's library
  * where counts are kept (below). examples/bench.c is a whole bench, examples/hold.c a transfer that is held,
  * examples/filler.c one whose last frame comes with old bytes behind the message, examples/silence.c two over a line that
  * falls silent, examples/summary.c one in which frames go out more than once, examples/versions.c two version talks.
@@ -214,7 +214,7 @@ kospelna_sender_answer kospelna_sender_hear(kospelna_sender sender, kospelna_fra
  * one did (sum + emits = frames), of a short one none. No count is above the sending time M. Bytes that no calls made may
  * hold more; a count stays at 65535.
  *
- * These functions stand in a library of their own, target/staticlib/libkospelna_summary.a (`rt staticlib kospelna_summary`),
+ * These functions stand in a library of their own, target/staticlib/libkospelna_summary.a (crates/kospelna_summary_c),
  * so that each library's calls are compiled for themselves: link it beside libkospelna.a.
  */
 enum { KOSPELNA_COUNTS_LENGTH = 512 };

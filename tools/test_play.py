@@ -17,11 +17,12 @@ import unittest
 sys.dont_write_bytecode = True
 
 # pylint: disable=wrong-import-position
+import building
 import run_pack
 from programs import ROOT, TOOLS
 
 PLAY = ROOT / "play"
-PLAYER = ROOT / "target" / "bin" / "play"
+PLAYER = building.PROGRAM
 SAMPLES = ROOT / "samples"
 EXAMPLE = SAMPLES / "document-01.pack"
 USAGE = "usage: ./play [FILE]   (--help says more)\n"
@@ -56,7 +57,7 @@ class Played(unittest.TestCase):
     @classmethod
     def setUpClass(cls):
         if not os.access(PLAYER, os.X_OK):
-            raise AssertionError(f"{PLAYER} is not built: rt check play")
+            raise AssertionError(f"{PLAYER} is not built: rt run in crates/play")
 
     def test_a_file_and_standard_input(self):
         out = EXAMPLE.with_suffix(".out").read_bytes()
@@ -170,20 +171,20 @@ class Played(unittest.TestCase):
         self.assertEqual(seen, {None, 1, 12})
 
 
-# A script in the place of rt: says the lines in FAKE_SAYS, with pauses, leaves a player where there is none, and ends with
-# FAKE_STATUS.
+# A script in the place of rt: says that the crates in FAKE_SAYS are proved in their turn, with pauses, leaves a player where there
+# is none, and ends with FAKE_STATUS.
 FAKE_RT = """#!/bin/sh
-echo "$@" "jobs $RT_JOBS" >>ran
+echo "$@" "in $(basename "$PWD")" >>../../ran
 for word in $FAKE_SAYS; do
     case $word in
     sleep) sleep 1.1 ;;
-    *) echo "rt: $word proved (1 s)" ;;
+    *) echo "rt: chose --jobs 2 for $word" >&2 ;;
     esac
 done
-[ "${FAKE_STATUS:-0}" -ne 0 ] || [ -x target/bin/play ] || {
-    mkdir -p target/bin
-    printf '#!/bin/sh\\ncat >/dev/null\\necho 0 S played\\n' >target/bin/play
-    chmod +x target/bin/play
+[ "${FAKE_STATUS:-0}" -ne 0 ] || [ -x out/play ] || {
+    mkdir -p out
+    printf '#!/bin/sh\\ncat >/dev/null\\necho 0 S played\\n' >out/play
+    chmod +x out/play
 }
 exit "${FAKE_STATUS:-0}"
 """
@@ -192,7 +193,8 @@ low:
 left: low        # and another
 right: low
 other: low
-play: left right io
+face staticlib: low
+play: left right low
 """
 
 
@@ -208,7 +210,7 @@ class Built(unittest.TestCase):
         for name in ("play.py", "building.py", "console.py", "run_pack.py"):
             shutil.copy(TOOLS / name, self.root / "tools")
         (self.root / "crates.txt").write_text(CRATES)
-        for crate in ("low", "left", "right", "other", "play"):
+        for crate in ("low", "left", "right", "other", "face", "play"):
             (self.root / "crates" / crate / "src").mkdir(parents=True)
             (self.root / "crates" / crate / "src" / "lib.rt").write_text("code\n")
         self.hour_ago = time.time() - 3600
@@ -229,8 +231,8 @@ class Built(unittest.TestCase):
         for path in self.root.rglob("*"):
             os.utime(path, (self.hour_ago, self.hour_ago))
 
-    def play(self, says="", status=0, jobs="2", path=None, **more):
-        environment = {**os.environ, "FAKE_SAYS": says, "FAKE_STATUS": str(status), "RT_JOBS": jobs}
+    def play(self, says="", status=0, path=None, **more):
+        environment = {**os.environ, "FAKE_SAYS": says, "FAKE_STATUS": str(status)}
         environment["PATH"] = path or f"{self.bin}:{os.environ['PATH']}"
         return run([self.root / "play"], env=environment, **more)
 
@@ -241,9 +243,10 @@ class Built(unittest.TestCase):
     def test_built_once(self):
         """Quietly where it is quick, and again only where something that the player is built from changes."""
         self.assertEqual(self.play("low left right play"), (0, b"0 S played\n", ""))
-        self.assertEqual(self.runs(), ["check play jobs 2"])
+        self.assertEqual(self.runs(), ["run in play"])
         changes = [
             ("crates/other/src/lib.rt", 1),
+            ("crates/low/out/kept", 1),
             ("crates/low/src/lib.rt", 2),
             ("crates/play/src/new.rt", 3),
             ("crates.txt", 4),
@@ -251,6 +254,7 @@ class Built(unittest.TestCase):
         for name, times in changes:
             self.age()
             self.assertEqual(self.play(), (0, b"0 S played\n", ""))
+            (self.root / name).parent.mkdir(exist_ok=True)
             with (self.root / name).open("a") as file:
                 file.write("\n")
             for _ in "once", "again":
@@ -264,7 +268,7 @@ class Built(unittest.TestCase):
         self.assertEqual(len(self.runs()), 2)
 
     def test_progress_in_lines(self):
-        status, out, said = self.play("sleep low sleep left right sleep play")
+        status, out, said = self.play("low sleep left sleep right sleep play sleep")
         self.assertEqual((status, out), (0, b"0 S played\n"))
         expected = """\
 play: the player is proved and built first, which takes some minutes
@@ -280,7 +284,8 @@ play: the player is built after N s
         self.assertGreaterEqual(seconds[-1], 3)
 
     def test_one_at_a_time(self):
-        _, _, said = self.play("sleep low left sleep right play", jobs="1")
+        """A crate that takes no time has no line; nor has what no crate of the player is."""
+        _, _, said = self.play("low sleep left right sleep other sleep play")
         proving = re.findall(r"proving (.*),", said)
         self.assertEqual(proving, ["low (1 of 4)", "right (3 of 4)"])
 
@@ -288,7 +293,7 @@ play: the player is built after N s
         """One line, which is written again and cleared, no longer than the terminal is wide."""
         ours, theirs = pty.openpty()
         self.addCleanup(os.close, ours)
-        status, out, _ = self.play("low sleep left right sleep play", stderr=theirs)
+        status, out, _ = self.play("low left sleep right play sleep", stderr=theirs)
         os.close(theirs)
         self.assertEqual((status, out), (0, b"0 S played\n"))
         said = b""
@@ -302,7 +307,7 @@ play: the player is built after N s
         self.assertEqual(first, "play: the player is proved and built first, which takes some minutes")
         lines = rest.split("\r")
         self.assertEqual(lines[0], "")
-        self.assertRegex(lines[1], r"^play: proving left, right \(2 to 3 of 4\), \d s so far\x1b\[K$")
+        self.assertRegex(lines[1], r"^play: proving left \(2 of 4\), \d s so far\x1b\[K$")
         self.assertTrue(any(re.match(r"play: proving play \(4 of 4\), \d s so far\x1b\[K$", line) for line in lines))
         self.assertRegex("\r".join(lines[-2:]), r"^\x1b\[Kplay: the player is built after \d s\r\n$")
 
@@ -320,16 +325,16 @@ play: the player is built after N s
 
     def test_a_build_that_fails(self):
         _, _, said = self.play("low sleep left", status=1)
-        after = r"\nplay: rt stopped after \d s\nrt: low proved \(1 s\)\nrt: left proved \(1 s\)\nplay: the player could not"
+        after = r"\nplay: rt stopped after \d s\nrt: chose --jobs 2 for low\nrt: chose --jobs 2 for left\nplay: the player could not"
         self.assertRegex(said, after)
-        said = "rt: low proved (1 s)\nplay: the player could not be built: rt check play ended with status 1\n"
+        said = "rt: chose --jobs 2 for low\nplay: the player could not be built: rt run in crates/play ended with status 1\n"
         self.assertEqual(self.play("low", status=1), (2, b"", said))
 
     def test_a_player_that_breaks_off(self):
         self.play()
-        (self.root / "target/bin/play").write_text("#!/bin/sh\necho 0 S played\nexit 3\n")
+        (self.root / "crates/play/out/play").write_text("#!/bin/sh\necho 0 S played\nexit 3\n")
         self.assertEqual(self.play(), (2, b"", "play: the player broke off with status 3\n"))
-        (self.root / "target/bin/play").write_text("#!/bin/sh\nprintf '0 S pla'\n")
+        (self.root / "crates/play/out/play").write_text("#!/bin/sh\nprintf '0 S pla'\n")
         self.assertEqual(self.play(), (2, b"", "play: the player broke off with status 0\n"))
 
     def test_an_unreadable_pack_is_told_before_the_build(self):

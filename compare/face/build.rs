@@ -1,4 +1,4 @@
-//! Links the proved code, which `rt staticlib kospelna` and `rt staticlib kospelna_summary` write.
+//! Links the proved code, which `.ci/staticlib` builds.
 
 use std::env;
 use std::path::Path;
@@ -15,7 +15,7 @@ fn main() {
         let library = folder.join(format!("lib{name}.a"));
         println!("cargo::rerun-if-changed={}", library.display());
         if !library.exists() {
-            println!("cargo::error=target/staticlib/lib{name}.a is missing: run `rt staticlib {name}` in the");
+            println!("cargo::error=target/staticlib/lib{name}.a is missing: run `.ci/staticlib` in the");
             println!("cargo::error=repository first (or, to go without the proved code, cargo with --no-default-features)");
             return;
         }

@@ -11,7 +11,7 @@ use compare::reference::player::play;
 use compare::sessions::SESSIONS;
 
 const USAGE: &str = "usage: packs [--player PATH] [--count N] [--clean N] [--seed S]
-    --player PATH   the program (default target/bin/play)
+    --player PATH   the program (default crates/play/out/play)
     --count N       how many packs (default 2000)
     --clean N       how many clean packs after them (default 300)
     --seed S        the first pack's seed, and the first clean one's (default 1)";
@@ -25,7 +25,7 @@ struct Options {
 
 fn options(mut words: impl Iterator<Item = String>) -> Option<Options> {
     let mut options = Options {
-        player: "target/bin/play".to_string(),
+        player: "crates/play/out/play".to_string(),
         count: 2000,
         clean: 300,
         seed: 1,

@@ -90,7 +90,7 @@ fn transfer(count: usize, frame: &[u8]) -> Vec<u8> {
 /// The player, the reference's, and that of another checkout where one is given.
 pub fn programs(before: Option<&Path>) -> Result<Vec<PathBuf>, String> {
     let here = Path::new(REPOSITORY);
-    let play = ("target/bin/play", "run `rt check play`");
+    let play = ("crates/play/out/play", "run `rt run` in crates/play");
     let reference = (
         "compare/target/release/reference_player",
         "run `cargo build --release` in compare/",
