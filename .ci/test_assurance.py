@@ -16,7 +16,7 @@ def told_of(change, without=None):
     with tempfile.TemporaryDirectory() as folder:
         for part in os.listdir(ROOT):
             if part in (".ci", "docs") or without and without.startswith(f"{part}/"):
-                shutil.copytree(f"{ROOT}/{part}", f"{folder}/{part}")
+                shutil.copytree(f"{ROOT}/{part}", f"{folder}/{part}", ignore=shutil.ignore_patterns("out"))
             elif not part.startswith("."):
                 os.symlink(f"{ROOT}/{part}", f"{folder}/{part}")
         if without:
@@ -54,10 +54,10 @@ class Page(unittest.TestCase):
         self.wrong(lambda text: text.replace("make_gap_11, ", ""), "the edit sender/make_gap_11 stands in no row")
 
     def test_a_definition_that_is_not_there(self):
-        self.wrong(swap("`unlessThird`", "`unlessFourth`"), "nothing is called unlessFourth")
+        self.wrong(swap("`unless_third`", "`unless_fourth`"), "nothing is called unless_fourth")
 
     def test_a_definition_of_another_crate(self):
-        self.wrong(swap("`tickOpen`", "`tickOpening`"), "nothing is called tickOpening")
+        self.wrong(swap("`tick_open`", "`tick_opening`"), "nothing is called tick_opening")
 
     def test_a_function_that_is_not_there(self):
         self.wrong(swap("`Sender::post`", "`Sender::poste`"), "nothing is called poste")
