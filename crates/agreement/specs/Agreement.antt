@@ -5,7 +5,7 @@
 --              both lists have
 --   Agreement  this of the events after any calls whatever, so at every moment of every run; what is met later takes nothing
 --              back, since the lists stay
---   stepOf     (Step.antt) the line gives messages in the order and shape in which they were emitted, and no others; it may
+--   step_of    (Step.antt) the line gives messages in the order and shape in which they were emitted, and no others; it may
 --              lose any and repeat any
 use Rattle.std.specs.Prelude.{ℕ, ◌<◌, List, ◌≡◌, length, get_or}
 use Rattle.version.specs.Told.{agreed, failed}

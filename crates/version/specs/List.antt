@@ -72,8 +72,8 @@ list_from bytes versions = pick (is_lent bytes versions) (accepted (placed versi
 unfoldable pub list_of : List ℕ → Result Versions
 list_of bytes = list_from bytes (versions_in bytes)
 
--- what listing answers, whole: an enum holds no array, so the list stands beside the outcome; where
--- it is refused the list is the one of no versions
+-- what listing answers, whole: the list stands beside the outcome; where it is refused the list is the
+-- one of no versions
 abbrev pub listed_of : Result Versions → Listed
 listed_of (accepted v) = record { versions = v; outcome = Accepted }
 listed_of (refused number) = record { versions = placed []; outcome = Refused number }

@@ -39,8 +39,8 @@ fresh side versions control =
 unfoldable pub make_of : Side → Versions → ℕ → Result Talker
 make_of side versions control = pick (is_list versions) (accepted (fresh side versions control)) (refused 11)
 
--- what making answers, whole: an enum holds no array, so the talker stands beside the outcome; where
--- it is refused the talker is a charger with no versions and control-pilot byte 0
+-- what making answers, whole: the talker stands beside the outcome; where it is refused the talker is
+-- a charger with no versions and control-pilot byte 0
 abbrev pub made_of : Result Talker → Made
 made_of (accepted t) = record { talker = t; outcome = Accepted }
 made_of (refused number) = record { talker = fresh Charger (placed []) 0; outcome = Refused number }

@@ -1,4 +1,5 @@
--- `pack::all_events` meets its contract. The invariant: the bytes from `from` on are events just if those from `i` on are. The
+-- `pack::all_events` meets its contract. The bytes are judged one after the other.
+-- Assumes nothing.
 use mathlib.Core.Path.{refl}
 use Rattle.pack.proofs.Paths.{events_on, events_stop, events_end}
 use Rattle.pack.proofs.all_events.Goals as goal

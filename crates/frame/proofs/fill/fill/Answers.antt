@@ -1,4 +1,5 @@
--- `frame::fill::fill` meets its contract. The invariant: i bytes are the new one, and after them is what was
+-- `frame::fill::fill` meets its contract. The bytes are filled one after the other.
+-- Assumes nothing.
 use Prim.Native.Nat.{ℕ, ◌<◌}
 use mathlib.Core.Path.{refl, ◌∙◌, ap}
 use mathlib.Core.List.{List}

@@ -1,4 +1,5 @@
--- `frame::read::all_filler` meets its contract. The invariant: the bytes from `from` on are filler just if those from
+-- `frame::read::all_filler` meets its contract. The bytes are judged one after the other.
+-- Assumes nothing.
 use mathlib.Core.Path.{refl}
 use Rattle.frame.proofs.Laws.{filler_on, filler_stops, filler_ends}
 use Rattle.frame.proofs.read.all_filler.Goals as goal

@@ -1,4 +1,5 @@
--- `groups::table::word_in` meets its contract. The invariant: looking through the whole table finds what looking from word i on
+-- `groups::table::word_in` meets its contract. The words are looked at one after the other.
+-- Assumes nothing.
 use mathlib.Core.Path.{refl, ◌∙◌, sym}
 use Rattle.groups.proofs.Words.{word_here, word_on, word_ends}
 use Rattle.groups.proofs.table.word_in.Goals as goal

@@ -1,4 +1,5 @@
--- `receiver::store::copy` meets its contract. The invariant: the first j bytes are those of the source, the rest is
+-- `receiver::store::copy` meets its contract. The bytes are copied one after the other.
+-- Assumes nothing.
 use mathlib.Core.Path.{◌≡◌}
 use native.Mathlib.Omega.{arith}
 use borrow.Author.Rules.{rules}

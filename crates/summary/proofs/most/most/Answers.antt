@@ -1,4 +1,5 @@
--- `summary::most::most` meets its contract. The invariant: the number named of those from 0 to the last one read, and its
+-- `summary::most::most` meets its contract. The counts are read one after the other.
+-- Assumes nothing.
 use borrow.Author.Rules.{rules}
 use Rattle.summary.proofs.Laws.{naming}
 use Rattle.summary.proofs.most.most.Goals as goal

@@ -1,4 +1,5 @@
--- `version::list::find` meets its contract. The invariant: the version stands from place i on, if
+-- `version::list::find` meets its contract. The places are looked at one after the other.
+-- Assumes nothing.
 use mathlib.Core.Path.{refl}
 use borrow.Author.Rules.{rules}
 use Rattle.version.proofs.Laws.{seeks}

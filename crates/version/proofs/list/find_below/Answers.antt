@@ -1,4 +1,5 @@
--- `version::list::find_below` meets its contract. The invariant: the highest version below stands
+-- `version::list::find_below` meets its contract. The places are looked at one after the other, the last first.
+-- Assumes nothing.
 use mathlib.Core.Path.{refl}
 use native.Mathlib.Nat.{le_refl}
 use borrow.Author.Rules.{rules}

@@ -1,4 +1,5 @@
--- `version::list::rising` meets its contract. The invariant: the list rises just if it does from
+-- `version::list::rising` meets its contract. The versions are compared one after the other.
+-- Assumes nothing.
 use mathlib.Core.Path.{refl}
 use borrow.Author.Rules.{rules}
 use Rattle.version.proofs.Laws.{rises}
