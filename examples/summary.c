@@ -2,7 +2,7 @@
  * some frames go out more than once, and a short one, which clears the counts. Prints every frame as it goes out and both
  * reports, the ticks since the begin first, then the counts that are not 0, their sum and the number that went out most often;
  * a refused call stops it.
- *   cc -std=c11 -Iinclude examples/summary.c target/staticlib/libkospelna.a -o summary */
+ *   cc -std=c11 -Iinclude examples/summary.c target/staticlib/libkospelna_summary.a target/staticlib/libkospelna.a -o summary */
 #include "kospelna.h"
 
 #include <assert.h>
