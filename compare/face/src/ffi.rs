@@ -1,5 +1,5 @@
-//! The proved code: the functions that `crates/kospelna` and, for the summary, `crates/kospelna_summary` export, over
-//! `crate::values`.
+//! The proved code: the functions that `crates/kospelna_c` and, for the summary, `crates/kospelna_summary_c` export,
+//! over `crate::values`.
 
 use crate::interface::{through, Around, Ends, Summary};
 use crate::values::*;
