@@ -2,18 +2,26 @@
 // in the crate player.
 #![tactic(auto)]
 
-ghost use Rattle.std.specs.Prelude.{◌≤◌, length, IfOk};
+ghost use Rattle.std.specs.Prelude.{◌≡◌, ◌≤◌, List, length, take, IfOk, IfSome, OnOk};
+ghost use Rattle.std.specs.Io.KnownBytes.{Appends};
+ghost use Rattle.frame.specs.Result.{accepted};
+ghost use Rattle.text.specs.Text.{refused_text};
+ghost use Rattle.player.specs.Played.{open_of, played};
+ghost use Rattle.player.specs.Whole.{held};
+ghost use Rattle.play.specs.Program.{PlaysOut};
 
 use player::{Opening, Player};
 use std::io;
 use std::io::{Read, Write};
 
 // A pack has at most 65535 bytes: one more is read, so that a longer input is seen to be none.
-const READ: usize = 65536;
+const MOST: usize = 65536;
 
 // Reads until the buffer is full or the input ends, and returns how many bytes it put at its start.
-fn read_full(input: &mut impl Read, buffer: &mut [u8]) -> io::Result<usize>
-    ensures { IfOk result (λ n. n ≤ length buffer.new) }
+fn read_full<R: Read>(input: &mut R, buffer: &mut [u8]) -> io::Result<usize>
+    ensures fits { IfOk result (λ n. n ≤ length buffer.new) }
+    ensures bytes { IfOk result (λ n. IfSome (R.remaining input.old)
+        (λ given. take n buffer.new ≡ take (length buffer.old) given)) }
 {
     let mut done = 0;
     while done < buffer.len() {
@@ -27,23 +35,27 @@ fn read_full(input: &mut impl Read, buffer: &mut [u8]) -> io::Result<usize>
 }
 
 // The part of a page that is written goes out.
-fn show(out: &mut impl Write, page: &[u8], written: usize) -> io::Result<()> {
-    if written <= page.len() {
-        out.write_all(&page[..written])?;
-    }
-    Ok(())
+fn show<W: Write>(out: &mut W, page: &[u8], written: usize) -> io::Result<()>
+    ensures { OnOk result (Appends (W.contents out.old) (W.contents out.new) (take written page.now)) }
+{
+    let shown = written.min(page.len());
+    out.write_all(&page[..shown])
 }
 
 // Plays the events, 128 in a call; 512 calls finish every pack (`PrintsPlayed` in crates/player).
-fn play_events(
-    out: &mut impl Write,
+fn play_events<W: Write>(
+    out: &mut W,
     begun: Player,
     pack: &[u8],
     buffer: &mut [u8],
     forward: &mut [u8],
     back: &mut [u8],
     page: &mut [u8],
-) -> io::Result<()> {
+) -> io::Result<()>
+    ensures { length page.old ≡ 16384
+        → OnOk result (PlaysOut (W.contents out.old) (W.contents out.new) pack.now
+        (held begun forward.old back.old buffer.old)) }
+{
     let mut player = begun;
     let mut calls: usize = 0;
     while calls < 512 {
@@ -58,7 +70,11 @@ fn play_events(
     Ok(())
 }
 
-fn play(out: &mut impl Write, player: Player, pack: &[u8]) -> io::Result<()> {
+// A pack that is opened.
+fn play<W: Write>(out: &mut W, player: Player, pack: &[u8]) -> io::Result<()>
+    ensures { open_of pack.now ≡ accepted player
+        → OnOk result (Appends (W.contents out.old) (W.contents out.new) (played pack.now)) }
+{
     let mut page = [0u8; 16384];
     let mut forward = [0u8; 576];
     let mut back = [0u8; 576];
@@ -77,19 +93,34 @@ fn play(out: &mut impl Write, player: Player, pack: &[u8]) -> io::Result<()> {
     )
 }
 
-fn refuse(out: &mut impl Write, number: u8) -> io::Result<()> {
+// A pack that is refused.
+fn refuse<W: Write>(out: &mut W, number: u8) -> io::Result<()>
+    ensures { OnOk result (Appends (W.contents out.old) (W.contents out.new) (refused_text number)) }
+{
     let mut page = [0u8; 32];
     let written = text::refused_line(number, &mut page, 0);
     show(out, &page, written)
 }
 
-fn main(rt: HostRuntime) -> io::Result<()> {
-    let mut input = [0u8; READ];
-    let given = read_full(&mut rt.stdin(), &mut input)?;
-    let pack = &input[..given];
-    let mut out = rt.stdout();
+fn print_pack<W: Write>(out: &mut W, pack: &[u8]) -> io::Result<()>
+    ensures { OnOk result (Appends (W.contents out.old) (W.contents out.new) (played pack.now)) }
+{
     match Player::open(pack) {
-        Opening::Ready(player) => play(&mut out, player, pack),
-        Opening::Refused(number) => refuse(&mut out, number),
+        Opening::Ready(player) => play(out, player, pack),
+        Opening::Refused(number) => refuse(out, number),
     }
+}
+
+// What is printed of an input is what is played of its bytes, whatever they are.
+pub fn run<R: Read, W: Write>(input: &mut R, out: &mut W) -> io::Result<()>
+    ensures { OnOk result (IfSome (R.remaining input.old)
+        (λ given. Appends (W.contents out.old) (W.contents out.new) (played given))) }
+{
+    let mut buffer = [0u8; MOST];
+    let given = read_full(input, &mut buffer)?;
+    print_pack(out, &buffer[..given])
+}
+
+fn main(rt: HostRuntime) -> io::Result<()> {
+    run(&mut rt.stdin(), &mut rt.stdout())
 }
