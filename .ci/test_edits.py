@@ -202,5 +202,56 @@ class Copied(unittest.TestCase):
         self.assertEqual([(good, said.split(":")[0]) for _, good, said in found], [(False, "BAD EDIT")])
 
 
+class Followed(unittest.TestCase):
+    """What is made of a function's answers where an edit changes the texts after which goals and steps are named."""
+
+    BEFORE = {"goals": ["returns-then-x-lt1", "returns"], "steps": ["if-x-lt1"], "arms": ["", "in-V"], "loops": ["invariant-loop-i"]}
+    ANSWERS = (
+        "pub returns-then-x-lt1 : goal.returns-then-x-lt1\n"
+        "returns-then-x-lt1 c = cc (c.if-x-lt1.true, returns-then-x-lt10)\n"
+        "abbrev pub invariant-loop-i : goal.invariant-loop-i\n"
+    )
+
+    def test_names_that_changed(self):
+        after = {"goals": ["returns-then-x-lt2", "returns"], "steps": ["if-x-lt2"], "arms": ["", "in-V"], "loops": ["invariant-loop-j"]}
+        self.assertEqual(
+            edits.followed(self.ANSWERS, self.BEFORE, after),
+            "pub returns-then-x-lt2 : goal.returns-then-x-lt2\n"
+            "returns-then-x-lt2 c = cc (c.if-x-lt2.true, returns-then-x-lt10)\n"
+            "abbrev pub invariant-loop-j : goal.invariant-loop-j\n",
+        )
+
+    def test_names_that_change_places(self):
+        before = {"goals": ["returns-then-f", "returns-else-f"], "steps": [], "arms": [], "loops": []}
+        after = {"goals": ["returns-else-f", "returns-then-f"], "steps": [], "arms": [], "loops": []}
+        text = "returns-then-f c = one\nreturns-else-f c = other\n"
+        self.assertEqual(edits.followed(text, before, after), "returns-else-f c = one\nreturns-then-f c = other\n")
+
+    def test_the_same_names(self):
+        self.assertEqual(edits.followed(self.ANSWERS, self.BEFORE, self.BEFORE), self.ANSWERS)
+
+    def test_another_shape(self):
+        after = self.BEFORE | {"goals": ["returns-then-x-lt2", "returns", "returns-2"]}
+        self.assertEqual(edits.followed(self.ANSWERS, self.BEFORE, after), self.ANSWERS)
+        self.assertEqual(edits.followed(self.ANSWERS, self.BEFORE, {}), self.ANSWERS)
+
+    def test_the_names_of_one_function(self):
+        made = {
+            "needs": [["add-result", "overflow_add-result"], ["returns", "returns"]],
+            "places": [["Start", None, ["", ""], None, []], ["Then1", "Start", ["if1", "if-x-lt1"], None, []]],
+            "arms": [None, ["in-V", 1, []]],
+            "loops": [[["loop", "loop-i"], ["x", "i"]]],
+        }
+        self.assertEqual(
+            edits.names_of(made),
+            {
+                "goals": ["overflow_add-result", "returns"],
+                "steps": ["", "if-x-lt1"],
+                "arms": ["", "in-V"],
+                "loops": ["invariant-loop-i", "decreases-loop-i"],
+            },
+        )
+
+
 if __name__ == "__main__":
     unittest.main()
