@@ -107,7 +107,8 @@ class Tried(unittest.TestCase):
         """Of each edit whether it passes, and which edits each check has; `together` and `alone` name those refused, `together`
         for each check of several in its turn."""
         checks, tree = [], []
-        kept = edits.applied, edits.answers_follow, edits.checked, edits.refused
+        kept = edits.replaced, edits.applied, edits.answers_follow, edits.checked, edits.refused
+        edits.replaced = lambda edit: [("src/lib.rt", edit)]
         edits.applied = lambda copy, name, some: tree.__setitem__(slice(None), some) or ("" if fits or len(some) == 1 else "no")
         edits.answers_follow = lambda copy, name: None
         edits.checked = lambda copy, name: checks.append("".join(tree))
@@ -115,7 +116,7 @@ class Tried(unittest.TestCase):
         try:
             found = {edit: good for edit, good, _ in edits.tried_check("copy", "one", [(e, e) for e in "abc"])}
         finally:
-            edits.applied, edits.answers_follow, edits.checked, edits.refused = kept
+            edits.replaced, edits.applied, edits.answers_follow, edits.checked, edits.refused = kept
         return found, checks
 
     def test_all_refused_together(self):
