@@ -103,12 +103,12 @@ class Checks(unittest.TestCase):
 class Tried(unittest.TestCase):
     """What a check with three edits settles, where the prover is stood in for."""
 
-    def tried(self, together, alone, fits=True):
+    def tried(self, together, alone, fits=True, file="specs/One.antt"):
         """Of each edit whether it passes, and which edits each check has; `together` and `alone` name those refused, `together`
         for each check of several in its turn."""
         checks, tree = [], []
         kept = edits.replaced, edits.applied, edits.answers_follow, edits.checked, edits.refused
-        edits.replaced = lambda edit: [("src/lib.rt", edit)]
+        edits.replaced = lambda edit: [(file, edit)]
         edits.applied = lambda copy, name, some: tree.__setitem__(slice(None), some) or ("" if fits or len(some) == 1 else "no")
         edits.answers_follow = lambda copy, name: None
         edits.checked = lambda copy, name: checks.append("".join(tree))
@@ -125,6 +125,10 @@ class Tried(unittest.TestCase):
     def test_what_is_not_refused_together_is_tried_alone(self):
         self.assertEqual(self.tried(["ac"], "b"), ({"a": True, "b": True, "c": True}, ["abc", "b"]))
         self.assertEqual(self.tried(["ac"], ""), ({"a": True, "b": False, "c": True}, ["abc", "b"]))
+
+    def test_an_edit_of_code_is_tried_again_with_answers_that_follow(self):
+        self.assertEqual(self.tried(["ac"], "", file="src/lib.rt"), ({"a": True, "b": False, "c": True}, ["abc", "b", "b"]))
+        self.assertEqual(self.tried(["ac"], "b", file="src/lib.rt"), ({"a": True, "b": True, "c": True}, ["abc", "b"]))
 
     def test_what_is_left_is_tried_together_while_that_settles_some(self):
         self.assertEqual(self.tried(["a", "b"], "c"), ({"a": True, "b": True, "c": True}, ["abc", "bc", "c"]))
