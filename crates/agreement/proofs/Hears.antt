@@ -12,7 +12,9 @@ use Rattle.frame.proofs.Choice.{pick_elim}
 use Rattle.frame.specs.Result.{Result, accepted, refused}
 use Rattle.version.proofs.Cells.{Cell, rests, negotiates, starts, declines, goes_on, cell_is}
 use Rattle.version.proofs.Places.{at_standing, place_of_holds, place_of_none, place_below_highest, place_below_none}
-use Rattle.version.specs.List.{at, standing, rising, Place, nowhere, here, place_of, find, find_below}
+use Rattle.std.specs.Prelude.{Some, None}
+use Rattle.std.specs.declared.option.Option.{Option}
+use Rattle.version.specs.List.{at, standing, rising, place_of, find, find_below}
 use Rattle.version.specs.Message.{read_of}
 use Rattle.version.specs.Table.{Trigger, connected, period_due, greeted, stopped, limit_due, Entry, fails, vehicle_s1, cell_of}
 use Rattle.version.specs.Talk.{place_or, doing, triggered, connect_of, stop_of, greet_of, functions_state, functions_heard_of, success_trigger, higher_trigger, else_trigger, continue_at, continue_trigger, heard_trigger, hear_judged, hear_of, aged, tick_talking, tick_settled, tick_state, tick_of}
@@ -27,7 +29,7 @@ use Rattle.agreement.specs.Agreement.{Holds, NoneShared}
 use Rattle.agreement.proofs.Ends.{Above, Sure, End, FairOf, Fair, FairBytes, Good, Allows, allowed, does, quiet_good, in_place, owns, Points}
 
 -- no place of the list holds it
-pub missing : (s : List ℕ) (v : ℕ) → place_of s v 0 ≡ nowhere → Holds s v → ⊥
+pub missing : (s : List ℕ) (v : ℕ) → place_of s v 0 ≡ None → Holds s v → ⊥
 missing s v e h = place_of_none s v e h.place h.inside h.is
 
 -- what is known, where a message is no failure, of the version that it names
@@ -58,23 +60,23 @@ module _ (mine theirs : List ℕ) (P : Type 0) (H : ℕ → Type 0) (rises : ris
     AllowsFor k = Allows mine theirs P H t v (vehicle_s1 k)
 
     -- a version that is not in the own list is above every shared one
-    shared_below : find t.versions v ≡ nowhere → (c : ℕ) → Holds mine c → Holds theirs c → c < v
+    shared_below : find t.versions v ≡ None → (c : ℕ) → Holds mine c → Holds theirs c → c < v
     shared_below none c hc kc =
         let le : c ≤ v = a c kc hc in
         let ne : c ≡ v → ⊥ = λ same. missing (standing t.versions) v none (kept t v e (rw same at hc)) in
         omega arith
 
     -- the own version is higher: Ns goes to the highest below the one heard, or there is none and nothing is shared
-    higher : find t.versions v ≡ nowhere → v ≤ own_version t
-        → (p : Place) → find_below t.versions v ≡ p → AllowsFor (higher_trigger p)
-    higher none over nowhere q =
+    higher : find t.versions v ≡ None → v ≤ own_version t
+        → (p : Option ℕ) → find_below t.versions v ≡ p → AllowsFor (higher_trigger p)
+    higher none over None q =
         lone (λ c hc kc.
         let r = kept t c e hc in
         let low : c < v = shared_below none c hc kc in
         let high : v ≤ get_or (standing t.versions) r.place 0 =
         place_below_none (standing t.versions) v q r.place r.inside in
         omega (arith, r.is))
-    higher none over (here n) q =
+    higher none over (Some n) q =
         let top = place_below_highest (standing t.versions) (rw e.list rises) v n q in
         let is : get_or (standing t.versions) n 0 ≡ at t.versions n = at_standing t.versions n top.inside in
         let alone : Holds theirs (own_version t) → ⊥ =
@@ -90,17 +92,17 @@ module _ (mine theirs : List ℕ) (P : Type 0) (H : ℕ → Type 0) (rises : ris
           sure = lower_sure t.verdict (own_version t) (at t.versions n) alone e.sure;
           falls = omega (arith, is, top.less);
         } in
-        subst (λ (x : Place). Points mine theirs P H t (place_or x t.place) t.verdict) (sym q) points
+        subst (λ (x : Option ℕ). Points mine theirs P H t (place_or x t.place) t.verdict) (sym q) points
 
-    not_found : find t.versions v ≡ nowhere → AllowsFor (else_trigger t v)
+    not_found : find t.versions v ≡ None → AllowsFor (else_trigger t v)
     unfolding else_trigger
     not_found q =
         pick_elim AllowsFor (ltb (own_version t) v) (λ lower. tt)
         (λ up. higher q (ltb-false (own_version t) v up) (find_below t.versions v) refl)
 
-    continued : (p : Place) → find t.versions v ≡ p → AllowsFor (continue_at t v p)
-    continued nowhere q = not_found q
-    continued (here n) q =
+    continued : (p : Option ℕ) → find t.versions v ≡ p → AllowsFor (continue_at t v p)
+    continued None q = not_found q
+    continued (Some n) q =
         let found = place_of_holds (standing t.versions) v n q in
         let is : at t.versions n ≡ v = sym (at_standing t.versions n found.0) ∙ found.1 in
         let holds : Holds (standing t.versions) v = record { place = n; inside = found.0; is = found.1 } in
@@ -112,7 +114,7 @@ module _ (mine theirs : List ℕ) (P : Type 0) (H : ℕ → Type 0) (rises : ris
           sure = rw is (h, x);
           falls = rw is (e.above v mine_too h);
         } in
-        subst (λ (x : Place). Points mine theirs P H t (place_or x t.place) Success) (sym q) points
+        subst (λ (x : Option ℕ). Points mine theirs P H t (place_or x t.place) Success) (sym q) points
 
     agreeing : AllowsFor (success_trigger t v)
     unfolding success_trigger

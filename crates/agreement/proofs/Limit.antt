@@ -12,7 +12,9 @@ use Rattle.frame.specs.Count.{increment_of}
 use Rattle.frame.specs.Result.{Result, accepted, refused}
 use Rattle.version.proofs.Cells.{Cell, rests, negotiates, starts, declines, goes_on, cell_is}
 use Rattle.version.proofs.Places.{made_is}
-use Rattle.version.specs.List.{Place, nowhere, here, find, find_below}
+use Rattle.std.specs.Prelude.{Some, None}
+use Rattle.std.specs.declared.option.Option.{Option}
+use Rattle.version.specs.List.{find, find_below}
 use Rattle.version.specs.Message.{read_of}
 use Rattle.version.specs.Table.{Trigger, connected, period_due, success_other, success_below2, success2, failure_heard, continue_same, continue_lower, continue_higher, continue_none, greeted, stopped, limit_due, Entry, fails, vehicle_s1, cell_of}
 use Rattle.version.specs.Talk.{make_of, doing, triggered, connect_of, stop_of, greet_of, functions_state, functions_heard_of, success_trigger, higher_trigger, else_trigger, continue_at, continue_trigger, heard_trigger, hear_judged, hear_of, next_age, limit_is_due, period_is_due, aged, tick_talking, tick_settled, tick_state, tick_of}
@@ -66,15 +68,15 @@ abbrev Otherwise : Trigger → Type 0
 Otherwise k = Connects k → ⊥
 
 module _ (t : Talker) (v : ℕ) where
-  higher_otherwise : (p : Place) → Otherwise (higher_trigger p)
-  higher_otherwise nowhere h = h
-  higher_otherwise (here n) h = h
+  higher_otherwise : (p : Option ℕ) → Otherwise (higher_trigger p)
+  higher_otherwise None h = h
+  higher_otherwise (Some n) h = h
 
-  continue_otherwise : (p : Place) → Otherwise (continue_at t v p)
+  continue_otherwise : (p : Option ℕ) → Otherwise (continue_at t v p)
   unfolding else_trigger
-  continue_otherwise nowhere =
+  continue_otherwise None =
       pick_elim Otherwise _ (λ lower h. h) (λ up. higher_otherwise (find_below t.versions v))
-  continue_otherwise (here n) = λ h. h
+  continue_otherwise (Some n) = λ h. h
 
   success_otherwise : Otherwise (success_trigger t v)
   unfolding success_trigger

@@ -12,7 +12,9 @@ use lib.Dec.{eqb}
 use Rattle.frame.proofs.Choice.{pick_elim}
 use Rattle.frame.specs.Result.{Result, accepted, refused}
 use Rattle.version.proofs.Places.{rising_below}
-use Rattle.version.specs.List.{standing, rising, Place, nowhere, here, find}
+use Rattle.std.specs.Prelude.{Some, None}
+use Rattle.std.specs.declared.option.Option.{Option}
+use Rattle.version.specs.List.{standing, rising, find}
 use Rattle.version.specs.Message.{read_of}
 use Rattle.version.specs.Table.{Trigger}
 use Rattle.version.specs.Talk.{success_trigger, continue_at, continue_trigger, heard_trigger}
@@ -48,9 +50,9 @@ module _ (mine theirs : List ℕ) (P : Type 0) (H : ℕ → Type 0) (t : Talker)
   abbrev Quiet : Trigger → Type 0
   Quiet k = unquestioned k ≡ true
 
-  same_place : (v : ℕ) → v ≡ own_version t → (p : Place) → find t.versions v ≡ p → Quiet (continue_at t v p)
-  same_place v same nowhere q = absurd (missing (standing t.versions) v q (rw same (rw e.list (owns mine theirs P H e))))
-  same_place v same (here n) q = refl
+  same_place : (v : ℕ) → v ≡ own_version t → (p : Option ℕ) → find t.versions v ≡ p → Quiet (continue_at t v p)
+  same_place v same None q = absurd (missing (standing t.versions) v q (rw same (rw e.list (owns mine theirs P H e))))
+  same_place v same (Some n) q = refl
 
   -- where the own success stands, every version heard is the own one
   own_again : Holds theirs (own_version t) → (verdict : Verdict) (v : ℕ) → NamesOf (λ w. w ≤ own_version t) verdict v

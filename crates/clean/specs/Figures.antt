@@ -4,8 +4,6 @@ use Rattle.frame.specs.Choice.{pick}
 use Rattle.frame.specs.Count.{frame_count_of, within}
 use Rattle.frame.specs.Result.{Result, accepted, refused}
 use Rattle.clean.specs.declared.Figures.{Figures}
-use Rattle.clean.specs.declared.Clean.{Clean}
-use Rattle.clean.specs.declared.Clean.TheVariants.{Takes, Refused}
 
 -- E1, the tick and the frames: the first of the N information frames goes out a gap after the begin, each other one a gap
 -- after the one before it, and sent is reported before the next tick; the announcement is one frame more
@@ -20,8 +18,3 @@ figures_of length gap =
     pick (within 9 length 1785)
     (pick (within 1 gap 10) (accepted (figures_for length gap)) (refused 1))
     (refused 2)
-
--- the value or the number that each case of `Clean` tells
-abbrev pub told_clean : Clean → Result Figures
-told_clean (Takes figures) = accepted figures
-told_clean (Refused number) = refused number

@@ -2,8 +2,10 @@
 #![tactic(auto)]
 
 ghost use Rattle.std.specs.Prelude.{◌≡◌, ◌≤◌};
-ghost use Rattle.clean.specs.Figures.{figures_for, told_clean, figures_of};
+ghost use Rattle.clean.specs.Figures.{figures_for, figures_of};
+ghost use Rattle.frame.specs.Result.{told_result};
 
+use frame::Refusal;
 use frame::count::frame_count;
 
 // The ticks and the frames of the report.
@@ -11,13 +13,6 @@ use frame::count::frame_count;
 pub struct Figures {
     pub ticks: u16,
     pub frames: u16,
-}
-
-// What a clean transfer takes, or the number of the refusal.
-#[derive(Clone, Copy)]
-pub enum Clean {
-    Takes(Figures),
-    Refused(u8),
 }
 
 // The figures of a length and a gap that are within their limits.
@@ -34,14 +29,13 @@ fn figures_for(length: u16, gap: u16) -> Figures
 
 // The figures, or refusal 2 where no long message has this length, then refusal 1 where no sender has this gap. Both numbers
 // are wide, so that none is cut before it is judged.
-pub fn figures_of(length: u32, gap: u32) -> Clean
-    ensures { told_clean result ≡ figures_of length gap }
+#[tactic(auto, unfolding(crate::specs::Figures::figures_of, frame::specs::Choice::pick))]
+pub fn figures_of(length: u32, gap: u32) -> Result<Figures, Refusal>
+    ensures { told_result result ≡ figures_of length gap }
 {
-    match length {
-        9..=1785 => match gap {
-            1..=10 => Clean::Takes(figures_for(length as u16, gap as u16)),
-            _ => Clean::Refused(1),
-        },
-        _ => Clean::Refused(2),
+    match (length, gap) {
+        (9..=1785, 1..=10) => Ok(figures_for(length as u16, gap as u16)),
+        (9..=1785, _) => Err(Refusal::Setting),
+        _ => Err(Refusal::Length),
     }
 }

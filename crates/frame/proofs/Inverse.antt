@@ -13,24 +13,13 @@ use lib.ListN.{length, get_or, take, drop, replicate, length-drop}
 use Rattle.frame.specs.Choice.{pick}
 use Rattle.frame.specs.Content.{Content, announcement, information, lm_ack, lm_nack, end_of_ack, sm_rm, sm_ack, sm_urm, Fits, written, content_of}
 use Rattle.frame.specs.Frames.{byte_of, fill_to, part_from, carried, announcement_of, information_of, lm_ack_of, lm_nack_of, end_of_ack_of, sm_rm_of, sm_urm_of, sm_ack_of}
-use Rattle.frame.specs.Reading.{told_reading, named_of, all_filler, has_part, clean_for, longest, read_of}
+use Rattle.frame.specs.Reading.{named_of, all_filler, has_part, clean_for, longest, read_of}
 use Rattle.frame.specs.RoundTrips.{ReadBack, RoundTrips}
-use Rattle.frame.specs.Result.{Result, accepted, refused}
+use Rattle.frame.specs.Result.{accepted}
 use Rattle.frame.specs.declared.Frame.{Frame}
 use Rattle.frame.specs.declared.Parsed.{Parsed}
-use Rattle.frame.specs.declared.Reading.{Reading}
-use Rattle.frame.specs.declared.Reading.TheVariants.{Read, Refused}
 use Rattle.frame.proofs.Choice.{pick_elim, pick_accepted, both_right}
 use Rattle.frame.proofs.Laws.{fill, fill_whole, length_fill, filler_ends, fill_behind, fill_restores, word_whole, word_low, word_high}
-
--- What is told of a reading leaves nothing of it open.
-abbrev pub untold_reading : Result Parsed → Reading
-untold_reading (accepted parsed) = Read parsed
-untold_reading (refused number) = Refused number
-
-pub told_injective : (r : Reading) → untold_reading (told_reading r) ≡ r
-told_injective (Read parsed) = refl
-told_injective (Refused number) = refl
 
 pub read_written : (c : Content) → Fits c → ReadBack c
 unfolding read_of content_of named_of all_filler pick announcement_of information_of lm_ack_of lm_nack_of end_of_ack_of sm_rm_of sm_urm_of sm_ack_of

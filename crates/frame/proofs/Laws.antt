@@ -2,24 +2,28 @@
 -- Assumes nothing.
 use Prim.Native.Nat.{ℕ, zero, suc, ◌+◌, ◌*◌, ◌<◌, ◌≤◌, min}
 use mathlib.Core.Path.{◌≡◌, refl, sym, ap, ◌∙◌}
-use mathlib.Core.Bool.{Bool, true, false, and-false, and-eq-true_iff}
-use mathlib.Core.List.{List, [], ◌∷◌, ◌++◌, append-nil}
+use mathlib.Core.Bool.{Bool, true, false, ◌&&◌, ◌||◌, and-eq-true_iff}
+use mathlib.Core.List.{List, [], ◌∷◌}
 use native.Mathlib.Nat.{le_of_suc-le-suc, not-suc-le-zero}
 use native.Mathlib.Omega.{arith}
-use native.Mathlib.Numerals.{add-one}
-use borrow.Author.Tests.{le-leb, lt-leb, leb-true, eq-eqb, ne_eqb, eqb-true}
+use borrow.Author.Tests.{le-leb, lt-leb, leb-true, ne_eqb, eqb-true}
 use lib.Dec.{eqb}
-use lib.ListN.{length, get_or, take, drop, replicate, drop_of_length-le, get_or-eq_default}
-use lib.Seq.{drop-cons, drop-drop}
+use lib.ListN.{length, get_or, take, drop, drop_of_length-le}
+use lib.Seq.{drop-drop}
+use Rattle.std.specs.Array.{IsFromFnResult, IsFromFnResultFrom}
+use Rattle.std.specs.Fn.{Mut, Called}
+use Rattle.std.specs.List.{list_all}
 use Rattle.frame.specs.Count.{frame_count_of, increment_of, low_byte, high_byte, word_of}
 use Rattle.frame.specs.Choice.{pick}
-use Rattle.frame.specs.Frames.{byte_of, fill_to, carried}
+use Rattle.frame.specs.Frames.{byte_of, fill_to}
 use Rattle.frame.specs.Reading.{named_of, all_filler, has_part, clean_for, used_of, parsed_of, read_of}
 use Rattle.frame.specs.Result.{accepted, refused}
 use Rattle.frame.specs.declared.Frame.{Frame}
-use Rattle.frame.proofs.Choice.{both_left, both_right}
+use Rattle.frame.proofs.Choice.{both_left, both_right, neither_left, neither_right}
 
--- What N is: the least number of sevens that hold l.
+-- What N is: the least number of sevens that hold l. `frame::count::frame_count` meets its contract by these bounds alone:
+-- 7 × 74899 is 2^19 + 5, so that its product is at least N × 2^19 + 5 N, and at most that and 6 × 74899. N + 1 would take 74894
+-- more than 6 × 74899, and 5 N is at most 5 × 9363.
 pub frame_count_bounds : (l : ℕ) → (l ≤ 7 * frame_count_of l) × (7 * frame_count_of l < l + 7)
 unfolding frame_count_of
 frame_count_bounds l = omega arith
@@ -38,15 +42,6 @@ word_low low high l = omega arith
 
 pub word_high : (low high : ℕ) → low < 256 → high < 256 → high_byte (word_of low high) ≡ high
 word_high low high l h = omega arith
-
--- The byte at a place inside a list does not hang on what stands for a missing one; past the end it is that.
-pub get_or_inside : (s : List ℕ) (i d e : ℕ) → i < length s → get_or s i d ≡ get_or s i e
-get_or_inside [] i d e h = absurd (omega arith)
-get_or_inside (b ∷ s) zero d e h = refl
-get_or_inside (b ∷ s) (suc i) d e h = get_or_inside s i d e (omega arith)
-
-pub get_or_outside : (s : List ℕ) (i d : ℕ) → length s ≤ i → d ≡ get_or s i d
-get_or_outside s i d h = sym (get_or-eq_default s d h)
 
 -- n bytes of s from place k on, 0xFF past its end
 abbrev pub bytes_from : ℕ → ℕ → List ℕ → List ℕ
@@ -71,6 +66,44 @@ fill (suc n) [] = ap (λ (l : List ℕ). 255 ∷ l) (fill_empty n 1)
 fill (suc n) (b ∷ s) = ap (λ (l : List ℕ). b ∷ l) (fill n s ∙ sym (bytes_from_tail n 0 b s))
 
 -- As many bytes as are asked for stay as they are.
+-- Bytes that are what is given at each place, filler past its end, are what is given, filled.
+pub filled_each : (n : ℕ) (s t : List ℕ) → length t ≡ n → ((i : ℕ) → i < n → get_or t i 0 ≡ get_or s i 255) → t ≡ fill_to n s
+unfolding fill_to
+filled_each zero s [] h each = refl
+filled_each zero s (b ∷ t) h each = absurd (omega arith)
+filled_each (suc n) s [] h each = absurd (omega arith)
+filled_each (suc n) [] (b ∷ t) h each =
+    let first : b ≡ 255 = each 0 (omega arith) in
+    let more : t ≡ fill_to n [] = filled_each n [] t (omega arith) (λ i k. each (suc i) (omega arith)) in
+    cc
+filled_each (suc n) (a ∷ s) (b ∷ t) h each =
+    let first : b ≡ a = each 0 (omega arith) in
+    let more : t ≡ fill_to n s = filled_each n s t (omega arith) (λ i k. each (suc i) (omega arith)) in
+    cc
+
+-- What a closure gives at the places from i on, while its calls leave it as it is.
+made_from : {F : Type 0} (g : Mut F (ℕ × Unit {0}) ℕ) (f : F) (h : ℕ → ℕ) (t : List ℕ)
+    → ((i y : ℕ) (q : F) → Called g f (i, tt) y q → (q ≡ f) × (y ≡ h i))
+    → (n i j k : ℕ) (q : F) → q ≡ f → i + j ≡ k → j < n → IsFromFnResultFrom g q t i n → get_or t k 0 ≡ h k
+made_from g f h t one zero i j k q same at within made = absurd (omega arith)
+made_from g f h t one (suc n) i zero k q same at within made =
+    let call : Called g f (i, tt) made.1 made.0 = rw same at made.3 in
+    let step = one i made.1 made.0 call in
+    let here : i ≡ k = omega arith in
+    let value : get_or t i 0 ≡ made.1 = made.2.1 0 in
+    let given : made.1 ≡ h i = step.1 in
+    rw here at (value ∙ given)
+made_from g f h t one (suc n) i (suc j) k q same at within made =
+    let call : Called g f (i, tt) made.1 made.0 = rw same at made.3 in
+    let step = one i made.1 made.0 call in
+    made_from g f h t one n (i + 1) j k made.0 step.0 (omega arith) (omega arith) made.4
+
+-- So an array of what a closure gives at its places.
+pub made_each : {F : Type 0} {g : Mut F (ℕ × Unit {0}) ℕ} {f : F} {t : List ℕ} {n : ℕ} (h : ℕ → ℕ) → IsFromFnResult g f t n
+    → ((i y : ℕ) (q : F) → Called g f (i, tt) y q → (q ≡ f) × (y ≡ h i))
+    → (k : ℕ) → k < n → get_or t k 0 ≡ h k
+made_each {g = g} {f = f} {t = t} {n = n} h made one k within = made_from g f h t one n 0 k k f refl (omega arith) within made.each
+
 pub fill_whole : (n : ℕ) (s : List ℕ) → length s ≡ n → fill_to n s ≡ s
 unfolding fill_to
 fill_whole zero [] h = refl
@@ -114,35 +147,9 @@ fill_restores zero (b ∷ s) h =
 fill_restores (suc c) [] h = refl
 fill_restores (suc c) (b ∷ s) h = ap (λ (l : List ℕ). b ∷ l) (fill_restores c s h)
 
--- Judging filler from place i on: it goes on past 0xFF, stops at another byte, and passes at the end.
-pub filler_on : (s : List ℕ) (i : ℕ) → i < length s → get_or s i 0 ≡ 255 → all_filler (drop i s) ≡ all_filler (drop (i + 1) s)
-unfolding all_filler
-filler_on s i h e = rw (add-one, drop-cons s i 0 h, e)
-
-pub filler_stops : (s : List ℕ) (i : ℕ) → i < length s → (get_or s i 0 ≡ 255 → ⊥) → all_filler (drop i s) ≡ false
-unfolding all_filler
-filler_stops s i h e = rw (drop-cons s i 0 h, ne_eqb _ _ e)
-
 pub filler_ends : (s : List ℕ) (i : ℕ) → length s ≤ i → all_filler (drop i s) ≡ true
 unfolding all_filler
 filler_ends s i h = rw (drop_of_length-le s h)
-
--- What a frame uses, by its kind and its number.
-module _ (f : Frame) (l : ℕ) {r : ℕ} where
-  pub used_other : r ≡ named_of f.kind (byte_of f 0) → (f.kind ≡ 1 → ⊥) → r ≡ used_of f l
-  unfolding used_of pick
-  used_other e other = rw (ne_eqb _ _ other) e
-
-  pub used_zero : r ≡ named_of f.kind (byte_of f 0) → byte_of f 0 ≡ 0 → r ≡ used_of f l
-  unfolding used_of pick
-  used_zero e none = rw (lt-leb 1 (byte_of f 0) (omega arith), and-false (eqb f.kind 1)) e
-
-  pub used_part : {count : ℕ} → r ≡ 1 + count → count ≡ carried (byte_of f 0) l → f.kind ≡ 1 → (byte_of f 0 ≡ 0 → ⊥)
-      → r ≡ used_of f l
-  unfolding used_of pick
-  used_part e c one more = rw (eq-eqb _ _ one, le-leb 1 (byte_of f 0) (omega (arith, more))) (e ∙ ap (λ (n : ℕ). 1 + n) c)
-
-pub ruleset uses = (used_other, used_zero, used_part)
 
 -- Reading goes by the range of the kind, then by the filler.
 module _ (f : Frame) (l : ℕ) where
@@ -191,28 +198,32 @@ module _ (f : Frame) (l : ℕ) where
     unfolding used_of pick
     named_judged none = e ∙ rw (u, none)
 
-    pub read_clean : length f.bytes ≡ 8 → filled ≡ true
+    -- full of the message, whatever its kind
+    read_filled_whole : filled ≡ true → length f.bytes ≡ 8
         → accepted (record { kind = f.kind; number = byte_of f 0; clean = true }) ≡ read_of f l
     unfolding clean_for pick
-    read_clean eight t = go (has_part f) refl
+    read_filled_whole t eight = go (has_part f) refl
       where
         go : (b : Bool) → has_part f ≡ b → accepted (record { kind = f.kind; number = byte_of f 0; clean = true }) ≡ read_of f l
         go true has = rw t at (of_part eight has)
         go false none = let whole : true ≡ clean_for f l = rw none refl in read_filled low high (named_judged none) whole t
 
-    module _ {part : Bool} (p : part ≡ has_part f) (d : filled ≡ false) where
-      pub read_unclean : length f.bytes ≡ 8 → part ≡ true
-          → accepted (record { kind = f.kind; number = byte_of f 0; clean = false }) ≡ read_of f l
-      read_unclean eight t = rw d at (of_part eight (sym p ∙ t))
+    module _ {part : Bool} (p : part ≡ has_part f) where
+      pub read_passes : length f.bytes ≡ 8 → (filled || part) ≡ true
+          → accepted (record { kind = f.kind; number = byte_of f 0; clean = filled }) ≡ read_of f l
+      read_passes eight t = go filled refl
+        where
+          go : (b : Bool) → filled ≡ b → accepted (record { kind = f.kind; number = byte_of f 0; clean = filled }) ≡ read_of f l
+          go true whole = rw whole (read_filled_whole whole eight)
+          go false dirty = of_part eight (sym p ∙ (rw dirty at t))
 
-      pub read_dirty : part ≡ false → refused 6 ≡ read_of f l
-      read_dirty t = read_unfilled low high (named_judged (sym p ∙ t)) d
+      pub read_dirty : (filled || part) ≡ false → refused 6 ≡ read_of f l
+      read_dirty t = read_unfilled low high (named_judged (sym p ∙ neither_right filled part t)) (neither_left filled part t)
 
-pub ruleset reads = (read_low, read_high, read_clean, read_unclean, read_dirty)
+pub ruleset reads = (read_low, read_high, read_passes, read_dirty)
 
--- Filling goes byte by byte and ends at the length.
-pub fill_ends : (s t : List ℕ) (i byte : ℕ) → i ≤ length s → length s ≤ i → t ≡ replicate i byte ++ drop i s
-    → t ≡ replicate (length s) byte
-fill_ends s t i byte h k e =
-    let same : i ≡ length s = omega arith in
-    e ∙ rw (drop_of_length-le s k, append-nil, same)
+-- The test of every byte, as the code makes it.
+pub filler_listed : (s : List ℕ) → list_all (λ b. eqb b 255) s ≡ all_filler s
+unfolding all_filler
+filler_listed [] = refl
+filler_listed (b ∷ s) = ap (λ (t : Bool). eqb b 255 && t) (filler_listed s)

@@ -1,5 +1,6 @@
 -- Document 01, Frames: the bytes of every frame.
-use Rattle.std.specs.Prelude.{ℕ, zero, suc, ◌-◌, ◌*◌, min, List, [], ◌∷◌, get_or, drop}
+use Rattle.std.specs.Prelude.{ℕ, zero, suc, ◌-◌, ◌*◌, min, List, [], ◌∷◌, get_or, drop, Some, None}
+use Rattle.std.specs.declared.option.Option.{Option}
 use Rattle.frame.specs.Count.{low_byte, high_byte, word_of}
 use Rattle.frame.specs.declared.Frame.{Frame}
 
@@ -20,6 +21,11 @@ fill_to (suc n) (b ∷ given) = b ∷ fill_to n given
 -- what stands where no frame goes out: kind 0, which no frame has, and eight zeros
 unfoldable pub blank_of : Frame
 blank_of = record { kind = 0; bytes = 0 ∷ 0 ∷ 0 ∷ 0 ∷ 0 ∷ 0 ∷ 0 ∷ 0 ∷ [] }
+
+-- the frame that goes out, the blank one where none does
+abbrev pub frame_or_blank : Option Frame → Frame
+frame_or_blank None = blank_of
+frame_or_blank (Some f) = f
 
 -- Frames, kind 1, number 0: the announcement of a long message, N in d1 and L in d2 and d3
 unfoldable pub announcement_of : ℕ → ℕ → Frame

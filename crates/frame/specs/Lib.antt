@@ -1,3 +1,4 @@
+pub mod Cause
 pub mod Choice
 pub mod Result
 pub mod Count

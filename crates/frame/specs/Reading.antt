@@ -7,13 +7,6 @@ use Rattle.frame.specs.Frames.{byte_of, carried}
 use Rattle.frame.specs.declared.Frame.{Frame}
 use Rattle.frame.specs.Result.{Result, accepted, refused}
 use Rattle.frame.specs.declared.Parsed.{Parsed}
-use Rattle.frame.specs.declared.Reading.{Reading}
-use Rattle.frame.specs.declared.Reading.TheVariants.{Read, Refused}
-
--- document 01's values for each case of `Reading`
-abbrev pub told_reading : Reading → Result Parsed
-told_reading (Read parsed) = accepted parsed
-told_reading (Refused number) = refused number
 
 -- How many bytes of a frame are named, from d0 on, by its kind and its d0; the bytes after them are filler. Frames, each
 -- kind's line: an announcement names d0 to d3, an information frame from number 1 all eight (6 does not judge what

@@ -1,4 +1,6 @@
-// The frames of every kind. Bytes that a kind does not name are filler.
+// The frames of every kind. Bytes that a kind does not name are filler. What a frame carries
+// goes as the numbers that its definition takes. A kind is document 01's number, as in `Frame`; each
+// function is the name of one.
 ghost use Rattle.std.specs.Prelude.{◌≡◌, get_or};
 ghost use Rattle.frame.specs.Frames.{
   fill_to,
@@ -13,28 +15,17 @@ ghost use Rattle.frame.specs.Frames.{
   sm_ack_of,
 };
 
-use crate::count::{high_byte, low_byte};
 use crate::{FILLER, Frame};
+use std::array;
 
-// Stands where no frame is emitted.
+// Stands where no frame is emitted: zeros by name, `blank_of` of the definitions.
+#[tactic(auto, unfolding(crate::specs::Frames::blank_of))]
 pub fn blank() -> Frame
     ensures { result ≡ blank_of }
 {
     Frame {
         kind: 0,
-        bytes: [0, 0, 0, 0, 0, 0, 0, 0],
-    }
-}
-
-// Frame 0 of a long message.
-pub fn announcement(frames: u8, length: u16) -> Frame
-    ensures { result ≡ announcement_of frames length }
-{
-    let low = low_byte(length);
-    let high = high_byte(length);
-    Frame {
-        kind: 1,
-        bytes: [0, frames, low, high, FILLER, FILLER, FILLER, FILLER],
+        bytes: [0; 8],
     }
 }
 
@@ -42,20 +33,42 @@ pub fn announcement(frames: u8, length: u16) -> Frame
 fn byte_or_filler(s: &[u8], at: usize) -> u8
     ensures { result ≡ get_or s.now at 255 }
 {
-    if at < s.len() { s[at] } else { FILLER }
+    s.get(at).copied().unwrap_or(FILLER)
 }
 
-// A frame from number 1 on, with the first seven bytes of a part of the message.
+// The first N bytes of what is given, filler where it has fewer.
+fn filled<const N: usize>(given: &[u8]) -> [u8; N]
+    ensures { result ≡ fill_to N given.now }
+{
+    array::from_fn(|at| byte_or_filler(given, at))
+}
+
+// A frame of a kind that names these bytes, or the first eight of them.
+fn naming(kind: u8, named: &[u8]) -> Frame
+    ensures kind { result.kind ≡ kind }
+    ensures bytes { result.bytes ≡ fill_to 8 named.now }
+{
+    Frame {
+        kind,
+        bytes: filled(named),
+    }
+}
+
+// Frame 0 of a long message.
+#[tactic(auto, unfolding(crate::specs::Frames::fill_to, crate::specs::Frames::announcement_of))]
+pub fn announcement(frames: u8, length: u16) -> Frame
+    ensures { result ≡ announcement_of frames length }
+{
+    let [low, high] = length.to_le_bytes();
+    naming(1, &[0, frames, low, high])
+}
+
+// A frame from number 1 on, with the first seven bytes of a part of the message; by name, since one array is put behind a byte.
+#[tactic(auto, unfolding(crate::specs::Frames::information_of))]
 pub fn information(number: u8, part: &[u8]) -> Frame
     ensures { result ≡ information_of number part.now }
 {
-    let b0 = byte_or_filler(part, 0);
-    let b1 = byte_or_filler(part, 1);
-    let b2 = byte_or_filler(part, 2);
-    let b3 = byte_or_filler(part, 3);
-    let b4 = byte_or_filler(part, 4);
-    let b5 = byte_or_filler(part, 5);
-    let b6 = byte_or_filler(part, 6);
+    let [b0, b1, b2, b3, b4, b5, b6] = filled::<7>(part);
     Frame {
         kind: 1,
         bytes: [number, b0, b1, b2, b3, b4, b5, b6],
@@ -63,74 +76,47 @@ pub fn information(number: u8, part: &[u8]) -> Frame
 }
 
 // Asks for `count` frames from number `start` on.
+#[tactic(auto, unfolding(crate::specs::Frames::fill_to, crate::specs::Frames::lm_ack_of))]
 pub fn lm_ack(start: u8, count: u8) -> Frame
     ensures { result ≡ lm_ack_of start count }
 {
-    Frame {
-        kind: 2,
-        bytes: [start, count, FILLER, FILLER, FILLER, FILLER, FILLER, FILLER],
-    }
+    naming(2, &[start, count])
 }
 
+// Of any byte, not of a `Cause` alone: so its promise says, and C's frames have any.
+#[tactic(auto, unfolding(crate::specs::Frames::fill_to, crate::specs::Frames::lm_nack_of))]
 pub fn lm_nack(cause: u8) -> Frame
     ensures { result ≡ lm_nack_of cause }
 {
-    Frame {
-        kind: 3,
-        bytes: [
-            cause, FILLER, FILLER, FILLER, FILLER, FILLER, FILLER, FILLER,
-        ],
-    }
+    naming(3, &[cause])
 }
 
+#[tactic(auto, unfolding(crate::specs::Frames::fill_to, crate::specs::Frames::end_of_ack_of))]
 pub fn end_of_ack(frames: u8, length: u16) -> Frame
     ensures { result ≡ end_of_ack_of frames length }
 {
-    let low = low_byte(length);
-    let high = high_byte(length);
-    Frame {
-        kind: 4,
-        bytes: [frames, low, high, FILLER, FILLER, FILLER, FILLER, FILLER],
-    }
+    let [low, high] = length.to_le_bytes();
+    naming(4, &[frames, low, high])
 }
 
-// The first eight bytes of a short message, filled.
-fn eight_bytes(message: &[u8]) -> [u8; 8]
-    ensures { result ≡ fill_to 8 message.now }
-{
-    let b0 = byte_or_filler(message, 0);
-    let b1 = byte_or_filler(message, 1);
-    let b2 = byte_or_filler(message, 2);
-    let b3 = byte_or_filler(message, 3);
-    let b4 = byte_or_filler(message, 4);
-    let b5 = byte_or_filler(message, 5);
-    let b6 = byte_or_filler(message, 6);
-    let b7 = byte_or_filler(message, 7);
-    [b0, b1, b2, b3, b4, b5, b6, b7]
-}
-
+#[tactic(auto, unfolding(crate::specs::Frames::sm_rm_of))]
 pub fn sm_rm(message: &[u8]) -> Frame
     ensures { result ≡ sm_rm_of message.now }
 {
-    let bytes = eight_bytes(message);
-    Frame { kind: 5, bytes }
+    naming(5, message)
 }
 
+#[tactic(auto, unfolding(crate::specs::Frames::sm_urm_of))]
 pub fn sm_urm(message: &[u8]) -> Frame
     ensures { result ≡ sm_urm_of message.now }
 {
-    let bytes = eight_bytes(message);
-    Frame { kind: 7, bytes }
+    naming(7, message)
 }
 
 // Acknowledges the short message with this first byte.
+#[tactic(auto, unfolding(crate::specs::Frames::fill_to, crate::specs::Frames::sm_ack_of))]
 pub fn sm_ack(first: u8) -> Frame
     ensures { result ≡ sm_ack_of first }
 {
-    Frame {
-        kind: 6,
-        bytes: [
-            first, FILLER, FILLER, FILLER, FILLER, FILLER, FILLER, FILLER,
-        ],
-    }
+    naming(6, &[first])
 }

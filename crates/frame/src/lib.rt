@@ -2,9 +2,13 @@
 #![tactic(auto)]
 
 pub mod build;
+mod cause;
 pub mod count;
-pub mod fill;
 pub mod read;
+mod refusal;
+
+pub use crate::cause::Cause;
+pub use crate::refusal::Refusal;
 
 // What stands in a byte that a kind does not name.
 const FILLER: u8 = 0xFF;
@@ -12,7 +16,8 @@ const FILLER: u8 = 0xFF;
 // The length of the longest message. A frame is read for it where no message is awaited: no frame has anything behind it.
 pub const LONGEST: u16 = 1785;
 
-// A frame: its kind and its eight data bytes, d0 to d7. It is passed and returned by value.
+// A frame: its kind and its eight data bytes, d0 to d7. It is passed and returned by value. The kind is a number, here and in
+// `Parsed`: reading judges any number, and document 01 asks for a match on it (Forms).
 #[derive(Clone, Copy)]
 pub struct Frame {
     pub kind: u8,
@@ -26,11 +31,4 @@ pub struct Parsed {
     pub kind: u8,
     pub number: u8,
     pub clean: bool,
-}
-
-// What reading a frame answers: what it tells of the frame, or the number of the refusal.
-#[derive(Clone, Copy)]
-pub enum Reading {
-    Read(Parsed),
-    Refused(u8),
 }

@@ -1,12 +1,14 @@
-// Reading a frame: what is told of it for a message of a given length, or refusal 6.
+// Reading a frame: what is told of it for a message of a given length, or refusal 6. By the kind's number: document 01 asks for a
+// match on it (Forms).
 ghost use Rattle.std.specs.Prelude.{◌≡◌, drop};
-ghost use Rattle.frame.specs.Reading.{told_reading, named_of, all_filler, has_part, used_of, read_of};
-ghost use Rattle.frame.specs.Result.{refusal_of};
+ghost use Rattle.frame.specs.Reading.{named_of, all_filler, has_part, used_of, read_of};
+ghost use Rattle.frame.specs.Result.{told_result};
 
 use crate::count::carried;
-use crate::{FILLER, Frame, Parsed, Reading};
+use crate::{FILLER, Frame, Parsed, Refusal};
 
 // How many bytes a kind names, from d0 on; those after them are filler.
+#[tactic(auto, unfolding(crate::specs::Reading::named_of, crate::specs::Choice::pick))]
 fn named(kind: u8, number: u8) -> usize
     ensures { result ≡ named_of kind number }
 {
@@ -23,14 +25,7 @@ fn named(kind: u8, number: u8) -> usize
 pub fn all_filler(bytes: &[u8], from: usize) -> bool
     ensures { result ≡ all_filler (drop from bytes.now) }
 {
-    let mut i = from;
-    while i < bytes.len() {
-        if bytes[i] != FILLER {
-            return false;
-        }
-        i += 1;
-    }
-    true
+    bytes.iter().skip(from).all(|byte| *byte == FILLER)
 }
 
 // An information frame from number 1 on.
@@ -41,6 +36,7 @@ fn has_part(f: Frame) -> bool
 }
 
 // How many bytes of a frame are not filler, from d0 on, for a message of this length.
+#[tactic(auto, unfolding(crate::specs::Reading::used_of, crate::specs::Choice::pick))]
 fn used(f: Frame, length: u16) -> usize
     ensures { result ≡ used_of f length }
 {
@@ -57,8 +53,8 @@ fn used(f: Frame, length: u16) -> usize
 
 // What a frame is, if its kind is one of the seven and its filler is as it must be. The filler of an information frame from
 // number 1 on is no reason to refuse it here; whether it is clean for a message of this length is told.
-pub fn read(f: Frame, length: u16) -> Reading
-    ensures { told_reading result ≡ read_of f length }
+pub fn read(f: Frame, length: u16) -> Result<Parsed, Refusal>
+    ensures { told_result result ≡ read_of f length }
 {
     let kind = f.kind;
     let bytes = f.bytes;
@@ -66,33 +62,17 @@ pub fn read(f: Frame, length: u16) -> Reading
         1..=7 => {
             let number = bytes[0];
             let from = used(f, length);
-            if all_filler(&bytes, from) {
-                return Reading::Read(Parsed {
+            let clean = all_filler(&bytes, from);
+            if clean | has_part(f) {
+                Ok(Parsed {
                     kind,
                     number,
-                    clean: true,
-                });
-            }
-            if has_part(f) {
-                Reading::Read(Parsed {
-                    kind,
-                    number,
-                    clean: false,
+                    clean,
                 })
             } else {
-                Reading::Refused(6)
+                Err(Refusal::Unreadable)
             }
         }
-        _ => Reading::Refused(6),
-    }
-}
-
-// The number of a reading that was refused, 0 of another.
-pub fn refusal(reading: Reading) -> u8
-    ensures { result ≡ refusal_of (told_reading reading) }
-{
-    match reading {
-        Reading::Read(_) => 0,
-        Reading::Refused(number) => number,
+        _ => Err(Refusal::Unreadable),
     }
 }

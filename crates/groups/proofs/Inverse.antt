@@ -16,50 +16,18 @@ use Rattle.frame.proofs.Laws.{word_low, word_high}
 use Rattle.frame.specs.Choice.{pick}
 use Rattle.frame.specs.Reading.{all_filler}
 use Rattle.frame.specs.Result.{Result, accepted, refused}
-use Rattle.groups.specs.Answer.{told_finding, told_reading, told_writing}
 use Rattle.groups.specs.Format.{size_of, sizes_of, kinds_of, values, row_allows, value_of, values_of, bytes_of, fields_of, group_of, group_from, bytes_for}
 use Rattle.groups.specs.Reading.{judged, read_row, read_by, read_in}
 use Rattle.groups.specs.RoundTrips.{RoundTrips}
 use Rattle.groups.specs.Table.{rows, find_in}
 use Rattle.groups.specs.Writing.{Outcome, outcome, write_row, write_by, write_in}
-use Rattle.groups.specs.declared.Finding.{Finding}
-use Rattle.groups.specs.declared.Finding.TheVariants as findings
 use Rattle.groups.specs.declared.Group.{Group}
 use Rattle.groups.specs.declared.Kind.{Kind}
-use Rattle.groups.specs.declared.Reading.{Reading}
-use Rattle.groups.specs.declared.Reading.TheVariants as readings
 use Rattle.groups.specs.declared.Row.{Row}
 use Rattle.groups.specs.declared.Width.{Width}
 use Rattle.groups.specs.declared.Width.TheVariants.{None, Byte, Word}
-use Rattle.groups.specs.declared.Writing.{Writing}
-use Rattle.groups.specs.declared.Writing.TheVariants as writings
 use Rattle.groups.proofs.Laws.{field_length}
 use Rattle.groups.proofs.Rows.{Fits, rows_fit, known, room, Fit, all_fit}
-
--- What is told of an answer leaves nothing of it open.
-abbrev pub untold_finding : Result Row → Finding
-untold_finding (accepted x) = findings.Row x
-untold_finding (refused n) = findings.Refused n
-
-pub told_finding_whole : (r : Finding) → untold_finding (told_finding r) ≡ r
-told_finding_whole (findings.Row x) = refl
-told_finding_whole (findings.Refused n) = refl
-
-abbrev pub untold_reading : Result Group → Reading
-untold_reading (accepted g) = readings.Group g
-untold_reading (refused n) = readings.Refused n
-
-pub told_reading_whole : (r : Reading) → untold_reading (told_reading r) ≡ r
-told_reading_whole (readings.Group g) = refl
-told_reading_whole (readings.Refused n) = refl
-
-abbrev pub untold_writing : Result Unit → Writing
-untold_writing (accepted u) = writings.Done
-untold_writing (refused n) = writings.Refused n
-
-pub told_writing_whole : (r : Writing) → untold_writing (told_writing r) ≡ r
-told_writing_whole writings.Done = refl
-told_writing_whole (writings.Refused n) = refl
 
 -- A field: its bytes give the value back, whatever follows them,
 value_back : (w : Width) (v : ℕ) (s : List ℕ) → v < room w → value_of w (bytes_of w v ++ s) ≡ v
@@ -123,8 +91,7 @@ did : (test : Bool) (o : Outcome) (n : ℕ) (s t : List ℕ)
     → pick test o (outcome (refused n) s) ≡ outcome (accepted tt) t → (test ≡ true) × (o ≡ outcome (accepted tt) t)
 unfolding pick
 did true o n s t h = (refl, h)
-did false o n s t h =
-    absurd (let a = ap (λ (o : Outcome). o.answer) h in let z : ◌≡◌ {A = ℕ} 0 1 = cc in omega arith)
+did false o n s t h = let a = ap (λ (o : Outcome). o.answer) h in cc
 
 -- Past a row's own length are the bytes past its code and its fields.
 at_length : (n l : ℕ) → 1 + n ≡ l → (s : List ℕ) → drop l s ≡ drop n (drop 1 s)
@@ -156,7 +123,7 @@ module _ (table : List Row) (fit : Fits table) where
         group = group;
         fine = subst (λ (h : Group). row_allows x (values h) ≡ true) group fine.0;
       }
-  read_by_row s g eight (refused n) found h = absurd (let z : ◌≡◌ {A = ℕ} 0 1 = cc in omega arith)
+  read_by_row s g eight (refused n) found h = cc
 
   read_parts : (s : List ℕ) (g : Group) → read_in table s ≡ accepted g → Read s g
   unfolding read_in
@@ -182,8 +149,7 @@ module _ (table : List Row) (fit : Fits table) where
   write_by_row g s t eight (accepted x) found h =
       let fine = did (row_allows x (values g)) _ 10 s t h in
       record { row = x; eight = eight; found = found; fine = fine.0; bytes = ap (λ (o : Outcome). o.bytes) fine.1 }
-  write_by_row g s t eight (refused n) found h =
-      absurd (let a = ap (λ (o : Outcome). o.answer) h in let z : ◌≡◌ {A = ℕ} 0 1 = cc in omega arith)
+  write_by_row g s t eight (refused n) found h = let a = ap (λ (o : Outcome). o.answer) h in cc
 
   write_parts : (g : Group) (s t : List ℕ) → write_in table g s ≡ outcome (accepted tt) t → Wrote g s t
   unfolding write_in

@@ -2,29 +2,18 @@
 -- definitions, each taken on both sides: every side that refuses names its number and hands back the bytes it was given.
 -- Assumes nothing.
 use Prim.Native.Nat.{ℕ}
-use mathlib.Core.Path.{◌≡◌, refl, sym, ap, subst}
+use mathlib.Core.Path.{◌≡◌, refl}
 use mathlib.Core.Logic.{inl, inr}
 use mathlib.Core.List.{List, [], ◌∷◌}
 use lib.ListN.{get_or}
 use Rattle.frame.proofs.Choice.{pick_elim}
-use Rattle.frame.specs.Result.{Result, accepted, refused, refusal_of}
+use Rattle.frame.specs.Result.{Result, accepted, refused}
 use Rattle.groups.specs.Reading.{judged, read_row, read_by, read_in}
 use Rattle.groups.specs.Refusals.{GroupRefusal, Refusals}
 use Rattle.groups.specs.Table.{rows, find_in}
 use Rattle.groups.specs.Writing.{Outcome, write_row, write_by, write_in}
 use Rattle.groups.specs.declared.Group.{Group}
 use Rattle.groups.specs.declared.Row.{Row}
-
-abbrev Taken : {A : Type 0} → Result A → Type 0
-Taken (accepted x) = Unit
-Taken (refused n) = ⊥
-
--- what is accepted is not refused; a refusal has one number
-not_refused : {A : Type 0} {x : A} {n : ℕ} → accepted x ≡ refused n → ⊥
-not_refused e = subst Taken e tt
-
-same_number : {A : Type 0} {n m : ℕ} → ◌≡◌ {A = Result A} (refused m) (refused n) → n ≡ m
-same_number e = sym (ap refusal_of e)
 
 -- what holds of every row, and of refusal 9, holds of what is found
 find_elim : (P : Result Row → Type 0) (code : ℕ) (table : List Row) → ((x : Row) → P (accepted x)) → P (refused 9)
@@ -35,7 +24,7 @@ find_elim P code (x ∷ rest) row none = pick_elim P _ (λ at. row x) (λ other.
 
 find_numbered : (code : ℕ) (table : List Row) (n : ℕ) → find_in code table ≡ refused n → n ≡ 9
 find_numbered code table n =
-    find_elim (λ (r : Result Row). r ≡ refused n → n ≡ 9) code table (λ x. λ e. absurd (not_refused e)) same_number
+    find_elim (λ (r : Result Row). r ≡ refused n → n ≡ 9) code table (λ x. λ e. cc) (λ e. cc)
 
 -- ---- reading
 
@@ -49,10 +38,10 @@ module _ (n : ℕ) where
       pick_elim Numbered _
       (λ eight. find_elim (λ (r : Result Row). Numbered (read_by s (get_or s 0 0) r)) (get_or s 0 0) table
       (λ x. pick_elim Numbered _
-      (λ filler. pick_elim Numbered _ (λ fine. λ e. absurd (not_refused e)) (λ bad. λ e. inr (same_number e)))
-      (λ dirty. λ e. inl (same_number e)))
-      (λ e. inl (same_number e)))
-      (λ other. λ e. inl (same_number e))
+      (λ filler. pick_elim Numbered _ (λ fine. λ e. cc) (λ bad. λ e. inr cc))
+      (λ dirty. λ e. inl cc))
+      (λ e. inl cc))
+      (λ other. λ e. inl cc)
 
 -- ---- writing
 
@@ -65,9 +54,9 @@ module _ (n : ℕ) (s : List ℕ) where
   write_left table g =
       pick_elim Left _
       (λ eight. find_elim (λ (r : Result Row). Left (write_by g s r)) g.code table
-      (λ x. pick_elim Left _ (λ fine. λ e. absurd (not_refused e)) (λ bad. λ e. (inr (same_number e), refl)))
-      (λ e. (inl (same_number e), refl)))
-      (λ other. λ e. (inl (same_number e), refl))
+      (λ x. pick_elim Left _ (λ fine. λ e. cc) (λ bad. λ e. (inr cc, refl)))
+      (λ e. (inl cc, refl)))
+      (λ other. λ e. (inl cc, refl))
 
 pub refusals : Refusals
 refusals =

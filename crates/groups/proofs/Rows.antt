@@ -34,7 +34,7 @@ module _ (test : Row → Bool) (code : ℕ) (x : Row) where
 
   pub at_code : (table : List Row) → every test table ≡ true → find_in code table ≡ accepted x → Tested
   unfolding find_in
-  at_code [] h e = absurd (let z : ◌≡◌ {A = ℕ} 0 1 = cc in omega arith)
+  at_code [] h e = cc
   at_code (y ∷ rest) h e =
       let both = (and-eq-true_iff (test y) (every test rest)).0 h in
       at_row y rest (eqb y.code code) refl both.0 (at_code rest both.1) e
@@ -84,7 +84,7 @@ pub one_of : (a b c : Bool) (P : Type 0) → (a || b || c) ≡ true → (a ≡ t
 one_of true b c P h p q r = p refl
 one_of false true c P h p q r = q refl
 one_of false false true P h p q r = r refl
-one_of false false false P h p q r = absurd (let z : ◌≡◌ {A = ℕ} 0 1 = cc in omega arith)
+one_of false false false P h p q r = cc
 
 allowed_fits : (k : Kind) (v : ℕ) → kind_fits k ≡ true → allowed k v ≡ true → v < room k.width
 unfolding allowed

@@ -1,4 +1,3 @@
-pub mod Answer
 pub mod Table
 pub mod Words
 pub mod Format

@@ -1,26 +1,25 @@
 -- How the code keeps its two tables: a line is one word, its parts one above the other. Only contracts of functions that are
 -- not exported cite these; what they come to is said by the tables themselves.
-use Rattle.std.specs.Prelude.{ℕ, zero, suc, ◌/◌, ◌%◌, List, [], ◌∷◌, eqb}
-use Rattle.frame.specs.Choice.{pick}
+use Rattle.std.specs.Prelude.{ℕ, zero, suc, ◌/◌, ◌%◌, List, eqb, find, Some, None}
+use Rattle.std.specs.declared.option.Option.{Option}
 use Rattle.frame.specs.Result.{Result, accepted, refused}
 use Rattle.groups.specs.declared.Kind.{Kind}
 use Rattle.groups.specs.declared.Row.{Row}
 use Rattle.groups.specs.declared.Width.{Width}
-use Rattle.groups.specs.declared.Width.TheVariants.{None, Byte, Word}
+use Rattle.groups.specs.declared.Width.TheVariants as widths
 use Rattle.groups.specs.declared.Sender.{Sender}
 use Rattle.groups.specs.declared.Sender.TheVariants.{Charger, Vehicle}
 
--- the first word whose lowest byte is the key, 0 where there is none
-unfoldable pub word_in : ℕ → List ℕ → ℕ
-word_in key [] = 0
-word_in key (w ∷ rest) = pick (eqb (w % 256) key) w (word_in key rest)
+-- the first word whose lowest byte is the key
+unfoldable pub word_in : ℕ → List ℕ → Option ℕ
+word_in key words = find (λ w. eqb (w % 256) key) words
 
 -- a kind from its word
 unfoldable pub width_from : ℕ → Width
-width_from zero = None
-width_from (suc zero) = Byte
-width_from (suc (suc zero)) = Word
-width_from (suc (suc (suc n))) = None
+width_from zero = widths.None
+width_from (suc zero) = widths.Byte
+width_from (suc (suc zero)) = widths.Word
+width_from (suc (suc (suc n))) = widths.None
 
 unfoldable pub kind_from : ℕ → Kind
 kind_from w =
@@ -50,6 +49,7 @@ row_from w =
       fourth = w / 0x1000000000000 % 256;
     }
 
--- what looking for a row says, by the word that was found: 0 is none
-abbrev pub row_in : ℕ → Result Row
-row_in w = pick (eqb w 0) (refused 9) (accepted (row_from w))
+-- what looking for a row says
+abbrev pub row_in : Option Row → Result Row
+row_in None = refused 9
+row_in (Some row) = accepted row

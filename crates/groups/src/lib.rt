@@ -2,18 +2,19 @@
 #![tactic(auto)]
 
 ghost use Rattle.std.specs.Prelude.{◌≡◌, ◌≤◌};
-ghost use Rattle.groups.specs.Answer.{told_finding};
+ghost use Rattle.frame.specs.Result.{told_result};
 ghost use Rattle.groups.specs.Table.{find_of};
 ghost use Rattle.groups.specs.Format.{size_of};
 
-use crate::table::{row_from, row_word};
+use crate::table::row_at;
+use frame::Refusal;
 
 mod judge;
 pub mod read;
 mod table;
 pub mod write;
 
-// What stands in the bytes after a group's own length.
+// What is written into the bytes after a group's own length. Reading judges them by the frames' `all_filler`; edits/ tries this one.
 const FILLER: u8 = 0xFF;
 
 // How many bytes a field has: none, where a group has no such field, one, or two, low byte first.
@@ -40,7 +41,7 @@ pub enum Sender {
     Vehicle,
 }
 
-// A row of the table of groups. Its fields are numbers of kinds.
+// A row of the table of groups. Its fields are numbers of kinds, one by one as the group's values and the C interface have them.
 #[derive(Clone, Copy)]
 pub struct Row {
     pub code: u8,
@@ -53,7 +54,8 @@ pub struct Row {
     pub fourth: usize,
 }
 
-// A group's code and the values of its fields, 0 where it has none.
+// A group's code and the values of its fields, 0 where it has none. One by one, as the C interface has them: to a proof an array is
+// a list of any length, and `read_written` of specs/RoundTrips.antt, which holds of every group, would not hold of those.
 #[derive(Clone, Copy)]
 pub struct Group {
     pub code: u8,
@@ -63,46 +65,22 @@ pub struct Group {
     pub fourth: u16,
 }
 
-// What looking for a code answers: its row, or the number of the refusal.
-#[derive(Clone, Copy)]
-pub enum Finding {
-    Row(Row),
-    Refused(u8),
-}
-
-// What reading answers: the group, or the number of the refusal.
-#[derive(Clone, Copy)]
-pub enum Reading {
-    Group(Group),
-    Refused(u8),
-}
-
-// What writing answers: done, or the number of the refusal.
-#[derive(Clone, Copy)]
-pub enum Writing {
-    Done,
-    Refused(u8),
+impl Width {
+    // How many bytes a field of this width has: a case's size is what it means, and not its number.
+    fn size(self) -> usize
+        ensures { (result ≡ size_of self) × (result ≤ 2) }
+    {
+        match self {
+            Width::None => 0,
+            Width::Byte => 1,
+            Width::Word => 2,
+        }
+    }
 }
 
 // The row of a code, or refusal 9.
-pub fn find(code: u8) -> Finding
-    ensures { told_finding result ≡ find_of code }
+pub fn find(code: u8) -> Result<Row, Refusal>
+    ensures { told_result result ≡ find_of code }
 {
-    let word = row_word(code);
-    if word == 0 {
-        Finding::Refused(9)
-    } else {
-        Finding::Row(row_from(word))
-    }
-}
-
-// How many bytes a field of a width has.
-fn size(width: Width) -> usize
-    ensures { (result ≡ size_of width) × (result ≤ 2) }
-{
-    match width {
-        Width::None => 0,
-        Width::Byte => 1,
-        Width::Word => 2,
-    }
+    row_at(code).ok_or(Refusal::Group)
 }

@@ -1,53 +1,48 @@
 // Reading a group from eight bytes.
-ghost use Rattle.std.specs.Prelude.{◌≡◌, ◌≤◌, get_or, drop};
-ghost use Rattle.groups.specs.Answer.{told_reading};
-ghost use Rattle.groups.specs.Format.{kinds_of, value_of, group_from};
-ghost use Rattle.groups.specs.Reading.{read_row, read_of};
-ghost use Rattle.groups.specs.Words.{row_from};
+ghost use Rattle.std.specs.Prelude.{◌≡◌, ◌+◌, ◌≤◌, get_or, drop};
+ghost use Rattle.frame.specs.Result.{told_result};
+ghost use Rattle.groups.specs.Format.{kinds_of, size_of, value_of, group_from};
+ghost use Rattle.groups.specs.Reading.{read_of};
+ghost use Rattle.groups.specs.Table.{kind_at};
 
 use crate::judge::row_allows;
-use crate::table::{row_from, row_word, width_at};
-use crate::{Group, Reading, Row, Width, size};
+use crate::table::kind_at;
+use crate::{Group, Row, Width, find};
+use frame::Refusal;
+use frame::count::word;
 use frame::read::all_filler;
 
 // The byte at a place, 0 past the end.
-fn byte_at(bytes: &[u8], at: usize) -> u16
-    ensures { (result ≡ get_or bytes.now at 0) × (result ≤ 255) }
+fn byte_at(bytes: &[u8], at: usize) -> u8
+    ensures { result ≡ get_or bytes.now at 0 }
 {
-    if at < bytes.len() {
-        bytes[at] as u16
-    } else {
-        0
-    }
+    bytes.get(at).copied().unwrap_or(0)
 }
 
-// The value of a field that starts at a place.
-fn value_at(bytes: &[u8], at: usize, width: Width) -> u16
+// The value of a field of a kind that starts at a place, and the place behind it.
+fn value_at(bytes: &[u8], at: usize, kind: usize) -> (u16, usize)
     requires { at ≤ 7 }
-    ensures { result ≡ value_of width (drop at bytes.now) }
+    ensures value { result.0 ≡ value_of (kind_at kind).width (drop at bytes.now) }
+    ensures behind { result.1 ≡ at + size_of (kind_at kind).width }
+    ensures near { result.1 ≤ at + 2 }
 {
-    match width {
+    let width = kind_at(kind).width;
+    let value = match width {
         Width::None => 0,
-        Width::Byte => byte_at(bytes, at),
-        Width::Word => byte_at(bytes, at) + 256 * byte_at(bytes, at + 1),
-    }
+        Width::Byte => u16::from(byte_at(bytes, at)),
+        Width::Word => word(byte_at(bytes, at), byte_at(bytes, at + 1)),
+    };
+    (value, at + width.size())
 }
 
 // The code and the fields, one after the other from place 1 on.
 fn group_at(bytes: &[u8], code: u8, row: Row) -> Group
     ensures { result ≡ group_from code (kinds_of row) bytes.now }
 {
-    let one = width_at(row.first);
-    let two = width_at(row.second);
-    let three = width_at(row.third);
-    let four = width_at(row.fourth);
-    let at = 1 + size(one);
-    let next = at + size(two);
-    let last = next + size(three);
-    let first = value_at(bytes, 1, one);
-    let second = value_at(bytes, at, two);
-    let third = value_at(bytes, next, three);
-    let fourth = value_at(bytes, last, four);
+    let (first, at) = value_at(bytes, 1, row.first);
+    let (second, at) = value_at(bytes, at, row.second);
+    let (third, at) = value_at(bytes, at, row.third);
+    let (fourth, _) = value_at(bytes, at, row.fourth);
     Group {
         code,
         first,
@@ -57,35 +52,22 @@ fn group_at(bytes: &[u8], code: u8, row: Row) -> Group
     }
 }
 
-// The group of a row, which is given as its word: refusal 9 for its filler, then 10 for a value.
-fn read_row(bytes: &[u8], code: u8, word: u64) -> Reading
-    ensures { told_reading result ≡ read_row bytes.now code (row_from word) }
-{
-    let row = row_from(word);
-    if all_filler(bytes, row.length) {
-        let group = group_at(bytes, code, row);
-        if row_allows(word, group.first, group.second, group.third, group.fourth) {
-            Reading::Group(group)
-        } else {
-            Reading::Refused(10)
-        }
-    } else {
-        Reading::Refused(9)
-    }
-}
-
 // The group in eight lent bytes: refusal 9 for the length, the code and the filler, then 10 for a value.
-pub fn read(bytes: &[u8]) -> Reading
-    ensures { told_reading result ≡ read_of bytes.now }
+pub fn read(bytes: &[u8]) -> Result<Group, Refusal>
+    ensures { told_result result ≡ read_of bytes.now }
 {
     if bytes.len() != 8 {
-        return Reading::Refused(9);
+        return Err(Refusal::Group);
     }
     let code = bytes[0];
-    let word = row_word(code);
-    if word == 0 {
-        Reading::Refused(9)
+    let row = find(code)?;
+    if !all_filler(bytes, row.length) {
+        return Err(Refusal::Group);
+    }
+    let group = group_at(bytes, code, row);
+    if row_allows(row, group) {
+        Ok(group)
     } else {
-        read_row(bytes, code, word)
+        Err(Refusal::Value)
     }
 }

@@ -88,22 +88,15 @@ const GROUPS: [u64; 9] = [
     0x79 + 2 * LENGTH + VEHICLE + RELIABLE + PAUSE * FIRST,
 ];
 
-// The first word whose lowest part is the key, 0 where there is none.
-fn word_in(table: &[u64], key: u64) -> u64
+// The first word whose lowest part is the key.
+fn word_in(table: &[u64], key: u64) -> Option<u64>
     ensures { result ≡ word_in key table.now }
 {
-    let mut i = 0;
-    while i < table.len() {
-        let word = table[i];
-        if word % 256 == key {
-            return word;
-        }
-        i += 1;
-    }
-    0
+    table.iter().copied().find(|word| *word % 256 == key)
 }
 
-// A width from its part of a kind's word.
+// A width from its part of a kind's word. How the table packs its words is its own, so this and the like are no `From`.
+#[tactic(auto, using(crate::proofs::Laws::width_none), unfolding(crate::specs::Words::width_from))]
 fn width_from(number: u64) -> Width
     ensures { result ≡ width_from number }
 {
@@ -115,12 +108,12 @@ fn width_from(number: u64) -> Width
 }
 
 // A kind from its word.
-pub fn kind_from(word: u64) -> Kind
+#[tactic(auto, unfolding(crate::specs::Words::kind_from))]
+fn kind_from(word: u64) -> Kind
     ensures { result ≡ kind_from word }
 {
-    let width = width_from(word / BYTE % 4);
     Kind {
-        width,
+        width: width_from(word / BYTE % 4),
         low: (word / LOW % 64) as u16,
         high: (word / HIGH % 65536) as u16,
         mark: (word / MARK % 65536) as u16,
@@ -128,23 +121,18 @@ pub fn kind_from(word: u64) -> Kind
     }
 }
 
-// The word of the kind with a number, 0 where there is none.
-pub fn kind_word(number: usize) -> u64
-    ensures { kind_from result ≡ kind_at number }
-{
-    let kinds = KINDS;
-    word_in(&kinds, number as u64)
-}
+// Where a group has no field: a part that is not named is 0, so there is no byte, and the value is 0.
+const NO_FIELD: u64 = 0;
 
-// The width of the kind with a number.
-pub fn width_at(number: usize) -> Width
-    ensures { result ≡ (kind_at number).width }
+// The kind with a number.
+pub fn kind_at(number: usize) -> Kind
+    ensures { result ≡ kind_at number }
 {
-    let kind = kind_from(kind_word(number));
-    kind.width
+    kind_from(word_in(&KINDS, number as u64).unwrap_or(NO_FIELD))
 }
 
 // A sender from its part of a row's word.
+#[tactic(auto, using(crate::proofs::Laws::sender_vehicle), unfolding(crate::specs::Words::sender_from))]
 fn sender_from(number: u64) -> Sender
     ensures { result ≡ sender_from number }
 {
@@ -155,14 +143,14 @@ fn sender_from(number: u64) -> Sender
 }
 
 // A row from its word.
-pub fn row_from(word: u64) -> Row
+#[tactic(auto, unfolding(crate::specs::Words::row_from))]
+fn row_from(word: u64) -> Row
     ensures { result ≡ row_from word }
 {
-    let sender = sender_from(word / VEHICLE % 2);
     Row {
         code: (word % 256) as u8,
         length: (word / LENGTH % 256) as usize,
-        sender,
+        sender: sender_from(word / VEHICLE % 2),
         reliable: word / RELIABLE % 2 == 1,
         first: (word / FIRST % 256) as usize,
         second: (word / SECOND % 256) as usize,
@@ -171,10 +159,9 @@ pub fn row_from(word: u64) -> Row
     }
 }
 
-// The word of the row with a code, 0 where there is none.
-pub fn row_word(code: u8) -> u64
+// The row of a code.
+pub fn row_at(code: u8) -> Option<Row>
     ensures { row_in result ≡ find_of code }
 {
-    let groups = GROUPS;
-    word_in(&groups, code as u64)
+    word_in(&GROUPS, u64::from(code)).map(row_from)
 }

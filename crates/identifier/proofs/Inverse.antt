@@ -7,34 +7,13 @@ use mathlib.Core.Bool.{true}
 use native.Mathlib.Omega.{arith}
 use Rattle.frame.proofs.Choice.{pick_accepted}
 use Rattle.frame.specs.Choice.{pick}
-use Rattle.frame.specs.Result.{Result, accepted, refused}
+use Rattle.frame.specs.Result.{accepted}
 use Rattle.identifier.specs.Identifier.{number_of, parts_of, fits_of, Within}
-use Rattle.identifier.specs.Answer.{told_joined, told_parted, join_of, part_of}
+use Rattle.identifier.specs.Answer.{join_of, part_of}
 use Rattle.identifier.specs.Named.{charger_version_parts, vehicle_version_parts, charger_version, vehicle_version}
 use Rattle.identifier.specs.RoundTrips.{RoundTrips}
 use Rattle.identifier.specs.declared.Parts.{Parts}
-use Rattle.identifier.specs.declared.Joined.{Joined}
-use Rattle.identifier.specs.declared.Parted.{Parted}
-use Rattle.identifier.specs.declared.Joined.TheVariants as joins
-use Rattle.identifier.specs.declared.Parted.TheVariants as partings
 use Rattle.identifier.proofs.Laws.{within, fits_number, join_accepted, part_accepted}
-
--- What is told of an answer leaves nothing of it open.
-abbrev pub untold_joined : Result ℕ → Joined
-untold_joined (accepted n) = joins.Identifier n
-untold_joined (refused n) = joins.Refused n
-
-pub told_joined_whole : (r : Joined) → untold_joined (told_joined r) ≡ r
-told_joined_whole (joins.Identifier n) = refl
-told_joined_whole (joins.Refused n) = refl
-
-abbrev pub untold_parted : Result Parts → Parted
-untold_parted (accepted x) = partings.Into x
-untold_parted (refused n) = partings.Refused n
-
-pub told_parted_whole : (r : Parted) → untold_parted (told_parted r) ≡ r
-told_parted_whole (partings.Into x) = refl
-told_parted_whole (partings.Refused n) = refl
 
 -- The parts of the number of parts inside their widths.
 parts_number : (x : Parts) → Within x → x ≡ parts_of (number_of x)

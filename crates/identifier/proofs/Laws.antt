@@ -6,9 +6,8 @@ use mathlib.Core.Bool.{Bool, true, false, ◌&&◌, and-eq-true_iff, and-true, a
 use native.Mathlib.Omega.{arith}
 use borrow.Author.Tests.{ltb-true, ltb-false, eqb-true, eqb-false, lt-ltb, le-ltb, eq-eqb, ne_eqb}
 use lib.Dec.{eqb, ltb}
-use Rattle.frame.proofs.Choice.{pick_false}
 use Rattle.frame.specs.Choice.{pick}
-use Rattle.frame.specs.Result.{accepted, refused}
+use Rattle.frame.specs.Result.{accepted}
 use Rattle.identifier.specs.Identifier.{number_of, parts_of, fits_of, Within}
 use Rattle.identifier.specs.Answer.{join_of, parts_fit, part_of}
 use Rattle.identifier.specs.declared.Parts.{Parts}
@@ -80,18 +79,8 @@ pub join_accepted : (x : Parts) (n : ℕ) (fits : Bool) → fits ≡ true → fi
 unfolding join_of pick
 join_accepted x n fits t e v = rw (v, ← e, t)
 
-pub join_refused : (x : Parts) (fits : Bool) → fits ≡ false → fits ≡ fits_of x → refused 8 ≡ join_of x
-unfolding join_of
-join_refused x fits t e = pick_false _ (sym e ∙ t) refl
-
 pub part_accepted : (x : Parts) (n : ℕ) (fits : Bool) → fits ≡ true → fits ≡ parts_fit n
     → x ≡ parts_of n
     → accepted x ≡ part_of n
 unfolding part_of pick
 part_accepted x n fits t e v = rw (v, ← e, t)
-
-pub part_refused : (n : ℕ) (fits : Bool) → fits ≡ false → fits ≡ parts_fit n → refused 8 ≡ part_of n
-unfolding part_of
-part_refused n fits t e = pick_false _ (sym e ∙ t) refl
-
-pub ruleset joining = (join_accepted, join_refused, part_accepted, part_refused)

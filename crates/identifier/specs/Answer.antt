@@ -4,19 +4,6 @@ use Rattle.frame.specs.Choice.{pick}
 use Rattle.frame.specs.Result.{Result, accepted, refused}
 use Rattle.identifier.specs.Identifier.{number_of, parts_of, fits_of}
 use Rattle.identifier.specs.declared.Parts.{Parts}
-use Rattle.identifier.specs.declared.Joined.{Joined}
-use Rattle.identifier.specs.declared.Parted.{Parted}
-use Rattle.identifier.specs.declared.Joined.TheVariants as joins
-use Rattle.identifier.specs.declared.Parted.TheVariants as partings
-
--- document 01's values for each case of `Joined` and of `Parted`
-abbrev pub told_joined : Joined → Result ℕ
-told_joined (joins.Identifier n) = accepted n
-told_joined (joins.Refused n) = refused n
-
-abbrev pub told_parted : Parted → Result Parts
-told_parted (partings.Into x) = accepted x
-told_parted (partings.Refused n) = refused n
 
 -- from parts: refused where one does not fit its bits, or where EDP or DP is set
 unfoldable pub join_of : Parts → Result ℕ

@@ -3,13 +3,16 @@
 
 ghost use Rattle.std.specs.Prelude.{◌≡◌};
 ghost use Rattle.identifier.specs.Identifier.{Within, fits_of, number_of, parts_of};
-ghost use Rattle.identifier.specs.Answer.{told_joined, told_parted, join_of, parts_fit, part_of};
+ghost use Rattle.frame.specs.Result.{told_result};
+ghost use Rattle.identifier.specs.Answer.{join_of, parts_fit, part_of};
 ghost use Rattle.identifier.specs.Named.{
   charger_address,
   vehicle_address,
   charger_version,
   vehicle_version,
 };
+
+use frame::Refusal;
 
 // The addresses of the two ends: the charger's and the vehicle's.
 pub const SECC: u32 = 0x56;
@@ -34,21 +37,8 @@ pub struct Parts {
     pub sa: u32,
 }
 
-// What joining answers: the identifier, or the number of the refusal.
-#[derive(Clone, Copy)]
-pub enum Joined {
-    Identifier(u32),
-    Refused(u8),
-}
-
-// What parting answers: the parts, or the number of the refusal.
-#[derive(Clone, Copy)]
-pub enum Parted {
-    Into(Parts),
-    Refused(u8),
-}
-
 // Every part is inside its width, and EDP and DP are 0.
+#[tactic(auto, unfolding(crate::specs::Identifier::fits_of))]
 fn fits(parts: Parts) -> bool
     ensures { result ≡ fits_of parts }
 {
@@ -61,7 +51,8 @@ fn fits(parts: Parts) -> bool
     p & edp & dp & pf & ps & sa
 }
 
-// The number whose bits are those of the parts, one part after the other.
+// The number whose bits are those of the parts, one part after the other. By arithmetic: the library joins whole bytes alone.
+#[tactic(auto, unfolding(crate::specs::Identifier::number_of))]
 fn number_of(parts: Parts) -> u32
     requires { Within parts }
     ensures { result ≡ number_of parts }
@@ -71,17 +62,19 @@ fn number_of(parts: Parts) -> u32
 }
 
 // The identifier of parts, or refusal 8.
-pub fn join(parts: Parts) -> Joined
-    ensures { told_joined result ≡ join_of parts }
+#[tactic(auto, using(crate::proofs::Laws::within), unfolding(crate::specs::Answer::join_of, frame::specs::Choice::pick))]
+pub fn join(parts: Parts) -> Result<u32, Refusal>
+    ensures { told_result result ≡ join_of parts }
 {
     if fits(parts) {
-        Joined::Identifier(number_of(parts))
+        Ok(number_of(parts))
     } else {
-        Joined::Refused(8)
+        Err(Refusal::Identifier)
     }
 }
 
-// The bits of each part.
+// The bits of each part, by arithmetic too: three of the parts are no whole bytes.
+#[tactic(auto, unfolding(crate::specs::Identifier::parts_of))]
 fn parts_of(identifier: u32) -> Parts
     ensures { result ≡ parts_of identifier }
 {
@@ -96,6 +89,7 @@ fn parts_of(identifier: u32) -> Parts
 }
 
 // The parts of an identifier fit: it has 29 bits, and those of EDP and DP are 0.
+#[tactic(auto, using(crate::proofs::Laws::fits_at_once))]
 fn parts_fit(identifier: u32) -> bool
     ensures { result ≡ parts_fit identifier }
 {
@@ -103,17 +97,18 @@ fn parts_fit(identifier: u32) -> bool
 }
 
 // The parts of an identifier, or refusal 8.
-pub fn part(identifier: u32) -> Parted
-    ensures { told_parted result ≡ part_of identifier }
+#[tactic(auto, unfolding(crate::specs::Answer::part_of, frame::specs::Choice::pick))]
+pub fn part(identifier: u32) -> Result<Parts, Refusal>
+    ensures { told_result result ≡ part_of identifier }
 {
     if parts_fit(identifier) {
-        Parted::Into(parts_of(identifier))
+        Ok(parts_of(identifier))
     } else {
-        Parted::Refused(8)
+        Err(Refusal::Identifier)
     }
 }
 
-// The named numbers, for whoever goes by promises.
+// The named numbers, for whoever goes by promises: a function for each, as C has them.
 pub fn charger_address() -> u32
     ensures { result ≡ charger_address }
 {

@@ -1,14 +1,13 @@
--- A law for each path through the groups' functions; what is written flat is read back, and the other way round.
+-- What is written flat of the groups is read back, and the other way round.
 -- Assumes nothing.
 use Prim.Native.Nat.{ℕ, zero, suc, ◌≤◌}
 use mathlib.Core.List.{List, [], ◌∷◌}
-use mathlib.Core.Path.{◌≡◌, refl, ap, ◌∙◌}
+use mathlib.Core.Path.{◌≡◌, refl, ap}
 use native.Mathlib.Omega.{arith}
 use lib.ListN.{get_or}
 use Rattle.frame.proofs.Choice.{pick_elim}
 use Rattle.frame.specs.Choice.{pick}
 use Rattle.frame.specs.Result.{Result, accepted, refused}
-use Rattle.groups.specs.Answer.{told_finding, told_reading, told_writing}
 use Rattle.groups.specs.Reading.{judged, read_row, read_by, read_in, read_of}
 use Rattle.groups.specs.Table.{rows, find_in, find_of}
 use Rattle.groups.specs.Writing.{Outcome, outcome, write_row, write_by, write_in, write_of}
@@ -16,12 +15,6 @@ use Rattle.groups.specs.declared.Group.{Group}
 use Rattle.groups.specs.declared.Row.{Row}
 use Rattle.groups.specs.declared.Sender.{Sender}
 use Rattle.groups.specs.declared.Sender.TheVariants.{Charger, Vehicle}
-use Rattle.groups.specs.declared.Finding.{Finding}
-use Rattle.groups.specs.declared.Reading.{Reading}
-use Rattle.groups.specs.declared.Writing.{Writing}
-use Rattle.groups.specs.declared.Finding.TheVariants as findings
-use Rattle.groups.specs.declared.Reading.TheVariants as readings
-use Rattle.groups.specs.declared.Writing.TheVariants as writings
 use Rattle.kospelna.specs.Group.{group_in, group_out, no_group, reading_out, reading_in, ReadingMade, writing_out, writing_in, Written, written, written_out, written_in, side_number, side_in, row_out, row_in, no_row, finding_out, finding_in, FindingMade, GroupWhole}
 use Rattle.kospelna.specs.Refusals.{result_from, Numbered}
 use Rattle.kospelna.proofs.Refusals.{result_back, result_made, number_again, value_again}
@@ -30,76 +23,6 @@ use Rattle.kospelna.specs.declared.group.FlatGroupReading.{FlatGroupReading}
 use Rattle.kospelna.specs.declared.group.FlatGroupWriting.{FlatGroupWriting}
 use Rattle.kospelna.specs.declared.group.FlatGroupRow.{FlatGroupRow}
 use Rattle.kospelna.specs.declared.group.FlatGroupFinding.{FlatGroupFinding}
-
--- ---- paths
-
-module _ {a : Reading} where
-  pub read_accepted : {g : Group} {f : FlatGroup} → f ≡ group_out g → a ≡ readings.Group g
-      → record { refusal = 0; group = f } ≡ reading_out (told_reading a)
-  read_accepted w e = rw (e, w)
-
-  pub read_refused : {n : ℕ} → a ≡ readings.Refused n
-      → record { refusal = n; group = no_group } ≡ reading_out (told_reading a)
-  read_refused e = rw e
-
-pub read_through : (s : List ℕ) {r : FlatGroupReading} {a : Result Group} → r ≡ reading_out a → a ≡ read_of s
-    → r ≡ reading_out (read_of s)
-read_through s w e = w ∙ ap reading_out e
-
-module _ {a : Writing} where
-  pub write_done : a ≡ writings.Done → record { refusal = 0 } ≡ writing_out (told_writing a)
-  write_done e = rw e
-
-  pub write_refused : {n : ℕ} → a ≡ writings.Refused n → record { refusal = n } ≡ writing_out (told_writing a)
-  write_refused e = rw e
-
-pub write_through : (s : List ℕ) {t : List ℕ} {r : FlatGroupWriting} {a : Result Unit} {x y : Group} → r ≡ writing_out a
-    → outcome a t ≡ write_of x s → x ≡ y → written r t ≡ written_out (write_of y s)
-write_through s {t} w e x =
-    ap (λ (f : FlatGroupWriting). written f t) w ∙ ap written_out (e ∙ ap (λ (g : Group). write_of g s) x)
-
--- a row's side by its number
-pub row_out_lem : (x : Row) {n : ℕ} → n ≡ side_number x.sender
-    → record {
-      code = x.code;
-      length = x.length;
-      side = n;
-      reliable = x.reliable;
-      first = x.first;
-      second = x.second;
-      third = x.third;
-      fourth = x.fourth;
-    }
-    ≡ row_out x
-row_out_lem x e = rw e
-
-module _ {a : Finding} where
-  pub find_accepted : {x : Row} {f : FlatGroupRow} → f ≡ row_out x → a ≡ findings.Row x
-      → record { refusal = 0; row = f } ≡ finding_out (told_finding a)
-  find_accepted w e = rw (e, w)
-
-  pub find_refused : {n : ℕ} → a ≡ findings.Refused n
-      → record { refusal = n; row = no_row } ≡ finding_out (told_finding a)
-  find_refused e = rw e
-
-pub find_through : (n : ℕ) {r : FlatGroupFinding} {a : Result Row} → r ≡ finding_out a → a ≡ find_of n
-    → r ≡ finding_out (find_of n)
-find_through n w e = w ∙ ap finding_out e
-
-pub ruleset group_paths = (
-  read_accepted,
-  read_refused,
-  read_through,
-  write_done,
-  write_refused,
-  write_through,
-  row_out_lem,
-  find_accepted,
-  find_refused,
-  find_through,
-)
-
--- ---- back and forth
 
 -- groups: every value, both ways
 pub group_read : (g : Group) → group_in (group_out g) ≡ g
@@ -146,7 +69,7 @@ written_written w = ap (λ (f : FlatGroupWriting). written f w.bytes) (writing_w
 
 -- rows, whose side is 0 or 1
 side_read : (s : Sender) → side_in (side_number s) ≡ s
-unfolding side_in pick
+unfolding pick
 side_read Charger = refl
 side_read Vehicle = refl
 
@@ -155,7 +78,7 @@ side_made Charger = omega arith
 side_made Vehicle = omega arith
 
 side_written : (n : ℕ) → n ≤ 1 → side_number (side_in n) ≡ n
-unfolding side_in pick
+unfolding pick
 side_written zero h = refl
 side_written (suc zero) h = refl
 side_written (suc (suc n)) h = absurd (omega arith)

@@ -1,60 +1,18 @@
--- A law for each path through the identifier's functions; what is written flat is read back, and the other way round.
+-- What is written flat of the identifier is read back, and the other way round.
 -- Assumes nothing.
 use Prim.Native.Nat.{ℕ}
-use mathlib.Core.Path.{◌≡◌, refl, ap, ◌∙◌}
+use mathlib.Core.Path.{◌≡◌, refl}
 use native.Mathlib.Omega.{arith}
 use Rattle.frame.proofs.Choice.{pick_elim}
 use Rattle.frame.specs.Result.{Result}
-use Rattle.identifier.specs.Answer.{told_joined, told_parted, join_of, part_of}
+use Rattle.identifier.specs.Answer.{join_of, part_of}
 use Rattle.identifier.specs.declared.Parts.{Parts}
-use Rattle.identifier.specs.declared.Joined.{Joined}
-use Rattle.identifier.specs.declared.Parted.{Parted}
-use Rattle.identifier.specs.declared.Joined.TheVariants as joins
-use Rattle.identifier.specs.declared.Parted.TheVariants as partings
 use Rattle.kospelna.specs.Identify.{parts_in, parts_out, joining_out, joining_in, JoiningMade, no_parts, splitting_out, splitting_in, SplittingMade, IdentifierWhole}
 use Rattle.kospelna.specs.Refusals.{Numbered}
 use Rattle.kospelna.proofs.Refusals.{result_back, result_made, number_again, value_again}
 use Rattle.kospelna.specs.declared.identify.FlatIdentifierParts.{FlatIdentifierParts}
 use Rattle.kospelna.specs.declared.identify.FlatIdentifierJoining.{FlatIdentifierJoining}
 use Rattle.kospelna.specs.declared.identify.FlatIdentifierSplitting.{FlatIdentifierSplitting}
-
--- ---- paths
-
-module _ {j : Joined} where
-  pub joined_accepted : {n : ℕ} → j ≡ joins.Identifier n
-      → record { refusal = 0; identifier = n } ≡ joining_out (told_joined j)
-  joined_accepted e = rw e
-
-  pub joined_refused : {n : ℕ} → j ≡ joins.Refused n
-      → record { refusal = n; identifier = 0 } ≡ joining_out (told_joined j)
-  joined_refused e = rw e
-
-pub join_through : {r : FlatIdentifierJoining} {a : Result ℕ} {x y : Parts} → r ≡ joining_out a → a ≡ join_of x → x ≡ y
-    → r ≡ joining_out (join_of y)
-join_through w e x = w ∙ ap joining_out (e ∙ ap join_of x)
-
-module _ {p : Parted} where
-  pub parted_accepted : {x : Parts} {f : FlatIdentifierParts} → f ≡ parts_out x → p ≡ partings.Into x
-      → record { refusal = 0; parts = f } ≡ splitting_out (told_parted p)
-  parted_accepted w e = rw (e, w)
-
-  pub parted_refused : {n : ℕ} → p ≡ partings.Refused n
-      → record { refusal = n; parts = no_parts } ≡ splitting_out (told_parted p)
-  parted_refused e = rw e
-
-pub part_through : (n : ℕ) {r : FlatIdentifierSplitting} {a : Result Parts} → r ≡ splitting_out a → a ≡ part_of n → r ≡ splitting_out (part_of n)
-part_through n w e = w ∙ ap splitting_out e
-
-pub ruleset identify_paths = (
-  joined_accepted,
-  joined_refused,
-  join_through,
-  parted_accepted,
-  parted_refused,
-  part_through,
-)
-
--- ---- back and forth
 
 -- parts: every value, both ways
 pub parts_read : (x : Parts) → parts_in (parts_out x) ≡ x

@@ -1,8 +1,6 @@
 pub mod Numbers
 pub mod Refusals
-pub mod SendPaths
 pub mod SendInverse
-pub mod ReceivePaths
 pub mod ReceiveInverse
 pub mod FiguresLaws
 pub mod IdentifyLaws

@@ -1,26 +1,19 @@
--- A law for each path through the functions of version talk; what is written flat is read back, and the other way round.
+-- What is written flat of version talk is read back, and the other way round.
 -- Assumes nothing.
-use Prim.Native.Nat.{ℕ, zero, suc, ◌≤◌, ◌<◌}
+use Prim.Native.Nat.{ℕ, zero, suc, ◌≤◌}
 use mathlib.Core.List.{List}
-use mathlib.Core.Path.{◌≡◌, refl, ap, ◌∙◌}
+use mathlib.Core.Path.{◌≡◌, refl}
 use native.Mathlib.Omega.{arith}
-use borrow.Author.Tests.{ne_eqb, le-leb, lt-leb}
 use Rattle.frame.specs.Choice.{pick}
-use Rattle.frame.specs.Result as result
 use Rattle.frame.proofs.Choice.{pick_elim}
-use Rattle.frame.specs.Result.{Result, accepted}
+use Rattle.frame.specs.Result.{Result}
 use Rattle.kospelna.specs.Refusals.{Numbered}
 use Rattle.kospelna.proofs.Refusals.{result_back, result_made, number_again, value_again}
-use Rattle.version.specs.List.{list_of, listed_of}
-use Rattle.version.specs.Message.{verdict_byte, told_reading, write_of, read_of}
-use Rattle.version.specs.Talk.{make_of, made_of, connect_of, tick_of, hear_of, stop_of, greet_of, functions_heard_of}
-use Rattle.version.specs.Told.{Told, Outcome, quiet, refused, agreed, failed, left, told_outcome, told}
-use Rattle.version.specs.declared.Answer.{Answer}
-use Rattle.version.specs.declared.Listed.{Listed}
-use Rattle.version.specs.declared.Made as made
+use Rattle.version.specs.List.{list_of}
+use Rattle.version.specs.Message.{verdict_byte, read_of}
+use Rattle.version.specs.Talk.{make_of}
+use Rattle.version.specs.Told.{Told, Outcome, quiet, refused, agreed, failed, left}
 use Rattle.version.specs.declared.Message.{Message}
-use Rattle.version.specs.declared.MessageReading.{MessageReading}
-use Rattle.version.specs.declared.MessageReading.TheVariants as readings
 use Rattle.version.specs.declared.Side.{Side}
 use Rattle.version.specs.declared.Side.TheVariants.{Charger, Vehicle}
 use Rattle.version.specs.declared.State.{State}
@@ -29,7 +22,7 @@ use Rattle.version.specs.declared.Talker.{Talker}
 use Rattle.version.specs.declared.Verdict.{Verdict}
 use Rattle.version.specs.declared.Verdict.TheVariants.{Continue, Success, Failure}
 use Rattle.version.specs.declared.Versions.{Versions}
-use Rattle.kospelna.specs.Talk.{side_number, side_in, state_number, state_in, verdict_in, versions_in, versions_out, no_versions, list_refusal, listed_out, listing_out, listing_in, ListingMade, message_in, message_out, MessageMade, bytes_in, bytes_out, no_bytes, message_bytes, writing_out, writing_in, WritingMade, no_message, reading_out, reading_in, ReadingMade, talker_in, talker_out, TalkerMade, no_talker, making_out, making_in, MakingMade, made_out, outcome_number, outcome_refusal, outcome_version, outcome_in, OutcomeMade, made_quiet, made_refused, made_failed, made_agreed, made_left, answer_out, answer_in, AnswerMade, TalkWhole}
+use Rattle.kospelna.specs.Talk.{side_number, side_in, state_number, state_in, verdict_in, versions_in, versions_out, no_versions, listing_out, listing_in, ListingMade, message_in, message_out, MessageMade, bytes_in, bytes_out, no_bytes, message_bytes, writing_out, writing_in, WritingMade, no_message, reading_out, reading_in, ReadingMade, talker_in, talker_out, TalkerMade, no_talker, making_out, making_in, MakingMade, outcome_number, outcome_refusal, outcome_version, outcome_in, OutcomeMade, made_quiet, made_refused, made_failed, made_agreed, made_left, answer_out, answer_in, AnswerMade, TalkWhole}
 use Rattle.kospelna.specs.declared.talk.FlatVersions.{FlatVersions}
 use Rattle.kospelna.specs.declared.talk.FlatVersionListing.{FlatVersionListing}
 use Rattle.kospelna.specs.declared.talk.FlatVersionMessage.{FlatVersionMessage}
@@ -40,227 +33,10 @@ use Rattle.kospelna.specs.declared.talk.FlatTalker.{FlatTalker}
 use Rattle.kospelna.specs.declared.talk.FlatTalkerMade.{FlatTalkerMade}
 use Rattle.kospelna.specs.declared.talk.FlatTalkerAnswer.{FlatTalkerAnswer}
 
--- ---- paths: numbers
-
-pub side_1 : {n : ℕ} → n ≡ 1 → Vehicle ≡ side_in n
-unfolding side_in pick
-side_1 e = rw e
-
-pub side_other : {n : ℕ} → (n ≡ 1 → ⊥) → Charger ≡ side_in n
-unfolding side_in pick
-side_other {n} a = rw (ne_eqb n 1 a)
-
-pub state_1 : {n : ℕ} → n ≡ 1 → S1 ≡ state_in n
-unfolding state_in pick
-state_1 e = rw e
-
-pub state_2 : {n : ℕ} → n ≡ 2 → S2 ≡ state_in n
-unfolding state_in pick
-state_2 e = rw e
-
-pub state_3 : {n : ℕ} → n ≡ 3 → S3 ≡ state_in n
-unfolding state_in pick
-state_3 e = rw e
-
-pub state_4 : {n : ℕ} → n ≡ 4 → S4 ≡ state_in n
-unfolding state_in pick
-state_4 e = rw e
-
-pub state_5 : {n : ℕ} → n ≡ 5 → S5 ≡ state_in n
-unfolding state_in pick
-state_5 e = rw e
-
-pub state_other : {n : ℕ} → (n ≡ 1 → ⊥) → (n ≡ 2 → ⊥) → (n ≡ 3 → ⊥) → (n ≡ 4 → ⊥) → (n ≡ 5 → ⊥) → S0 ≡ state_in n
-unfolding state_in pick
-state_other {n} a b c d e = rw (ne_eqb n 1 a, ne_eqb n 2 b, ne_eqb n 3 c, ne_eqb n 4 d, ne_eqb n 5 e)
-
-pub verdict_1 : {n : ℕ} → n ≡ 1 → Success ≡ verdict_in n
-unfolding verdict_in pick
-verdict_1 e = rw e
-
-pub verdict_2 : {n : ℕ} → n ≡ 2 → Failure ≡ verdict_in n
-unfolding verdict_in pick
-verdict_2 e = rw e
-
-pub verdict_other : {n : ℕ} → (n ≡ 1 → ⊥) → (n ≡ 2 → ⊥) → Continue ≡ verdict_in n
-unfolding verdict_in pick
-verdict_other {n} a b = rw (ne_eqb n 1 a, ne_eqb n 2 b)
-
-pub ruleset number_paths = (
-  side_1,
-  side_other,
-  state_1,
-  state_2,
-  state_3,
-  state_4,
-  state_5,
-  state_other,
-  verdict_1,
-  verdict_2,
-  verdict_other,
-)
-
--- ---- paths: the list and the message
-
-pub listed_out_lem : (l : Listed) {r : ℕ} {v : FlatVersions} → v ≡ versions_out l.versions → r ≡ list_refusal l.outcome
-    → record { refusal = r; versions = v } ≡ listed_out l
-unfolding listed_out
-listed_out_lem l v r = rw (v, r)
-
-pub list_through : (s : List ℕ) {l : Listed} {r : FlatVersionListing} → r ≡ listed_out l → l ≡ listed_of (list_of s)
-    → r ≡ listing_out (list_of s)
-unfolding listed_out
-list_through s w e = w ∙ ap listed_out e ∙ go (list_of s)
-  where
-    go : (a : Result Versions) → listed_out (listed_of a) ≡ listing_out a
-    go (accepted v) = refl
-    go (result.refused n) = refl
-
-pub message_in_lem : (f : FlatVersionMessage) {v : Verdict} → v ≡ verdict_in f.verdict
-    → record { verdict = v; version = f.version; control = f.control } ≡ message_in f
-unfolding message_in
-message_in_lem f v = rw v
-
-pub message_out_lem : (m : Message) {v : ℕ} → v ≡ verdict_byte m.verdict
-    → record { verdict = v; version = m.version; control = m.control } ≡ message_out m
-unfolding message_out
-message_out_lem m v = rw v
-
-module _ (f : FlatVersionMessage) {r : FlatVersionBytes} where
-  pub write_message : {b : List ℕ} {m : Message} → f.verdict ≤ 2 → r ≡ bytes_out b → b ≡ write_of m → m ≡ message_in f
-      → record { refusal = 0; bytes = r } ≡ writing_out (message_bytes f)
-  unfolding message_bytes pick
-  write_message h w e m = rw (le-leb f.verdict 2 h, w, e, m)
-
-  pub write_refused : 2 < f.verdict → r ≡ no_bytes → record { refusal = 10; bytes = r } ≡ writing_out (message_bytes f)
-  unfolding message_bytes pick
-  write_refused h w = rw (lt-leb f.verdict 2 h, w)
-
-module _ {r : MessageReading} where
-  pub read_message : {m : Message} {f : FlatVersionMessage} → f ≡ message_out m → r ≡ readings.Message m
-      → record { refusal = 0; message = f } ≡ reading_out (told_reading r)
-  read_message w e = rw (e, w)
-
-  pub read_refused : {n : ℕ} → r ≡ readings.Refused n
-      → record { refusal = n; message = no_message } ≡ reading_out (told_reading r)
-  read_refused e = rw e
-
-pub read_through : (s : List ℕ) {f : FlatVersionReading} {j : Result Message} → f ≡ reading_out j → j ≡ read_of s
-    → f ≡ reading_out (read_of s)
-read_through s w e = w ∙ ap reading_out e
-
-pub ruleset message_paths = (
-  listed_out_lem,
-  list_through,
-  message_in_lem,
-  message_out_lem,
-  write_message,
-  write_refused,
-  read_message,
-  read_refused,
-  read_through,
-)
-
--- ---- paths: the talker
-
-pub talker_in_lem : (f : FlatTalker) {side : Side} {versions : Versions} {state : State} {verdict : Verdict}
-    → side ≡ side_in f.side → versions ≡ versions_in f.versions → state ≡ state_in f.state → verdict ≡ verdict_in f.verdict
-    → record {
-      side = side;
-      versions = versions;
-      control = f.control;
-      state = state;
-      place = f.place;
-      verdict = verdict;
-      period = f.period;
-      age = f.age;
-      timing = f.timing;
-    }
-    ≡ talker_in f
-unfolding talker_in
-talker_in_lem f a b c d = rw (a, b, c, d)
-
-pub talker_out_lem : (t : Talker) {side state verdict : ℕ} {versions : FlatVersions}
-    → side ≡ side_number t.side → versions ≡ versions_out t.versions → state ≡ state_number t.state
-    → verdict ≡ verdict_byte t.verdict
-    → record {
-      side = side;
-      versions = versions;
-      control = t.control;
-      state = state;
-      place = t.place;
-      verdict = verdict;
-      period = t.period;
-      age = t.age;
-      timing = t.timing;
-    }
-    ≡ talker_out t
-unfolding talker_out
-talker_out_lem t a b c d = rw (a, b, c, d)
-
-pub answer_out_lem : (a : Answer) {next : FlatTalker} {b : FlatVersionBytes} {o r v : ℕ} → next ≡ talker_out a.next
-    → b ≡ bytes_out a.bytes
-    → o ≡ outcome_number (told_outcome a.outcome) → r ≡ outcome_refusal (told_outcome a.outcome)
-    → v ≡ outcome_version (told_outcome a.outcome)
-    → record { next = next; emits = a.emits; bytes = b; outcome = o; refusal = r; version = v } ≡ answer_out (told a)
-unfolding answer_out
-answer_out_lem a n b o r v = rw (n, b, o, r, v)
-
-pub made_out_lem : (m : made.Made) {r : ℕ} {t : FlatTalker} → t ≡ talker_out m.talker → r ≡ list_refusal m.outcome
-    → record { refusal = r; talker = t } ≡ made_out m
-unfolding made_out
-made_out_lem m t r = rw (t, r)
-
-pub make_through : (control : ℕ) {f : FlatTalkerMade} {m : made.Made} {side a : Side} {versions b : Versions} → f ≡ made_out m
-    → m ≡ made_of (make_of side versions control) → side ≡ a → versions ≡ b → f ≡ making_out (make_of a b control)
-unfolding made_out talker_out
-make_through control {side = side} {versions = versions} w e x y =
-    rw (← x, ← y) (w ∙ ap made_out e ∙ go (make_of side versions control))
-  where
-    go : (r : Result Talker) → made_out (made_of r) ≡ making_out r
-    go (accepted t) = refl
-    go (result.refused n) = refl
-
-module _ {a : Told} {f : FlatTalkerAnswer} {t u : Talker} (w : f ≡ answer_out a) where
-  through : (call : Talker → Told) → a ≡ call t → t ≡ u → f ≡ answer_out (call u)
-  through call e x = w ∙ ap answer_out (e ∙ ap call x)
-
-  pub connect_through : a ≡ connect_of t → t ≡ u → f ≡ answer_out (connect_of u)
-  connect_through = through connect_of
-
-  pub tick_through : a ≡ tick_of t → t ≡ u → f ≡ answer_out (tick_of u)
-  tick_through = through tick_of
-
-  pub hear_through : (s : List ℕ) → a ≡ hear_of t s → t ≡ u → f ≡ answer_out (hear_of u s)
-  hear_through s = through (λ (x : Talker). hear_of x s)
-
-  pub stop_through : a ≡ stop_of t → t ≡ u → f ≡ answer_out (stop_of u)
-  stop_through = through stop_of
-
-  pub greet_through : a ≡ greet_of t → t ≡ u → f ≡ answer_out (greet_of u)
-  greet_through = through greet_of
-
-  pub functions_through : a ≡ functions_heard_of t → t ≡ u → f ≡ answer_out (functions_heard_of u)
-  functions_through = through functions_heard_of
-
-pub ruleset talker_paths = (
-  talker_in_lem,
-  talker_out_lem,
-  made_out_lem,
-  answer_out_lem,
-  make_through,
-  connect_through,
-  tick_through,
-  hear_through,
-  stop_through,
-  greet_through,
-  functions_through,
-)
-
 -- ---- back and forth: numbers
 
 side_read : (s : Side) → side_in (side_number s) ≡ s
-unfolding side_in pick
+unfolding pick
 side_read Charger = refl
 side_read Vehicle = refl
 
@@ -269,13 +45,13 @@ side_made Charger = omega arith
 side_made Vehicle = omega arith
 
 side_written : (n : ℕ) → n ≤ 1 → side_number (side_in n) ≡ n
-unfolding side_in pick
+unfolding pick
 side_written zero h = refl
 side_written (suc zero) h = refl
 side_written (suc (suc n)) h = absurd (omega arith)
 
 state_read : (s : State) → state_in (state_number s) ≡ s
-unfolding state_in pick
+unfolding pick
 state_read S0 = refl
 state_read S1 = refl
 state_read S2 = refl
@@ -292,7 +68,7 @@ state_made S4 = omega arith
 state_made S5 = omega arith
 
 state_written : (n : ℕ) → n ≤ 5 → state_number (state_in n) ≡ n
-unfolding state_in pick
+unfolding pick
 state_written zero h = refl
 state_written (suc zero) h = refl
 state_written (suc (suc zero)) h = refl
@@ -302,7 +78,7 @@ state_written (suc (suc (suc (suc (suc zero))))) h = refl
 state_written (suc (suc (suc (suc (suc (suc n)))))) h = absurd (omega arith)
 
 verdict_read : (v : Verdict) → verdict_in (verdict_byte v) ≡ v
-unfolding verdict_in pick
+unfolding pick
 verdict_read Continue = refl
 verdict_read Success = refl
 verdict_read Failure = refl
@@ -313,7 +89,7 @@ verdict_made Success = omega arith
 verdict_made Failure = omega arith
 
 verdict_written : (n : ℕ) → n ≤ 2 → verdict_byte (verdict_in n) ≡ n
-unfolding verdict_in pick
+unfolding pick
 verdict_written zero h = refl
 verdict_written (suc zero) h = refl
 verdict_written (suc (suc zero)) h = refl
@@ -342,15 +118,12 @@ listing_written f made =
     )
 
 pub message_read : (m : Message) → message_in (message_out m) ≡ m
-unfolding message_in message_out
 message_read m = rw (verdict_read m.verdict)
 
 pub message_made : (m : Message) → MessageMade (message_out m)
-unfolding message_out
 message_made m = verdict_made m.verdict
 
 pub message_written : (f : FlatVersionMessage) → MessageMade f → message_out (message_in f) ≡ f
-unfolding message_in message_out
 message_written f h = rw (verdict_written f.verdict h)
 
 pub bytes_read : (s : List ℕ) → bytes_in (bytes_out s) ≡ s
@@ -395,21 +168,17 @@ unfolding read_of
 read_numbered s = pick_elim Numbered _ (λ e. tt) (λ e. omega arith)
 
 pub bytes_numbered : (f : FlatVersionMessage) → Numbered (message_bytes f)
-unfolding message_bytes
 bytes_numbered f = pick_elim Numbered _ (λ e. tt) (λ e. omega arith)
 
 -- ---- back and forth: the talker and a call's answer
 
 pub talker_read : (t : Talker) → talker_in (talker_out t) ≡ t
-unfolding talker_in talker_out
 talker_read t = rw (side_read t.side, state_read t.state, verdict_read t.verdict)
 
 pub talker_made : (t : Talker) → TalkerMade (talker_out t)
-unfolding talker_out
 talker_made t = (side_made t.side, state_made t.state, verdict_made t.verdict)
 
 pub talker_written : (f : FlatTalker) → TalkerMade f → talker_out (talker_in f) ≡ f
-unfolding talker_in talker_out
 talker_written f h = rw (side_written f.side h.0, state_written f.state h.1, verdict_written f.verdict h.2)
 
 pub making_read : (r : Result Talker) → Numbered r → making_in (making_out r) ≡ r
@@ -438,7 +207,7 @@ outcome_read failed = refl
 outcome_read left = refl
 
 pub answer_read : (a : Told) → answer_in (answer_out a) ≡ a
-unfolding answer_in answer_out
+unfolding answer_in
 answer_read a = rw (talker_read a.next, outcome_read a.outcome)
 
 outcome_made : (o : Outcome) → OutcomeMade (outcome_number o) (outcome_refusal o) (outcome_version o)
@@ -449,7 +218,6 @@ outcome_made failed = made_failed
 outcome_made left = made_left
 
 pub answer_made : (a : Told) → AnswerMade (answer_out a)
-unfolding answer_out
 answer_made a = (talker_made a.next, outcome_made a.outcome)
 
 outcome_written : {n r v : ℕ} → OutcomeMade n r v
@@ -462,7 +230,7 @@ outcome_written (made_agreed v) = (refl, refl, refl)
 outcome_written made_left = (refl, refl, refl)
 
 pub answer_written : (f : FlatTalkerAnswer) → AnswerMade f → answer_out (answer_in f) ≡ f
-unfolding answer_in answer_out
+unfolding answer_in
 answer_written f made =
     let o = outcome_written made.1 in
     rw (talker_written f.next made.0, o.0, o.1, o.2)

@@ -64,7 +64,7 @@ abbrev pub side_number : Sender → ℕ
 side_number Charger = 0
 side_number Vehicle = 1
 
-unfoldable pub side_in : ℕ → Sender
+abbrev pub side_in : ℕ → Sender
 side_in n = pick (eqb n 1) Vehicle Charger
 
 -- a row of the table of groups

@@ -24,7 +24,7 @@ use Rattle.receiver.specs.declared.Settings.{Settings}
 
 -- 1 and 2 are the timeouts counted after an LM_ACK, 3 and 4 none and one after a frame; every other number is read as 0, none
 -- after an LM_ACK
-unfoldable pub misses_from : ℕ → Misses
+abbrev pub misses_from : ℕ → Misses
 misses_from n =
     pick (eqb n 1) OneAfterAck
     (pick (eqb n 2) TwoAfterAck (pick (eqb n 3) NoneAfterFrame (pick (eqb n 4) OneAfterFrame NoneAfterAck)))
@@ -43,7 +43,7 @@ connection_from r =
     }
 
 -- 1 Idle with the N and L last delivered, 2 Open; every other number is read as Idle
-unfoldable pub phase_from : FlatReceiver → Phase
+abbrev pub phase_from : FlatReceiver → Phase
 phase_from r =
     pick (eqb r.phase 1) (Done (record { frames = r.frames; length = r.length }))
     (pick (eqb r.phase 2) (Open (connection_from r)) Idle)
@@ -96,7 +96,7 @@ remembering frames length =
     }
 
 -- 0 Idle, 1 Idle with a delivery remembered, 2 Open
-unfoldable pub flat_phase : Settings → Phase → FlatReceiver
+abbrev pub flat_phase : Settings → Phase → FlatReceiver
 flat_phase settings Idle = flat_of settings 0 (remembering 0 0)
 flat_phase settings (Done x) = flat_of settings 1 (remembering x.frames x.length)
 flat_phase settings (Open x) = flat_of settings 2 x
@@ -116,7 +116,7 @@ abbrev pub report : ℕ → ℕ → ℕ → ℕ → Report
 report outcome refusal cause length = record { outcome = outcome; refusal = refusal; cause = cause; length = length }
 
 -- 0 quiet, 1 refused with its number, 2 delivered with its length, 3 failed with its cause, 4 short; 0 for what is not there
-unfoldable pub flat_outcome : Outcome → Report
+abbrev pub flat_outcome : Outcome → Report
 flat_outcome quiet = report 0 0 0 0
 flat_outcome (refused number) = report 1 number 0 0
 flat_outcome (delivered length) = report 2 0 0 length
@@ -136,14 +136,14 @@ answer_of next t r =
       bytes = t.bytes;
     }
 
-unfoldable pub flat_answer : Told → FlatReceiverAnswer
+abbrev pub flat_answer : Told → FlatReceiverAnswer
 flat_answer t = answer_of (flat_receiver t.next) t (flat_outcome t.outcome)
 
 -- all zeros, where no receiver was made
 abbrev pub no_receiver : FlatReceiver
 no_receiver = flat_of (record { timeout = 0; window = 0; capacity = 0 }) 0 (remembering 0 0)
 
-unfoldable pub flat_made : Result Receiver → FlatReceiverMade
+abbrev pub flat_made : Result Receiver → FlatReceiverMade
 flat_made m = record { refusal = refusal_of m; receiver = value_of flat_receiver no_receiver m }
 
 -- a hearing's answer, and the lent buffer as the hearing leaves it
@@ -154,7 +154,7 @@ pub record FlatHeard : Type 0 where
 abbrev pub hearing : FlatReceiverAnswer → List ℕ → FlatHeard
 hearing a buffer = record { answer = a; buffer = buffer }
 
-unfoldable pub flat_heard : Heard → FlatHeard
+abbrev pub flat_heard : Heard → FlatHeard
 flat_heard h = hearing (flat_answer h.told) h.buffer
 
 -- ---- what a caller reads off an answer

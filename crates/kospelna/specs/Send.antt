@@ -41,7 +41,7 @@ abbrev pub short_from : FlatSender → Transfer → Phase
 short_from s t = Short (record { transfer = t; wait = s.wait })
 
 -- 1 Opening, 2 Sending, 3 Waiting, 4 Short; every other number is read as Idle
-unfoldable pub phase_from : FlatSender → Phase
+abbrev pub phase_from : FlatSender → Phase
 phase_from s =
     pick (eqb s.phase 1) (opening_from s (transfer_from s))
     (pick (eqb s.phase 2) (sending_from s (transfer_from s))
@@ -85,7 +85,7 @@ flat_of settings phase t w wait misses =
     }
 
 -- 0 Idle, 1 Opening, 2 Sending, 3 Waiting, 4 Short
-unfoldable pub flat_phase : Settings → Phase → FlatSender
+abbrev pub flat_phase : Settings → Phase → FlatSender
 flat_phase settings Idle = flat_of settings 0 no_transfer no_window 0 0
 flat_phase settings (Opening x) = flat_of settings 1 x.transfer no_window x.wait x.misses
 flat_phase settings (Sending x) =
@@ -115,7 +115,7 @@ report outcome refusal cause ticks frames =
     record { outcome = outcome; refusal = refusal; cause = cause; ticks = ticks; frames = frames }
 
 -- 0 quiet, 1 refused with its number, 3 failed with its cause, 5 sent; a report's ticks and frames; 0 for what is not there
-unfoldable pub flat_outcome : Outcome → Report
+abbrev pub flat_outcome : Outcome → Report
 flat_outcome quiet = report 0 0 0 0 0
 flat_outcome (refused number) = report 1 number 0 0 0
 flat_outcome (sent ticks frames) = report 5 0 0 ticks frames
@@ -134,14 +134,14 @@ answer_of next t r =
       frames = r.frames;
     }
 
-unfoldable pub flat_answer : Told → FlatSenderAnswer
+abbrev pub flat_answer : Told → FlatSenderAnswer
 flat_answer t = answer_of (flat_sender t.next) t (flat_outcome t.outcome)
 
 -- all zeros, where no sender was made
 abbrev pub no_sender : FlatSender
 no_sender = flat_of (record { gap = 0; timeout = 0; limit = 0 }) 0 no_transfer no_window 0 0
 
-unfoldable pub flat_made : Result Sender → FlatSenderMade
+abbrev pub flat_made : Result Sender → FlatSenderMade
 flat_made m = record { refusal = refusal_of m; sender = value_of flat_sender no_sender m }
 
 -- ---- what a caller reads off an answer

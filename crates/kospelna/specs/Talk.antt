@@ -9,10 +9,6 @@ use Rattle.version.specs.List.{list_of}
 use Rattle.version.specs.Message.{verdict_byte, write_of, read_of}
 use Rattle.version.specs.Talk.{make_of}
 use Rattle.version.specs.Told.{Told, Outcome, quiet, refused, agreed, failed, left}
-use Rattle.version.specs.declared.ListOutcome.{ListOutcome}
-use Rattle.version.specs.declared.ListOutcome.TheVariants.{Accepted, Refused}
-use Rattle.version.specs.declared.Listed.{Listed}
-use Rattle.version.specs.declared.Made as made
 use Rattle.version.specs.declared.Message.{Message}
 use Rattle.version.specs.declared.Side.{Side}
 use Rattle.version.specs.declared.Side.TheVariants.{Charger, Vehicle}
@@ -39,7 +35,7 @@ abbrev pub side_number : Side → ℕ
 side_number Charger = 0
 side_number Vehicle = 1
 
-unfoldable pub side_in : ℕ → Side
+abbrev pub side_in : ℕ → Side
 side_in n = pick (eqb n 1) Vehicle Charger
 
 -- states 0 to 5 are S0 to S5; any other number is read as S0
@@ -51,11 +47,11 @@ state_number S3 = 3
 state_number S4 = 4
 state_number S5 = 5
 
-unfoldable pub state_in : ℕ → State
+abbrev pub state_in : ℕ → State
 state_in n = pick (eqb n 1) S1 (pick (eqb n 2) S2 (pick (eqb n 3) S3 (pick (eqb n 4) S4 (pick (eqb n 5) S5 S0))))
 
 -- result 0 continue, 1 success, 2 failure, as in 001 tables 6 and 7 (`verdict_byte`); any other number is read as continue
-unfoldable pub verdict_in : ℕ → Verdict
+abbrev pub verdict_in : ℕ → Verdict
 verdict_in n = pick (eqb n 1) Success (pick (eqb n 2) Failure Continue)
 
 -- ---- the list
@@ -80,20 +76,12 @@ listing_in f = result_from versions_in f.refusal f.versions
 abbrev pub ListingMade : FlatVersionListing → Type 0
 ListingMade f = Made (λ (v : FlatVersions). Unit) no_versions f.refusal f.versions
 
--- from the answer in which the list stands beside its outcome
-abbrev pub list_refusal : ListOutcome → ℕ
-list_refusal Accepted = 0
-list_refusal (Refused n) = n
-
-unfoldable pub listed_out : Listed → FlatVersionListing
-listed_out l = record { refusal = list_refusal l.outcome; versions = versions_out l.versions }
-
 -- ---- the message
 
-unfoldable pub message_in : FlatVersionMessage → Message
+abbrev pub message_in : FlatVersionMessage → Message
 message_in f = record { verdict = verdict_in f.verdict; version = f.version; control = f.control }
 
-unfoldable pub message_out : Message → FlatVersionMessage
+abbrev pub message_out : Message → FlatVersionMessage
 message_out m = record { verdict = verdict_byte m.verdict; version = m.version; control = m.control }
 
 abbrev pub MessageMade : FlatVersionMessage → Type 0
@@ -120,7 +108,7 @@ abbrev pub ReadingMade : FlatVersionReading → Type 0
 ReadingMade f = Made MessageMade no_message f.refusal f.message
 
 -- a flat message's bytes; Refusals, version list, message: a result above 2 is refused 10
-unfoldable pub message_bytes : FlatVersionMessage → Result (List ℕ)
+abbrev pub message_bytes : FlatVersionMessage → Result (List ℕ)
 message_bytes f = pick (leb f.verdict 2) (accepted (write_of (message_in f))) (result.refused 10)
 
 -- what writing answers: the refusal's number, 0 where there is none, and the bytes, zeros where refused
@@ -138,7 +126,7 @@ WritingMade f = Made (λ (s : FlatVersionBytes). Unit) no_bytes f.refusal f.byte
 
 -- ---- the talker
 
-unfoldable pub talker_in : FlatTalker → Talker
+abbrev pub talker_in : FlatTalker → Talker
 talker_in f =
     record {
       side = side_in f.side;
@@ -152,7 +140,7 @@ talker_in f =
       timing = f.timing;
     }
 
-unfoldable pub talker_out : Talker → FlatTalker
+abbrev pub talker_out : Talker → FlatTalker
 talker_out t =
     record {
       side = side_number t.side;
@@ -194,10 +182,6 @@ making_in f = result_from talker_in f.refusal f.talker
 abbrev pub MakingMade : FlatTalkerMade → Type 0
 MakingMade f = Made TalkerMade no_talker f.refusal f.talker
 
--- from the answer in which the talker stands beside its outcome
-unfoldable pub made_out : made.Made → FlatTalkerMade
-made_out m = record { refusal = list_refusal m.outcome; talker = talker_out m.talker }
-
 -- what a call reports: 0 nothing, 1 refused with its number, 3 failed, 6 agreed with the version, 7 left; number and version
 -- are 0 elsewhere
 abbrev pub outcome_number : Outcome → ℕ
@@ -227,7 +211,7 @@ outcome_in n number version =
     pick (eqb n 1) (refused number) (pick (eqb n 3) failed (pick (eqb n 6) (agreed version) (pick (eqb n 7) left quiet)))
 
 -- a call's whole answer
-unfoldable pub answer_out : Told → FlatTalkerAnswer
+abbrev pub answer_out : Told → FlatTalkerAnswer
 answer_out a =
     record {
       next = talker_out a.next;

@@ -1,33 +1,48 @@
 // A frame in C's layout, and its translation both ways.
 ghost use Rattle.std.specs.Prelude.{◌≡◌};
+ghost use Rattle.frame.specs.Frames.{frame_or_blank};
 ghost use Rattle.kospelna.specs.Frames.{frame_from, flat_frame};
 
 use frame::Frame;
+use frame::build::blank;
 
 // The bytes d0 to d7 and a kind. With the bytes first C passes them in one register.
 #[repr(C)]
-#[derive(Clone, Copy)]
+#[derive(Clone, Copy, Default)]
 pub struct FlatFrame {
     pub bytes: [u8; 8],
     pub kind: u8,
 }
 
-pub fn read_frame(f: FlatFrame) -> Frame
-    ensures { result ≡ frame_from f }
-{
-    let bytes = f.bytes;
-    Frame {
-        kind: f.kind,
-        bytes,
+impl From<FlatFrame> for Frame {
+    ghost from_gives = { λ flat frame. frame ≡ frame_from flat };
+
+    fn from(flat: FlatFrame) -> Frame {
+        let bytes = flat.bytes;
+        Frame {
+            kind: flat.kind,
+            bytes,
+        }
     }
 }
 
-pub(crate) fn write_frame(f: Frame) -> FlatFrame
-    ensures { result ≡ flat_frame f }
-{
-    let bytes = f.bytes;
-    FlatFrame {
-        kind: f.kind,
-        bytes,
+impl From<Frame> for FlatFrame {
+    ghost from_gives = { λ frame flat. flat ≡ flat_frame frame };
+
+    fn from(frame: Frame) -> FlatFrame {
+        let bytes = frame.bytes;
+        FlatFrame {
+            kind: frame.kind,
+            bytes,
+        }
+    }
+}
+
+// Zeros where no frame goes out.
+impl From<Option<Frame>> for FlatFrame {
+    ghost from_gives = { λ frame flat. flat ≡ flat_frame (frame_or_blank frame) };
+
+    fn from(frame: Option<Frame>) -> FlatFrame {
+        FlatFrame::from(frame.unwrap_or(blank()))
     }
 }

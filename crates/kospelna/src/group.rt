@@ -1,5 +1,6 @@
 // The parameter groups: read, written, and looked up.
 ghost use Rattle.std.specs.Prelude.{◌≡◌};
+ghost use Rattle.frame.specs.Result.{told_result};
 ghost use Rattle.kospelna.specs.Group.{
   group_in,
   group_out,
@@ -7,19 +8,22 @@ ghost use Rattle.kospelna.specs.Group.{
   writing_out,
   written,
   written_out,
-  side_number,
   row_out,
   finding_out,
 };
-ghost use Rattle.groups.specs.Answer.{told_finding, told_reading, told_writing};
 ghost use Rattle.groups.specs.Reading.{read_of};
 ghost use Rattle.groups.specs.Table.{find_of};
 ghost use Rattle.groups.specs.Writing.{write_of};
 
-use groups::{Finding, Group, Reading, Row, Sender, Writing};
+use crate::answers::refusal_and_value;
+use frame::Refusal;
+use groups::{Group, Row};
+
+// These structs are the C interface: a refusal's number beside a value, a flag beside what goes out and numbers for cases are
+// C's forms of Result, Option and enum.
 
 #[repr(C)]
-#[derive(Clone, Copy)]
+#[derive(Clone, Copy, Default)]
 pub struct FlatGroup {
     pub code: u8,
     pub first: u16,
@@ -45,7 +49,7 @@ pub struct FlatGroupWriting {
 
 // Side 0 is the charger, 1 the vehicle; the fields are their kinds' numbers.
 #[repr(C)]
-#[derive(Clone, Copy)]
+#[derive(Clone, Copy, Default)]
 pub struct FlatGroupRow {
     pub code: u8,
     pub length: usize,
@@ -65,107 +69,75 @@ pub struct FlatGroupFinding {
     pub row: FlatGroupRow,
 }
 
-fn read_group(f: FlatGroup) -> Group
-    ensures { result ≡ group_in f }
-{
-    Group {
-        code: f.code,
-        first: f.first,
-        second: f.second,
-        third: f.third,
-        fourth: f.fourth,
-    }
-}
+impl From<FlatGroup> for Group {
+    ghost from_gives = { λ flat group. group ≡ group_in flat };
 
-fn write_group(group: Group) -> FlatGroup
-    ensures { result ≡ group_out group }
-{
-    FlatGroup {
-        code: group.code,
-        first: group.first,
-        second: group.second,
-        third: group.third,
-        fourth: group.fourth,
-    }
-}
-
-fn write_reading(reading: Reading) -> FlatGroupReading
-    ensures { result ≡ reading_out (told_reading reading) }
-{
-    match reading {
-        Reading::Group(g) => {
-            let group = write_group(g);
-            FlatGroupReading { refusal: 0, group }
-        }
-        Reading::Refused(refusal) => {
-            let group = FlatGroup {
-                code: 0,
-                first: 0,
-                second: 0,
-                third: 0,
-                fourth: 0,
-            };
-            FlatGroupReading { refusal, group }
+    fn from(f: FlatGroup) -> Group {
+        Group {
+            code: f.code,
+            first: f.first,
+            second: f.second,
+            third: f.third,
+            fourth: f.fourth,
         }
     }
 }
 
-fn write_writing(writing: Writing) -> FlatGroupWriting
-    ensures { result ≡ writing_out (told_writing writing) }
-{
-    match writing {
-        Writing::Done => FlatGroupWriting { refusal: 0 },
-        Writing::Refused(refusal) => FlatGroupWriting { refusal },
-    }
-}
+impl From<Group> for FlatGroup {
+    ghost from_gives = { λ group flat. flat ≡ group_out group };
 
-fn side_number(sender: Sender) -> u8
-    ensures { result ≡ side_number sender }
-{
-    match sender {
-        Sender::Charger => 0,
-        Sender::Vehicle => 1,
-    }
-}
-
-fn write_row(row: Row) -> FlatGroupRow
-    ensures { result ≡ row_out row }
-{
-    let from = row.sender;
-    let side = side_number(from);
-    FlatGroupRow {
-        code: row.code,
-        length: row.length,
-        side,
-        reliable: row.reliable,
-        first: row.first,
-        second: row.second,
-        third: row.third,
-        fourth: row.fourth,
-    }
-}
-
-fn write_finding(finding: Finding) -> FlatGroupFinding
-    ensures { result ≡ finding_out (told_finding finding) }
-{
-    match finding {
-        Finding::Row(x) => {
-            let row = write_row(x);
-            FlatGroupFinding { refusal: 0, row }
+    fn from(group: Group) -> FlatGroup {
+        FlatGroup {
+            code: group.code,
+            first: group.first,
+            second: group.second,
+            third: group.third,
+            fourth: group.fourth,
         }
-        Finding::Refused(refusal) => {
-            let row = FlatGroupRow {
-                code: 0,
-                length: 0,
-                side: 0,
-                reliable: false,
-                first: 0,
-                second: 0,
-                third: 0,
-                fourth: 0,
-            };
-            FlatGroupFinding { refusal, row }
+    }
+}
+
+impl From<Result<Group, Refusal>> for FlatGroupReading {
+    ghost from_gives = { λ reading flat. flat ≡ reading_out (told_result reading) };
+
+    fn from(reading: Result<Group, Refusal>) -> FlatGroupReading {
+        let (refusal, group) = refusal_and_value(reading);
+        FlatGroupReading { refusal, group }
+    }
+}
+
+impl From<Result<(), Refusal>> for FlatGroupWriting {
+    ghost from_gives = { λ writing flat. flat ≡ writing_out (told_result writing) };
+
+    fn from(writing: Result<(), Refusal>) -> FlatGroupWriting {
+        let (refusal, ()) = refusal_and_value(writing);
+        FlatGroupWriting { refusal }
+    }
+}
+
+impl From<Row> for FlatGroupRow {
+    ghost from_gives = { λ row flat. flat ≡ row_out row };
+
+    fn from(row: Row) -> FlatGroupRow {
+        FlatGroupRow {
+            code: row.code,
+            length: row.length,
+            side: row.sender as u8,
+            reliable: row.reliable,
+            first: row.first,
+            second: row.second,
+            third: row.third,
+            fourth: row.fourth,
         }
+    }
+}
+
+impl From<Result<Row, Refusal>> for FlatGroupFinding {
+    ghost from_gives = { λ finding flat. flat ≡ finding_out (told_result finding) };
+
+    fn from(finding: Result<Row, Refusal>) -> FlatGroupFinding {
+        let (refusal, row) = refusal_and_value(finding);
+        FlatGroupFinding { refusal, row }
     }
 }
 
@@ -174,7 +146,7 @@ fn write_finding(finding: Finding) -> FlatGroupFinding
 pub fn kospelna_group_read(bytes: &[u8]) -> FlatGroupReading
     ensures { result ≡ reading_out (read_of bytes.now) }
 {
-    write_reading(groups::read::read(bytes))
+    groups::read::read(bytes).into()
 }
 
 // A group into eight lent bytes: refusal 9 for the length and the code, then 10 for a value; a
@@ -182,14 +154,12 @@ pub fn kospelna_group_read(bytes: &[u8]) -> FlatGroupReading
 pub fn kospelna_group_write(group: FlatGroup, bytes: &mut [u8]) -> FlatGroupWriting
     ensures { written result bytes.new ≡ written_out (write_of (group_in group) bytes.old) }
 {
-    let g = read_group(group);
-    let writing = groups::write::write(g, bytes);
-    write_writing(writing)
+    groups::write::write(group.into(), bytes).into()
 }
 
 // The row of a code in the table of groups, or refusal 9.
 pub fn kospelna_group_find(code: u8) -> FlatGroupFinding
     ensures { result ≡ finding_out (find_of code) }
 {
-    write_finding(groups::find(code))
+    groups::find(code).into()
 }

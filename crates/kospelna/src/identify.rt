@@ -1,13 +1,19 @@
 // The identifier, both ways, and the named numbers.
 ghost use Rattle.std.specs.Prelude.{◌≡◌};
+ghost use Rattle.frame.specs.Result.{told_result};
 ghost use Rattle.kospelna.specs.Identify.{parts_in, parts_out, joining_out, splitting_out};
-ghost use Rattle.identifier.specs.Answer.{told_joined, told_parted, join_of, part_of};
+ghost use Rattle.identifier.specs.Answer.{join_of, part_of};
 ghost use Rattle.identifier.specs.Named.{charger_address, vehicle_address, charger_version, vehicle_version};
 
-use identifier::{Joined, Parted, Parts};
+use crate::answers::refusal_and_value;
+use frame::Refusal;
+use identifier::Parts;
+
+// These structs are the C interface: a refusal's number beside a value, a flag beside what goes out and numbers for cases are
+// C's forms of Result, Option and enum.
 
 #[repr(C)]
-#[derive(Clone, Copy)]
+#[derive(Clone, Copy, Default)]
 pub struct FlatIdentifierParts {
     pub p: u32,
     pub edp: u32,
@@ -33,66 +39,54 @@ pub struct FlatIdentifierSplitting {
     pub parts: FlatIdentifierParts,
 }
 
-fn read_parts(f: FlatIdentifierParts) -> Parts
-    ensures { result ≡ parts_in f }
-{
-    Parts {
-        p: f.p,
-        edp: f.edp,
-        dp: f.dp,
-        pf: f.pf,
-        ps: f.ps,
-        sa: f.sa,
+impl From<FlatIdentifierParts> for Parts {
+    ghost from_gives = { λ flat parts. parts ≡ parts_in flat };
+
+    fn from(f: FlatIdentifierParts) -> Parts {
+        Parts {
+            p: f.p,
+            edp: f.edp,
+            dp: f.dp,
+            pf: f.pf,
+            ps: f.ps,
+            sa: f.sa,
+        }
     }
 }
 
-fn write_parts(parts: Parts) -> FlatIdentifierParts
-    ensures { result ≡ parts_out parts }
-{
-    FlatIdentifierParts {
-        p: parts.p,
-        edp: parts.edp,
-        dp: parts.dp,
-        pf: parts.pf,
-        ps: parts.ps,
-        sa: parts.sa,
+impl From<Parts> for FlatIdentifierParts {
+    ghost from_gives = { λ parts flat. flat ≡ parts_out parts };
+
+    fn from(parts: Parts) -> FlatIdentifierParts {
+        FlatIdentifierParts {
+            p: parts.p,
+            edp: parts.edp,
+            dp: parts.dp,
+            pf: parts.pf,
+            ps: parts.ps,
+            sa: parts.sa,
+        }
     }
 }
 
-fn write_joining(joined: Joined) -> FlatIdentifierJoining
-    ensures { result ≡ joining_out (told_joined joined) }
-{
-    match joined {
-        Joined::Identifier(identifier) => FlatIdentifierJoining {
-            refusal: 0,
-            identifier,
-        },
-        Joined::Refused(refusal) => FlatIdentifierJoining {
+impl From<Result<u32, Refusal>> for FlatIdentifierJoining {
+    ghost from_gives = { λ joined flat. flat ≡ joining_out (told_result joined) };
+
+    fn from(joined: Result<u32, Refusal>) -> FlatIdentifierJoining {
+        let (refusal, identifier) = refusal_and_value(joined);
+        FlatIdentifierJoining {
             refusal,
-            identifier: 0,
-        },
+            identifier,
+        }
     }
 }
 
-fn write_splitting(parted: Parted) -> FlatIdentifierSplitting
-    ensures { result ≡ splitting_out (told_parted parted) }
-{
-    match parted {
-        Parted::Into(x) => {
-            let parts = write_parts(x);
-            FlatIdentifierSplitting { refusal: 0, parts }
-        }
-        Parted::Refused(refusal) => {
-            let parts = FlatIdentifierParts {
-                p: 0,
-                edp: 0,
-                dp: 0,
-                pf: 0,
-                ps: 0,
-                sa: 0,
-            };
-            FlatIdentifierSplitting { refusal, parts }
-        }
+impl From<Result<Parts, Refusal>> for FlatIdentifierSplitting {
+    ghost from_gives = { λ parted flat. flat ≡ splitting_out (told_result parted) };
+
+    fn from(parted: Result<Parts, Refusal>) -> FlatIdentifierSplitting {
+        let (refusal, parts) = refusal_and_value(parted);
+        FlatIdentifierSplitting { refusal, parts }
     }
 }
 
@@ -100,15 +94,14 @@ fn write_splitting(parted: Parted) -> FlatIdentifierSplitting
 pub fn kospelna_identifier_join(parts: FlatIdentifierParts) -> FlatIdentifierJoining
     ensures { result ≡ joining_out (join_of (parts_in parts)) }
 {
-    let x = read_parts(parts);
-    write_joining(identifier::join(x))
+    identifier::join(parts.into()).into()
 }
 
 // The parts of an identifier, or refusal 8.
 pub fn kospelna_identifier_split(identifier: u32) -> FlatIdentifierSplitting
     ensures { result ≡ splitting_out (part_of identifier) }
 {
-    write_splitting(identifier::part(identifier))
+    identifier::part(identifier).into()
 }
 
 // The charger's address.

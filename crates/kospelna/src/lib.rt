@@ -3,6 +3,7 @@
 // kospelna_c exports the functions under their names, and include/kospelna.h declares them.
 #![tactic(auto)]
 
+pub mod answers;
 pub mod figures;
 pub mod frames;
 pub mod group;

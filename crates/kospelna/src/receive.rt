@@ -1,20 +1,18 @@
 // The receiver over C's layouts: each call reads the flat receiver, calls the receiver and writes
 // its answer.
 ghost use Rattle.std.specs.Prelude.{◌≡◌};
+ghost use Rattle.frame.specs.Result.{told_result};
 ghost use Rattle.kospelna.specs.Frames.{frame_from};
 ghost use Rattle.kospelna.specs.Receive.{
   misses_from,
-  flat_misses,
   connection_from,
   phase_from,
   receiver_from,
   flat_of,
   remembering,
   flat_receiver,
-  report,
   flat_outcome,
   flat_answer,
-  no_receiver,
   flat_made,
   hearing,
   flat_heard,
@@ -23,10 +21,15 @@ ghost use Rattle.receiver.specs.Hear.{hear_of};
 ghost use Rattle.receiver.specs.Hold.{hold_of, resume_of};
 ghost use Rattle.receiver.specs.Make.{make_of};
 ghost use Rattle.receiver.specs.Tick.{tick_of};
-ghost use Rattle.receiver.specs.Told.{told_made, told_outcome, told};
+ghost use Rattle.receiver.specs.Told.{told_outcome, told_bytes, told};
 
-use crate::frames::{FlatFrame, read_frame, write_frame};
-use receiver::{Answer, Connection, Delivery, Made, Misses, Outcome, Phase, Receiver, Settings};
+use crate::answers::refusal_and_value;
+use crate::frames::FlatFrame;
+use frame::{Frame, Refusal};
+use receiver::{Answer, Connection, Delivery, Misses, Outcome, Phase, Receiver, Settings};
+
+// These structs are the C interface: a refusal's number beside a value, a flag beside what goes out and numbers for cases are
+// C's forms of Result, Option and enum.
 
 // A receiver: timeout T, capacity K and window C; the phase's number (0 Idle, 1 Idle with a delivery
 // remembered, 2 Open; any other is read as Idle); L and N; the frame expected, the window's last,
@@ -35,7 +38,7 @@ use receiver::{Answer, Connection, Delivery, Made, Misses, Outcome, Phase, Recei
 // has not is written as 0, the mark as false, and not read. In this order it has 16 bytes, so that C
 // passes it in registers.
 #[repr(C)]
-#[derive(Clone, Copy)]
+#[derive(Clone, Copy, Default)]
 pub struct FlatReceiver {
     pub timeout: u16,
     pub capacity: u16,
@@ -77,8 +80,8 @@ pub struct FlatReceiverAnswer {
     pub bytes: [u8; 8],
 }
 
-// An outcome's numbers.
-#[derive(Clone, Copy)]
+// An outcome's numbers in C's form; `flat_outcome` of the definitions answers it.
+#[derive(Clone, Copy, Default)]
 pub(crate) struct Report {
     pub outcome: u8,
     pub refusal: u8,
@@ -86,7 +89,9 @@ pub(crate) struct Report {
     pub length: u16,
 }
 
-fn read_misses(number: u8) -> Misses
+// A function, not From: neither type is this crate's.
+#[tactic(auto, unfolding(frame::specs::Choice::pick))]
+fn misses_from(number: u8) -> Misses
     ensures { result ≡ misses_from number }
 {
     match number {
@@ -98,68 +103,59 @@ fn read_misses(number: u8) -> Misses
     }
 }
 
-fn write_misses(misses: Misses) -> u8
-    ensures { result ≡ flat_misses misses }
-{
-    match misses {
-        Misses::NoneAfterAck => 0,
-        Misses::OneAfterAck => 1,
-        Misses::TwoAfterAck => 2,
-        Misses::NoneAfterFrame => 3,
-        Misses::OneAfterFrame => 4,
-    }
-}
+impl From<FlatReceiver> for Connection {
+    ghost from_gives = { λ flat connection. connection ≡ connection_from flat };
 
-fn read_connection(r: FlatReceiver) -> Connection
-    ensures { result ≡ connection_from r }
-{
-    let misses = read_misses(r.misses);
-    Connection {
-        frames: r.frames,
-        length: r.length,
-        expected: r.expected,
-        last: r.last,
-        wait: r.wait,
-        misses,
-        held: r.held,
-        holds: r.holds,
+    fn from(r: FlatReceiver) -> Connection {
+        Connection {
+            frames: r.frames,
+            length: r.length,
+            expected: r.expected,
+            last: r.last,
+            wait: r.wait,
+            misses: misses_from(r.misses),
+            held: r.held,
+            holds: r.holds,
+        }
     }
 }
 
 // By the phase's number; an unknown one is Idle.
-fn read_phase(r: FlatReceiver) -> Phase
-    ensures { result ≡ phase_from r }
-{
-    let phase = r.phase;
-    match phase {
-        1 => Phase::Done(Delivery {
-            frames: r.frames,
-            length: r.length,
-        }),
-        2 => Phase::Open(read_connection(r)),
-        _ => Phase::Idle,
+impl From<FlatReceiver> for Phase {
+    ghost from_gives = { λ flat phase. phase ≡ phase_from flat };
+
+    #[tactic(auto, unfolding(frame::specs::Choice::pick))]
+    fn from(r: FlatReceiver) -> Phase {
+        match r.phase {
+            1 => Phase::Done(Delivery {
+                frames: r.frames,
+                length: r.length,
+            }),
+            2 => Phase::Open(r.into()),
+            _ => Phase::Idle,
+        }
     }
 }
 
-fn read_receiver(r: FlatReceiver) -> Receiver
-    ensures { result ≡ receiver_from r }
-{
-    let phase = read_phase(r);
-    Receiver {
-        settings: Settings {
-            timeout: r.timeout,
-            window: r.window,
-            capacity: r.capacity,
-        },
-        phase,
+impl From<FlatReceiver> for Receiver {
+    ghost from_gives = { λ flat receiver. receiver ≡ receiver_from flat };
+
+    fn from(r: FlatReceiver) -> Receiver {
+        Receiver {
+            settings: Settings {
+                timeout: r.timeout,
+                window: r.window,
+                capacity: r.capacity,
+            },
+            phase: r.into(),
+        }
     }
 }
 
+// C's layout of every phase, by its number and field by field: `flat_of` of the definitions.
 fn flat(settings: Settings, phase: u8, x: Connection) -> FlatReceiver
     ensures { result ≡ flat_of settings phase x }
 {
-    let misses = x.misses;
-    let misses = write_misses(misses);
     FlatReceiver {
         timeout: settings.timeout,
         window: settings.window,
@@ -170,13 +166,13 @@ fn flat(settings: Settings, phase: u8, x: Connection) -> FlatReceiver
         expected: x.expected,
         last: x.last,
         wait: x.wait,
-        misses,
+        misses: x.misses as u8,
         held: x.held,
         holds: x.holds,
     }
 }
 
-// Of a delivery N and L alone are known.
+// Of a delivery N and L alone are known: `remembering` of the definitions.
 fn remembering(frames: u8, length: u16) -> Connection
     ensures { result ≡ remembering frames length }
 {
@@ -192,85 +188,81 @@ fn remembering(frames: u8, length: u16) -> Connection
     }
 }
 
-fn write_receiver(r: Receiver) -> FlatReceiver
-    ensures { result ≡ flat_receiver r }
-{
-    let settings = r.settings;
-    let phase = r.phase;
-    match phase {
-        Phase::Idle => flat(settings, 0, remembering(0, 0)),
-        Phase::Done(x) => flat(settings, 1, remembering(x.frames, x.length)),
-        Phase::Open(x) => flat(settings, 2, x),
+impl From<Receiver> for FlatReceiver {
+    ghost from_gives = { λ receiver flat. flat ≡ flat_receiver receiver };
+
+    fn from(r: Receiver) -> FlatReceiver {
+        let settings = r.settings;
+        match r.phase {
+            Phase::Idle => flat(settings, 0, remembering(0, 0)),
+            Phase::Done(x) => flat(settings, 1, remembering(x.frames, x.length)),
+            Phase::Open(x) => flat(settings, 2, x),
+        }
     }
 }
 
-fn reported(outcome: u8, refusal: u8, cause: u8, length: u16) -> Report
-    ensures { result ≡ report outcome refusal cause length }
-{
-    Report {
-        outcome,
-        refusal,
-        cause,
-        length,
+impl From<Outcome> for Report {
+    ghost from_gives = { λ outcome report. report ≡ flat_outcome (told_outcome outcome) };
+
+    fn from(outcome: Outcome) -> Report {
+        let none = Report::default();
+        match outcome {
+            Outcome::Quiet => none,
+            Outcome::Refused(refusal) => Report {
+                outcome: 1,
+                refusal: refusal.into(),
+                ..none
+            },
+            Outcome::Delivered(length) => Report {
+                outcome: 2,
+                length,
+                ..none
+            },
+            Outcome::Failed(cause) => Report {
+                outcome: 3,
+                cause: cause.into(),
+                ..none
+            },
+            Outcome::Short(_) => Report { outcome: 4, ..none },
+        }
     }
 }
 
-fn write_outcome(outcome: Outcome) -> Report
-    ensures { result ≡ flat_outcome (told_outcome outcome) }
+// The bytes of a short delivery, zeros where there is none.
+fn bytes_of(outcome: Outcome) -> [u8; 8]
+    ensures { result ≡ told_bytes outcome }
 {
     match outcome {
-        Outcome::Quiet => reported(0, 0, 0, 0),
-        Outcome::Refused(number) => reported(1, number, 0, 0),
-        Outcome::Delivered(length) => reported(2, 0, 0, length),
-        Outcome::Failed(cause) => reported(3, 0, cause, 0),
-        Outcome::Short => reported(4, 0, 0, 0),
+        Outcome::Short(bytes) => bytes,
+        _ => [0; 8],
     }
 }
 
-fn write_answer(a: Answer) -> FlatReceiverAnswer
-    ensures { result ≡ flat_answer (told a) }
-{
-    let outcome = a.outcome;
-    let report = write_outcome(outcome);
-    let next = write_receiver(a.next);
-    let frame = write_frame(a.frame);
-    let bytes = a.bytes;
-    FlatReceiverAnswer {
-        next,
-        emits: a.emits,
-        frame,
-        outcome: report.outcome,
-        refusal: report.refusal,
-        cause: report.cause,
-        length: report.length,
-        bytes,
+impl From<Answer> for FlatReceiverAnswer {
+    ghost from_gives = { λ answer flat. flat ≡ flat_answer (told answer) };
+
+    fn from(a: Answer) -> FlatReceiverAnswer {
+        let report = Report::from(a.outcome);
+        let bytes = bytes_of(a.outcome);
+        FlatReceiverAnswer {
+            next: a.next.into(),
+            emits: a.frame.is_some(),
+            frame: a.frame.into(),
+            outcome: report.outcome,
+            refusal: report.refusal,
+            cause: report.cause,
+            length: report.length,
+            bytes,
+        }
     }
 }
 
-// Zeros, where no receiver was made.
-fn no_receiver() -> FlatReceiver
-    ensures { result ≡ no_receiver }
-{
-    let settings = Settings {
-        timeout: 0,
-        window: 0,
-        capacity: 0,
-    };
-    flat(settings, 0, remembering(0, 0))
-}
+impl From<Result<Receiver, Refusal>> for FlatReceiverMade {
+    ghost from_gives = { λ made flat. flat ≡ flat_made (told_result made) };
 
-fn write_made(m: Made) -> FlatReceiverMade
-    ensures { result ≡ flat_made (told_made m) }
-{
-    match m {
-        Made::End(r) => FlatReceiverMade {
-            refusal: 0,
-            receiver: write_receiver(r),
-        },
-        Made::Refused(number) => FlatReceiverMade {
-            refusal: number,
-            receiver: no_receiver(),
-        },
+    fn from(made: Result<Receiver, Refusal>) -> FlatReceiverMade {
+        let (refusal, receiver) = refusal_and_value(made);
+        FlatReceiverMade { refusal, receiver }
     }
 }
 
@@ -278,28 +270,28 @@ fn write_made(m: Made) -> FlatReceiverMade
 pub fn kospelna_receiver_make(timeout: u16, window: u16, capacity: u16) -> FlatReceiverMade
     ensures { result ≡ flat_made (make_of timeout window capacity) }
 {
-    write_made(Receiver::make(timeout, window, capacity))
+    Receiver::make(timeout, window, capacity).into()
 }
 
 // A tick.
 pub fn kospelna_receiver_tick(receiver: FlatReceiver) -> FlatReceiverAnswer
     ensures { result ≡ flat_answer (tick_of (receiver_from receiver)) }
 {
-    write_answer(read_receiver(receiver).tick())
+    Receiver::from(receiver).tick().into()
 }
 
 // The transfer is held.
 pub fn kospelna_receiver_hold(receiver: FlatReceiver) -> FlatReceiverAnswer
     ensures { result ≡ flat_answer (hold_of (receiver_from receiver)) }
 {
-    write_answer(read_receiver(receiver).hold())
+    Receiver::from(receiver).hold().into()
 }
 
 // The hold ends.
 pub fn kospelna_receiver_resume(receiver: FlatReceiver) -> FlatReceiverAnswer
     ensures { result ≡ flat_answer (resume_of (receiver_from receiver)) }
 {
-    write_answer(read_receiver(receiver).resume())
+    Receiver::from(receiver).resume().into()
 }
 
 // A frame is heard, with the buffer lent.
@@ -311,5 +303,5 @@ pub fn kospelna_receiver_hear(
     ensures { hearing result buffer.new
         ≡ flat_heard (hear_of (receiver_from receiver) (frame_from frame) buffer.old) }
 {
-    write_answer(read_receiver(receiver).hear(read_frame(frame), buffer))
+    Receiver::from(receiver).hear(frame.into(), buffer).into()
 }

@@ -1,27 +1,23 @@
-// The version list, the version message and the talker of either side.
+// The version list, the version message and the talker of either side. One function for each that C calls; a side, a state and a
+// result are numbers, as C passes them.
 ghost use Rattle.std.specs.Prelude.{◌≡◌};
+ghost use Rattle.frame.specs.Result.{told_result};
 ghost use Rattle.kospelna.specs.Talk.{
-  side_number,
   side_in,
-  state_number,
   state_in,
   verdict_in,
   versions_in,
   versions_out,
-  list_refusal,
-  listed_out,
   listing_out,
   message_in,
   message_out,
   bytes_in,
   bytes_out,
-  no_bytes,
   message_bytes,
   writing_out,
   reading_out,
   talker_in,
   talker_out,
-  made_out,
   making_out,
   outcome_number,
   outcome_refusal,
@@ -29,7 +25,7 @@ ghost use Rattle.kospelna.specs.Talk.{
   answer_out,
 };
 ghost use Rattle.version.specs.List.{list_of};
-ghost use Rattle.version.specs.Message.{verdict_byte, told_reading, read_of};
+ghost use Rattle.version.specs.Message.{read_of};
 ghost use Rattle.version.specs.Talk.{
   make_of,
   connect_of,
@@ -39,15 +35,17 @@ ghost use Rattle.version.specs.Talk.{
   greet_of,
   functions_heard_of,
 };
-ghost use Rattle.version.specs.Told.{told_outcome, told};
+ghost use Rattle.version.specs.Told.{bytes_or_zeros, told_outcome, told};
 
-use version::{
-    Answer, ListOutcome, Listed, Made, Message, MessageReading, Outcome, Side, State, Talker,
-    Verdict, Versions,
-};
+use crate::answers::refusal_and_value;
+use frame::Refusal;
+use version::{Answer, Message, Outcome, Side, State, Talker, Verdict, Versions};
+
+// These structs are the C interface: a refusal's number beside a value, a flag beside what goes out and numbers for cases are
+// C's forms of Result, Option and enum.
 
 #[repr(C)]
-#[derive(Clone, Copy)]
+#[derive(Clone, Copy, Default)]
 pub struct FlatVersions {
     pub count: u32,
     pub numbers: [u32; 8],
@@ -63,7 +61,7 @@ pub struct FlatVersionListing {
 
 // Verdict 0 is continue, 1 success, 2 failure.
 #[repr(C)]
-#[derive(Clone, Copy)]
+#[derive(Clone, Copy, Default)]
 pub struct FlatVersionMessage {
     pub verdict: u8,
     pub version: u32,
@@ -72,7 +70,7 @@ pub struct FlatVersionMessage {
 
 // The eight bytes of a message.
 #[repr(C)]
-#[derive(Clone, Copy)]
+#[derive(Clone, Copy, Default)]
 pub struct FlatVersionBytes {
     pub bytes: [u8; 8],
 }
@@ -96,7 +94,7 @@ pub struct FlatVersionReading {
 // Side 0 is the charger, 1 the vehicle; state 0 to 5 is S0 to S5; verdict as above. Any other
 // number is read as 0.
 #[repr(C)]
-#[derive(Clone, Copy)]
+#[derive(Clone, Copy, Default)]
 pub struct FlatTalker {
     pub side: u8,
     pub versions: FlatVersions,
@@ -131,7 +129,17 @@ pub struct FlatTalkerAnswer {
     pub version: u32,
 }
 
-fn read_side(number: u8) -> Side
+// An outcome's numbers, as FlatTalkerAnswer has them.
+#[derive(Clone, Copy, Default)]
+pub(crate) struct Report {
+    pub outcome: u8,
+    pub refusal: u8,
+    pub version: u32,
+}
+
+// These three are functions, not From: neither of their types is this crate's.
+#[tactic(auto, unfolding(frame::specs::Choice::pick))]
+fn side_from(number: u8) -> Side
     ensures { result ≡ side_in number }
 {
     match number {
@@ -140,16 +148,8 @@ fn read_side(number: u8) -> Side
     }
 }
 
-fn side_number(side: Side) -> u8
-    ensures { result ≡ side_number side }
-{
-    match side {
-        Side::Charger => 0,
-        Side::Vehicle => 1,
-    }
-}
-
-fn read_state(number: u8) -> State
+#[tactic(auto, unfolding(frame::specs::Choice::pick))]
+fn state_from(number: u8) -> State
     ensures { result ≡ state_in number }
 {
     match number {
@@ -162,20 +162,9 @@ fn read_state(number: u8) -> State
     }
 }
 
-fn state_number(state: State) -> u8
-    ensures { result ≡ state_number state }
-{
-    match state {
-        State::S0 => 0,
-        State::S1 => 1,
-        State::S2 => 2,
-        State::S3 => 3,
-        State::S4 => 4,
-        State::S5 => 5,
-    }
-}
-
-fn read_verdict(number: u8) -> Verdict
+#[tactic(auto, unfolding(frame::specs::Choice::pick))]
+// Unlike `TryFrom`, it reads an unknown number as continue.
+fn verdict_from(number: u8) -> Verdict
     ensures { result ≡ verdict_in number }
 {
     match number {
@@ -185,222 +174,183 @@ fn read_verdict(number: u8) -> Verdict
     }
 }
 
-fn verdict_number(verdict: Verdict) -> u8
-    ensures { result ≡ verdict_byte verdict }
-{
-    match verdict {
-        Verdict::Continue => 0,
-        Verdict::Success => 1,
-        Verdict::Failure => 2,
-    }
-}
+impl From<FlatVersions> for Versions {
+    ghost from_gives = { λ flat versions. versions ≡ versions_in flat };
 
-fn read_versions(f: FlatVersions) -> Versions
-    ensures { result ≡ versions_in f }
-{
-    let numbers = f.numbers;
-    Versions {
-        count: f.count,
-        numbers,
-    }
-}
-
-fn write_versions(versions: Versions) -> FlatVersions
-    ensures { result ≡ versions_out versions }
-{
-    let numbers = versions.numbers;
-    FlatVersions {
-        count: versions.count,
-        numbers,
-    }
-}
-
-fn list_refusal(outcome: ListOutcome) -> u8
-    ensures { result ≡ list_refusal outcome }
-{
-    match outcome {
-        ListOutcome::Accepted => 0,
-        ListOutcome::Refused(number) => number,
-    }
-}
-
-fn write_listing(listed: Listed) -> FlatVersionListing
-    ensures { result ≡ listed_out listed }
-{
-    let kept = listed.versions;
-    let came = listed.outcome;
-    let versions = write_versions(kept);
-    let refusal = list_refusal(came);
-    FlatVersionListing { refusal, versions }
-}
-
-fn read_message(f: FlatVersionMessage) -> Message
-    ensures { result ≡ message_in f }
-{
-    let verdict = read_verdict(f.verdict);
-    Message {
-        verdict,
-        version: f.version,
-        control: f.control,
-    }
-}
-
-fn write_message(m: Message) -> FlatVersionMessage
-    ensures { result ≡ message_out m }
-{
-    let result = m.verdict;
-    let verdict = verdict_number(result);
-    FlatVersionMessage {
-        verdict,
-        version: m.version,
-        control: m.control,
-    }
-}
-
-fn write_bytes(bytes: [u8; 8]) -> FlatVersionBytes
-    ensures { result ≡ bytes_out bytes }
-{
-    FlatVersionBytes { bytes }
-}
-
-// Zeros, where no message was written.
-fn no_bytes() -> FlatVersionBytes
-    ensures { result ≡ no_bytes }
-{
-    FlatVersionBytes { bytes: [0; 8] }
-}
-
-fn write_reading(reading: MessageReading) -> FlatVersionReading
-    ensures { result ≡ reading_out (told_reading reading) }
-{
-    match reading {
-        MessageReading::Message(m) => {
-            let message = write_message(m);
-            FlatVersionReading {
-                refusal: 0,
-                message,
-            }
-        }
-        MessageReading::Refused(refusal) => {
-            let message = FlatVersionMessage {
-                verdict: 0,
-                version: 0,
-                control: 0,
-            };
-            FlatVersionReading { refusal, message }
+    fn from(f: FlatVersions) -> Versions {
+        let numbers = f.numbers;
+        Versions {
+            count: f.count,
+            numbers,
         }
     }
 }
 
-fn read_talker(f: FlatTalker) -> Talker
-    ensures { result ≡ talker_in f }
-{
-    let kept = f.versions;
-    let side = read_side(f.side);
-    let versions = read_versions(kept);
-    let state = read_state(f.state);
-    let verdict = read_verdict(f.verdict);
-    Talker {
-        side,
-        versions,
-        control: f.control,
-        state,
-        place: f.place,
-        verdict,
-        period: f.period,
-        age: f.age,
-        timing: f.timing,
+impl From<Versions> for FlatVersions {
+    ghost from_gives = { λ versions flat. flat ≡ versions_out versions };
+
+    fn from(versions: Versions) -> FlatVersions {
+        let numbers = versions.numbers;
+        FlatVersions {
+            count: versions.count,
+            numbers,
+        }
     }
 }
 
-fn write_talker(t: Talker) -> FlatTalker
-    ensures { result ≡ talker_out t }
-{
-    let of = t.side;
-    let kept = t.versions;
-    let at = t.state;
-    let result = t.verdict;
-    let side = side_number(of);
-    let versions = write_versions(kept);
-    let state = state_number(at);
-    let verdict = verdict_number(result);
-    FlatTalker {
-        side,
-        versions,
-        control: t.control,
-        state,
-        place: t.place,
-        verdict,
-        period: t.period,
-        age: t.age,
-        timing: t.timing,
+impl From<Result<Versions, Refusal>> for FlatVersionListing {
+    ghost from_gives = { λ listed flat. flat ≡ listing_out (told_result listed) };
+
+    fn from(listed: Result<Versions, Refusal>) -> FlatVersionListing {
+        let (refusal, versions) = refusal_and_value(listed);
+        FlatVersionListing { refusal, versions }
     }
 }
 
-fn write_made(made: Made) -> FlatTalkerMade
-    ensures { result ≡ made_out made }
-{
-    let kept = made.talker;
-    let came = made.outcome;
-    let talker = write_talker(kept);
-    let refusal = list_refusal(came);
-    FlatTalkerMade { refusal, talker }
-}
+impl From<FlatVersionMessage> for Message {
+    ghost from_gives = { λ flat message. message ≡ message_in flat };
 
-fn outcome_number(outcome: Outcome) -> u8
-    ensures { result ≡ outcome_number (told_outcome outcome) }
-{
-    match outcome {
-        Outcome::Quiet => 0,
-        Outcome::Refused(_) => 1,
-        Outcome::Agreed(_) => 6,
-        Outcome::Failed => 3,
-        Outcome::Left => 7,
+    fn from(f: FlatVersionMessage) -> Message {
+        Message {
+            verdict: verdict_from(f.verdict),
+            version: f.version,
+            control: f.control,
+        }
     }
 }
 
-fn outcome_refusal(outcome: Outcome) -> u8
-    ensures { result ≡ outcome_refusal (told_outcome outcome) }
-{
-    match outcome {
-        Outcome::Quiet => 0,
-        Outcome::Refused(number) => number,
-        Outcome::Agreed(_) => 0,
-        Outcome::Failed => 0,
-        Outcome::Left => 0,
+impl From<Message> for FlatVersionMessage {
+    ghost from_gives = { λ message flat. flat ≡ message_out message };
+
+    fn from(m: Message) -> FlatVersionMessage {
+        FlatVersionMessage {
+            verdict: m.verdict as u8,
+            version: m.version,
+            control: m.control,
+        }
     }
 }
 
-fn outcome_version(outcome: Outcome) -> u32
-    ensures { result ≡ outcome_version (told_outcome outcome) }
-{
-    match outcome {
-        Outcome::Quiet => 0,
-        Outcome::Refused(_) => 0,
-        Outcome::Agreed(version) => version,
-        Outcome::Failed => 0,
-        Outcome::Left => 0,
+impl From<[u8; 8]> for FlatVersionBytes {
+    ghost from_gives = { λ bytes flat. flat ≡ bytes_out bytes };
+
+    fn from(bytes: [u8; 8]) -> FlatVersionBytes {
+        FlatVersionBytes { bytes }
     }
 }
 
-fn write_answer(a: Answer) -> FlatTalkerAnswer
-    ensures { result ≡ answer_out (told a) }
-{
-    let talker = a.next;
-    let said = a.bytes;
-    let came = a.outcome;
-    let next = write_talker(talker);
-    let bytes = write_bytes(said);
-    let outcome = outcome_number(came);
-    let refusal = outcome_refusal(came);
-    let version = outcome_version(came);
-    FlatTalkerAnswer {
-        next,
-        emits: a.emits,
-        bytes,
-        outcome,
-        refusal,
-        version,
+// Zeros where no message goes out.
+impl From<Option<[u8; 8]>> for FlatVersionBytes {
+    ghost from_gives = { λ message flat. flat ≡ bytes_out (bytes_or_zeros message) };
+
+    fn from(message: Option<[u8; 8]>) -> FlatVersionBytes {
+        let bytes = message.unwrap_or([0; 8]);
+        FlatVersionBytes { bytes }
+    }
+}
+
+impl From<Result<[u8; 8], Refusal>> for FlatVersionWriting {
+    ghost from_gives = { λ written flat. flat ≡ writing_out (told_result written) };
+
+    fn from(written: Result<[u8; 8], Refusal>) -> FlatVersionWriting {
+        let (refusal, bytes) = refusal_and_value(written);
+        FlatVersionWriting { refusal, bytes }
+    }
+}
+
+impl From<Result<Message, Refusal>> for FlatVersionReading {
+    ghost from_gives = { λ reading flat. flat ≡ reading_out (told_result reading) };
+
+    fn from(reading: Result<Message, Refusal>) -> FlatVersionReading {
+        let (refusal, message) = refusal_and_value(reading);
+        FlatVersionReading { refusal, message }
+    }
+}
+
+impl From<FlatTalker> for Talker {
+    ghost from_gives = { λ flat talker. talker ≡ talker_in flat };
+
+    fn from(f: FlatTalker) -> Talker {
+        Talker {
+            side: side_from(f.side),
+            versions: f.versions.into(),
+            control: f.control,
+            state: state_from(f.state),
+            place: f.place,
+            verdict: verdict_from(f.verdict),
+            period: f.period,
+            age: f.age,
+            timing: f.timing,
+        }
+    }
+}
+
+impl From<Talker> for FlatTalker {
+    ghost from_gives = { λ talker flat. flat ≡ talker_out talker };
+
+    fn from(t: Talker) -> FlatTalker {
+        FlatTalker {
+            side: t.side as u8,
+            versions: t.versions.into(),
+            control: t.control,
+            state: t.state as u8,
+            place: t.place,
+            verdict: t.verdict as u8,
+            period: t.period,
+            age: t.age,
+            timing: t.timing,
+        }
+    }
+}
+
+impl From<Result<Talker, Refusal>> for FlatTalkerMade {
+    ghost from_gives = { λ made flat. flat ≡ making_out (told_result made) };
+
+    fn from(made: Result<Talker, Refusal>) -> FlatTalkerMade {
+        let (refusal, talker) = refusal_and_value(made);
+        FlatTalkerMade { refusal, talker }
+    }
+}
+
+impl From<Outcome> for Report {
+    ghost from_gives = { λ outcome report.
+        (report.outcome ≡ outcome_number (told_outcome outcome))
+        × (report.refusal ≡ outcome_refusal (told_outcome outcome))
+        × (report.version ≡ outcome_version (told_outcome outcome)) };
+
+    fn from(outcome: Outcome) -> Report {
+        let none = Report::default();
+        match outcome {
+            Outcome::Quiet => none,
+            Outcome::Refused(refusal) => Report {
+                outcome: 1,
+                refusal: refusal.into(),
+                ..none
+            },
+            Outcome::Agreed(version) => Report {
+                outcome: 6,
+                version,
+                ..none
+            },
+            Outcome::Failed => Report { outcome: 3, ..none },
+            Outcome::Left => Report { outcome: 7, ..none },
+        }
+    }
+}
+
+impl From<Answer> for FlatTalkerAnswer {
+    ghost from_gives = { λ answer flat. flat ≡ answer_out (told answer) };
+
+    fn from(a: Answer) -> FlatTalkerAnswer {
+        let report = Report::from(a.outcome);
+        FlatTalkerAnswer {
+            next: a.next.into(),
+            emits: a.message.is_some(),
+            bytes: a.message.into(),
+            outcome: report.outcome,
+            refusal: report.refusal,
+            version: report.version,
+        }
     }
 }
 
@@ -408,21 +358,18 @@ fn write_answer(a: Answer) -> FlatTalkerAnswer
 pub fn kospelna_version_list(bytes: &[u8]) -> FlatVersionListing
     ensures { result ≡ listing_out (list_of bytes.now) }
 {
-    write_listing(version::list::list(bytes))
+    version::list::list(bytes).into()
 }
 
 // The bytes of a message, or refusal 10.
+#[tactic(auto, unfolding(frame::specs::Choice::pick))]
 pub fn kospelna_version_message_write(message: FlatVersionMessage) -> FlatVersionWriting
     ensures { result ≡ writing_out (message_bytes message) }
 {
     if message.verdict <= 2 {
-        let m = read_message(message);
-        let said = version::wire::write(m);
-        let bytes = write_bytes(said);
-        FlatVersionWriting { refusal: 0, bytes }
+        Ok(version::wire::write(message.into())).into()
     } else {
-        let bytes = no_bytes();
-        FlatVersionWriting { refusal: 10, bytes }
+        Err(Refusal::Value).into()
     }
 }
 
@@ -430,64 +377,54 @@ pub fn kospelna_version_message_write(message: FlatVersionMessage) -> FlatVersio
 pub fn kospelna_version_message_read(bytes: FlatVersionBytes) -> FlatVersionReading
     ensures { result ≡ reading_out (read_of (bytes_in bytes)) }
 {
-    let b = bytes.bytes;
-    write_reading(version::wire::read(b))
+    version::wire::read(bytes.bytes).into()
 }
 
 // A talker in S0, Ns at the highest version, the result continue; or refusal 11.
 pub fn kospelna_talker_make(side: u8, versions: FlatVersions, control: u8) -> FlatTalkerMade
     ensures { result ≡ making_out (make_of (side_in side) (versions_in versions) control) }
 {
-    let of = read_side(side);
-    let kept = read_versions(versions);
-    write_made(Talker::make(of, kept, control))
+    Talker::make(side_from(side), versions.into(), control).into()
 }
 
 // The physical connection is complete.
 pub fn kospelna_talker_connect(talker: FlatTalker) -> FlatTalkerAnswer
     ensures { result ≡ answer_out (connect_of (talker_in talker)) }
 {
-    let t = read_talker(talker);
-    write_answer(t.connect())
+    Talker::from(talker).connect().into()
 }
 
 // One millisecond passes.
 pub fn kospelna_talker_tick(talker: FlatTalker) -> FlatTalkerAnswer
     ensures { result ≡ answer_out (tick_of (talker_in talker)) }
 {
-    let t = read_talker(talker);
-    write_answer(t.tick())
+    Talker::from(talker).tick().into()
 }
 
 // A message of the other side is heard.
 pub fn kospelna_talker_hear(talker: FlatTalker, bytes: FlatVersionBytes) -> FlatTalkerAnswer
     ensures { result ≡ answer_out (hear_of (talker_in talker) (bytes_in bytes)) }
 {
-    let t = read_talker(talker);
-    let b = bytes.bytes;
-    write_answer(t.hear(b))
+    Talker::from(talker).hear(bytes.bytes).into()
 }
 
 // A fault, or the other side opens its switch.
 pub fn kospelna_talker_stop(talker: FlatTalker) -> FlatTalkerAnswer
     ensures { result ≡ answer_out (stop_of (talker_in talker)) }
 {
-    let t = read_talker(talker);
-    write_answer(t.stop())
+    Talker::from(talker).stop().into()
 }
 
 // The old protocol's greeting (CHM) is heard.
 pub fn kospelna_talker_greet(talker: FlatTalker) -> FlatTalkerAnswer
     ensures { result ≡ answer_out (greet_of (talker_in talker)) }
 {
-    let t = read_talker(talker);
-    write_answer(t.greet())
+    Talker::from(talker).greet().into()
 }
 
 // The charger's supported functions are heard.
 pub fn kospelna_talker_functions_heard(talker: FlatTalker) -> FlatTalkerAnswer
     ensures { result ≡ answer_out (functions_heard_of (talker_in talker)) }
 {
-    let t = read_talker(talker);
-    write_answer(t.functions_heard())
+    Talker::from(talker).functions_heard().into()
 }

@@ -1,15 +1,14 @@
--- A law for each path through the summary's functions; what is written flat is read back, and the other way round.
+-- A tick that is refused or emits nothing, over the face; what is written flat is read back, and the other way round.
 -- Assumes nothing.
 use Prim.Native.Nat.{ℕ}
-use mathlib.Core.Path.{◌≡◌, refl, sym, ap, subst, ◌∙◌}
+use mathlib.Core.Path.{◌≡◌, refl, sym, ap, ◌∙◌}
 use mathlib.Core.Bool.{Bool, true, false}
 use mathlib.Core.List.{List}
 use native.Mathlib.Omega.{arith}
 use lib.ListN.{length}
 use Rattle.frame.proofs.Choice.{pick_elim}
 use Rattle.frame.specs.Result.{Result}
-use Rattle.frame.specs.declared.Frame.{Frame}
-use Rattle.sender.specs.Call.{Call, begin, tick, hear, post}
+use Rattle.sender.specs.Call.{tick}
 use Rattle.sender.specs.SilentTicks.{silent_in, silent_tick_in}
 use Rattle.sender.specs.Tick.{lent_to}
 use Rattle.sender.specs.Told.{Told, refusing}
@@ -17,50 +16,20 @@ use Rattle.sender.specs.declared.Sender.{Sender}
 use Rattle.summary.proofs.EachCall.{unlent_is}
 use Rattle.summary.proofs.Uncounted.{refused_tick, silent_tick}
 use Rattle.summary.specs.Calls.{Kept, kept, kept_of}
-use Rattle.summary.specs.Most.{told_counted, count_of, most_of}
+use Rattle.summary.specs.Most.{count_of, most_of}
 use Rattle.summary.specs.declared.Count.{Count}
-use Rattle.summary.specs.declared.Counted.{Counted}
-use Rattle.summary.specs.declared.Counted.TheVariants.{Read, Refused}
-use Rattle.kospelna.specs.Frames.{frame_from}
-use Rattle.kospelna.specs.Send.{sender_from, flat_answer}
+use Rattle.kospelna.specs.Send.{flat_answer}
 use Rattle.kospelna.specs.Refusals.{Numbered}
-use Rattle.kospelna_summary.specs.Summary.{flat_with, flat_kept, kept_from, flat_count, count_in, no_count, count_out, counted_in, CountMade, SummaryWhole}
+use Rattle.kospelna_summary.specs.Summary.{flat_with, flat_kept, kept_from, count_in, no_count, count_out, counted_in, CountMade, SummaryWhole}
 use Rattle.kospelna.proofs.Refusals.{result_back, result_made, number_again, value_again}
 use Rattle.kospelna.proofs.SendInverse.{answer_back}
-use Rattle.kospelna.specs.declared.frames.FlatFrame.{FlatFrame}
-use Rattle.kospelna.specs.declared.send.FlatSender.{FlatSender}
 use Rattle.kospelna.specs.declared.send.FlatSenderAnswer.{FlatSenderAnswer}
 use Rattle.kospelna_summary.specs.declared.FlatCount.{FlatCount}
-
--- ---- the calls: read, called, written
-
-module _ (a : FlatSenderAnswer) (t : Told) (s : FlatSender) (r : Sender) (before after : List ℕ) (answered : a ≡ flat_answer t)
-    (read : r ≡ sender_from s) where
-  called : (c : Call) → kept t after ≡ kept_of r c before → flat_with a after ≡ flat_kept (kept_of (sender_from s) c before)
-  unfolding flat_kept
-  called c e = subst (λ (q : Sender). flat_with a after ≡ flat_kept (kept_of q c before)) read (rw answered (ap flat_kept e))
-
-  pub begun : (m : List ℕ) → kept t after ≡ kept_of r (begin m) before
-      → flat_with a after ≡ flat_kept (kept_of (sender_from s) (begin m) before)
-  begun m e = called (begin m) e
-
-  pub posted : (m : List ℕ) → kept t after ≡ kept_of r (post m) before
-      → flat_with a after ≡ flat_kept (kept_of (sender_from s) (post m) before)
-  posted m e = called (post m) e
-
-  pub ticked : (m : List ℕ) → kept t after ≡ kept_of r (tick m) before
-      → flat_with a after ≡ flat_kept (kept_of (sender_from s) (tick m) before)
-  ticked m e = called (tick m) e
-
-  pub heard : (f : FlatFrame) (g : Frame) → g ≡ frame_from f → kept t after ≡ kept_of r (hear g) before
-      → flat_with a after ≡ flat_kept (kept_of (sender_from s) (hear (frame_from f)) before)
-  heard f g frame e = called (hear (frame_from f)) (subst (λ (h : Frame). kept t after ≡ kept_of r (hear h) before) frame e)
 
 -- ---- a tick that is refused or emits nothing: the flat sender is read anew for each question
 
 module _ (a : FlatSenderAnswer) (t : Told) (s : Sender) (m counts : List ℕ) (answered : a ≡ flat_answer t) where
   uncounted : kept_of s (tick m) counts ≡ kept t counts → flat_with a counts ≡ flat_kept (kept_of s (tick m) counts)
-  unfolding flat_kept
   uncounted e = rw (answered, e)
 
   pub ticked_unlent : (r : Sender) → r ≡ s → (length counts ≡ 512 → ⊥) → t ≡ refusing r 5
@@ -78,22 +47,6 @@ module _ (a : FlatSenderAnswer) (t : Told) (s : Sender) (m counts : List ℕ) (a
     ticked_silently u silent known holds mute passes e =
         uncounted
         (silent_tick s m counts full (rw (← asked) (sym test ∙ holds)) (rw (← known) (sym mute ∙ passes)) ∙ rw (e, read))
-
-pub ruleset calls = (begun, posted, ticked, heard)
-
--- ---- what is read of the counts
-
-module _ {a : Counted} where
-  pub count_read : {x : Count} → a ≡ Read x → flat_count 0 x ≡ count_out (told_counted a)
-  count_read e = rw e
-
-  pub count_refused : {n : ℕ} → a ≡ Refused n → flat_count n no_count ≡ count_out (told_counted a)
-  count_refused e = rw e
-
-pub count_through : {r : FlatCount} {a b : Result Count} → r ≡ count_out a → a ≡ b → r ≡ count_out b
-count_through w e = w ∙ ap count_out e
-
-pub ruleset counts = (count_read, count_refused, count_through)
 
 -- ---- back and forth
 
@@ -122,7 +75,6 @@ unfolding most_of
 most_numbered counts = pick_elim Numbered _ (λ e. tt) (λ e. omega arith)
 
 kept_back : (k : Kept) → kept_from (flat_kept k) ≡ k
-unfolding flat_kept
 kept_back k = ap (λ (t : Told). kept t k.counts) (answer_back k.told)
 
 pub summary_whole : SummaryWhole

@@ -19,7 +19,7 @@ pub record FlatKept : Type 0 where
 abbrev pub flat_with : FlatSenderAnswer → List ℕ → FlatKept
 flat_with a counts = record { answer = a; counts = counts }
 
-unfoldable pub flat_kept : Kept → FlatKept
+abbrev pub flat_kept : Kept → FlatKept
 flat_kept k = flat_with (flat_answer k.told) k.counts
 
 -- what a caller reads off it

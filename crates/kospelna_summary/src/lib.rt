@@ -1,42 +1,53 @@
 // The summary over C's layouts: the sender's calls, which also keep the lent counts, and what is
-// read of these. The crate kospelna_summary_c exports the functions under their names.
+// read of these. The crate kospelna_summary_c exports the functions under their names: one for each that C calls.
 #![tactic(auto)]
 
 ghost use Rattle.std.specs.Prelude.{◌≡◌};
+ghost use Rattle.frame.specs.Result.{told_result};
 ghost use Rattle.kospelna.specs.Frames.{frame_from};
 ghost use Rattle.kospelna.specs.Send.{sender_from};
-ghost use Rattle.kospelna_summary.specs.Summary.{flat_with, flat_kept, count_out};
+ghost use Rattle.kospelna_summary.specs.Summary.{flat_with, flat_kept, flat_count, count_out};
 ghost use Rattle.sender.specs.Call.{begin, tick, hear, post};
 ghost use Rattle.summary.specs.Calls.{kept_of};
-ghost use Rattle.summary.specs.Most.{told_counted, count_of, most_of};
+ghost use Rattle.summary.specs.Most.{count_of, most_of};
 
-use kospelna::frames::{FlatFrame, read_frame};
-use kospelna::send::{FlatSender, FlatSenderAnswer, read_sender, write_answer};
-use summary::Counted;
+use frame::Refusal;
+use kospelna::answers::refusal_and_value;
+use kospelna::frames::FlatFrame;
+use kospelna::send::{FlatSender, FlatSenderAnswer};
+use sender::Sender;
+use summary::Count;
+
+// This struct is the C interface: a refusal's number beside a value is
+// C's form of Result.
 
 // The refusal's number, 0 where there is none; a number and its count, zeros where refused.
 #[repr(C)]
-#[derive(Clone, Copy)]
+#[derive(Clone, Copy, Default)]
 pub struct FlatCount {
     pub refusal: u8,
     pub number: u8,
     pub count: u16,
 }
 
-fn write_count(answer: Counted) -> FlatCount
-    ensures { result ≡ count_out (told_counted answer) }
-{
-    match answer {
-        Counted::Read(x) => FlatCount {
+impl From<Count> for FlatCount {
+    ghost from_gives = { λ x flat. flat ≡ flat_count 0 x };
+
+    fn from(x: Count) -> FlatCount {
+        FlatCount {
             refusal: 0,
             number: x.number,
             count: x.count,
-        },
-        Counted::Refused(refusal) => FlatCount {
-            refusal,
-            number: 0,
-            count: 0,
-        },
+        }
+    }
+}
+
+impl From<Result<Count, Refusal>> for FlatCount {
+    ghost from_gives = { λ answer flat. flat ≡ count_out (told_result answer) };
+
+    fn from(answer: Result<Count, Refusal>) -> FlatCount {
+        let (refusal, value) = refusal_and_value::<Count, FlatCount>(answer);
+        FlatCount { refusal, ..value }
     }
 }
 
@@ -49,7 +60,7 @@ pub fn kospelna_summary_begin(
     ensures { flat_with result counts.new
         ≡ flat_kept (kept_of (sender_from sender) (begin message.now) counts.old) }
 {
-    write_answer(summary::calls::begin(read_sender(sender), message, counts))
+    summary::calls::begin(Sender::from(sender), message, counts).into()
 }
 
 // Emits the lent message as one SM_URM.
@@ -61,7 +72,7 @@ pub fn kospelna_summary_post(
     ensures { flat_with result counts.new
         ≡ flat_kept (kept_of (sender_from sender) (post message.now) counts.old) }
 {
-    write_answer(summary::calls::post(read_sender(sender), message, counts))
+    summary::calls::post(Sender::from(sender), message, counts).into()
 }
 
 // A tick, lent the message that was begun. One that is refused or emits nothing is answered before
@@ -76,15 +87,15 @@ pub fn kospelna_summary_tick(
         ≡ flat_kept (kept_of (sender_from sender) (tick message.now) counts.old) }
 {
     if counts.len() != summary::SIZE {
-        return write_answer(read_sender(sender).refusing(summary::NOT_LENT));
+        return Sender::from(sender).refusing(Refusal::Lent).into();
     }
-    if !read_sender(sender).is_lent(message) {
-        return write_answer(read_sender(sender).refusing(4));
+    if !Sender::from(sender).is_lent(message) {
+        return Sender::from(sender).refusing(Refusal::OtherMessage).into();
     }
-    if read_sender(sender).is_silent() {
-        return write_answer(read_sender(sender).tick_silently());
+    if Sender::from(sender).is_silent() {
+        return Sender::from(sender).tick_silently().into();
     }
-    write_answer(summary::calls::tick(read_sender(sender), message, counts))
+    summary::calls::tick(Sender::from(sender), message, counts).into()
 }
 
 // A frame is heard.
@@ -96,19 +107,19 @@ pub fn kospelna_summary_hear(
     ensures { flat_with result counts.new
         ≡ flat_kept (kept_of (sender_from sender) (hear (frame_from frame)) counts.old) }
 {
-    write_answer(summary::calls::hear(read_sender(sender), read_frame(frame), counts))
+    summary::calls::hear(Sender::from(sender), frame.into(), counts).into()
 }
 
 // The count of a number.
 pub fn kospelna_summary_count(number: u8, counts: &[u8]) -> FlatCount
     ensures { result ≡ count_out (count_of number counts.now) }
 {
-    write_count(summary::most::count_of(number, counts))
+    summary::most::count_of(number, counts).into()
 }
 
 // The number that was sent most often, and its count.
 pub fn kospelna_summary_most(counts: &[u8]) -> FlatCount
     ensures { result ≡ count_out (most_of counts.now) }
 {
-    write_count(summary::most::most_of(counts))
+    summary::most::most_of(counts).into()
 }

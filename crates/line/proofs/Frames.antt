@@ -13,7 +13,7 @@ use lib.ListN.{length, get_or, set, take, length-set, length-append}
 use lib.Seq.{sets, get_or-set_same, get_or-set_other, take_all, take-append-le}
 use Rattle.frame.proofs.Choice.{pick_elim}
 use Rattle.frame.specs.declared.Frame.{Frame}
-use Rattle.line.proofs.Laws.{listed, head_there}
+use Rattle.line.proofs.Laws.{listed, head_here}
 use Rattle.line.specs.Ring.{frame_at, stored, frames_from, frames_in, empty_of, head_of, rest_of, Kept, join_of}
 use Rattle.line.specs.RingIsList.{RingIsList}
 use Rattle.line.specs.declared.Ring.{Ring}
@@ -177,7 +177,7 @@ pub frames_some : (r : Ring) (bytes : List ℕ)
     → frames_in r bytes ≡ head_of r bytes ∷ frames_in (rest_of r) bytes
 unfolding rest_of frames_in frames_from
 frames_some r bytes size some =
-    rw (← head_there r (frame_at bytes (r.first % 64)) bytes size refl)
+    rw (← head_here r bytes size)
     (rest_frames r bytes some)
 
 pub frames_none : (r : Ring) (bytes : List ℕ) → r.count ≡ 0 → frames_in r bytes ≡ []

@@ -6,7 +6,7 @@ ghost use Rattle.line.specs.Ring.{empty_of, head_of, frame_at, stored, rest_of, 
 
 use frame::Frame;
 
-// Nine bytes for each of 64 places.
+// Nine bytes for each of 64 places. Frames lie in lent bytes, which the promises of `head` and `join` are of.
 const SIZE: usize = 576;
 
 // The place of the first frame, and how many frames there are from it on.
@@ -17,42 +17,27 @@ pub struct Ring {
 }
 
 // The frame at a place.
-fn frame_at(place: u8, bytes: &[u8]) -> Frame
-    requires { (place < 64) × (length bytes.now ≡ 576) }
-    ensures { result ≡ frame_at bytes.now place }
+fn frame_at(place: u8, places: &[u8; SIZE]) -> Frame
+    requires { place < 64 }
+    ensures { result ≡ frame_at places.now place }
 {
-    let at = 9 * (place as usize);
+    let at = 9 * place as usize;
+    let mut bytes = [0; 8];
+    bytes.copy_from_slice(&places[at + 1..at + 9]);
     Frame {
-        kind: bytes[at],
-        bytes: [
-            bytes[at + 1],
-            bytes[at + 2],
-            bytes[at + 3],
-            bytes[at + 4],
-            bytes[at + 5],
-            bytes[at + 6],
-            bytes[at + 7],
-            bytes[at + 8],
-        ],
+        kind: places[at],
+        bytes,
     }
 }
 
 // A frame goes to a place.
-fn store(f: Frame, place: u8, bytes: &mut [u8])
-    requires { (place < 64) × (length bytes.old ≡ 576) }
-    ensures { bytes.new ≡ stored bytes.old place f }
+fn store(f: Frame, place: u8, places: &mut [u8; SIZE])
+    requires { place < 64 }
+    ensures { places.new ≡ stored places.old place f }
 {
-    let data = f.bytes;
-    let at = 9 * (place as usize);
-    bytes[at] = f.kind;
-    bytes[at + 1] = data[0];
-    bytes[at + 2] = data[1];
-    bytes[at + 3] = data[2];
-    bytes[at + 4] = data[3];
-    bytes[at + 5] = data[4];
-    bytes[at + 6] = data[5];
-    bytes[at + 7] = data[6];
-    bytes[at + 8] = data[7];
+    let at = 9 * place as usize;
+    places[at] = f.kind;
+    places[at + 1..at + 9].copy_from_slice(&f.bytes);
 }
 
 impl Ring {
@@ -73,28 +58,22 @@ impl Ring {
     pub fn head(self, bytes: &[u8]) -> Frame
         ensures { result ≡ head_of self bytes.now }
     {
-        if bytes.len() == SIZE {
-            frame_at(self.first % 64, bytes)
-        } else {
-            frame::build::blank()
+        match bytes.as_array::<SIZE>() {
+            Some(places) => frame_at(self.first % 64, places),
+            None => frame::build::blank(),
         }
     }
 
-    // Without the first frame, where there is one.
+    // Without the first frame, where there is one: both fields are new.
     pub fn rest(self) -> Ring
         ensures { result ≡ rest_of self }
     {
-        let count = self.count;
-        if count == 0 {
+        if self.is_empty() {
             return self;
         }
-        let first = (self.first % 64 + 1) % 64;
-        if 64 <= count {
-            return Ring { first, count: 63 };
-        }
         Ring {
-            first,
-            count: count - 1,
+            first: (self.first % 64 + 1) % 64,
+            count: self.count.min(64) - 1,
         }
     }
 
@@ -103,18 +82,16 @@ impl Ring {
     pub fn join(self, f: Frame, bytes: &mut [u8]) -> Ring
         ensures { kept result bytes.new ≡ join_of self f bytes.old }
     {
-        let first = self.first;
-        let count = self.count;
-        if bytes.len() != SIZE {
+        let Some(places) = bytes.as_mut_array::<SIZE>() else {
+            return self;
+        };
+        if 64 <= self.count {
             return self;
         }
-        if 64 <= count {
-            return self;
-        }
-        store(f, (first % 64 + count) % 64, bytes);
+        store(f, (self.first % 64 + self.count) % 64, places);
         Ring {
-            first,
-            count: count + 1,
+            count: self.count + 1,
+            ..self
         }
     }
 }

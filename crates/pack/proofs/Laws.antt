@@ -1,5 +1,4 @@
--- What is known of a pack that is not refused: its bodies fill it, and every event is 1 to 8. And what is told of a reading
--- leaves nothing of it open.
+-- What is known of a pack that is not refused: its bodies fill it, and every event is 1 to 8.
 -- Assumes nothing.
 use Prim.Native.Nat.{ℕ, zero, suc, ◌+◌, ◌<◌, ◌≤◌}
 use mathlib.Core.Path.{◌≡◌, refl, ap, ◌∙◌}
@@ -11,19 +10,9 @@ use lib.Dec.{leb}
 use lib.ListN.{length, get_or, drop, length-drop}
 use lib.Seq.{length-take-le}
 use Rattle.frame.specs.Choice.{pick}
-use Rattle.frame.specs.Result.{Result, accepted, refused}
-use Rattle.pack.specs.Pack.{told_reading, byte_at, offset_of, length_of, laid_out, bodies_in, message_of, events_of, is_event, all_events, bodies_of}
+use Rattle.frame.specs.Result.{accepted, refused}
+use Rattle.pack.specs.Pack.{byte_at, offset_of, length_of, laid_out, bodies_in, message_of, events_of, is_event, all_events, bodies_of}
 use Rattle.pack.specs.declared.Bodies.{Bodies}
-use Rattle.pack.specs.declared.Reading.{Reading}
-use Rattle.pack.specs.declared.Reading.TheVariants.{Pack, Refused}
-
-abbrev pub untold_reading : Result Bodies → Reading
-untold_reading (accepted bodies) = Pack bodies
-untold_reading (refused number) = Refused number
-
-pub told_injective : (r : Reading) → untold_reading (told_reading r) ≡ r
-told_injective (Pack bodies) = refl
-told_injective (Refused number) = refl
 
 -- ---- events
 

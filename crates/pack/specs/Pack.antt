@@ -5,14 +5,7 @@ use Rattle.frame.specs.Choice.{pick}
 use Rattle.frame.specs.Count.{word_of}
 use Rattle.frame.specs.Result.{Result, accepted, refused}
 use Rattle.pack.specs.declared.Bodies.{Bodies}
-use Rattle.pack.specs.declared.Reading.{Reading}
-use Rattle.pack.specs.declared.Reading.TheVariants.{Pack, Refused}
 use Rattle.pack.specs.declared.Settings.{Settings}
-
--- document 01's values for each case of the answer
-abbrev pub told_reading : Reading → Result Bodies
-told_reading (Pack bodies) = accepted bodies
-told_reading (Refused number) = refused number
 
 -- the byte at a place, and the word whose low byte is there
 abbrev pub byte_at : List ℕ → ℕ → ℕ

@@ -2,8 +2,8 @@
 #![tactic(auto)]
 
 ghost use Rattle.std.specs.Prelude.{◌≡◌, ◌≤◌, drop};
+ghost use Rattle.frame.specs.Result.{told_result};
 ghost use Rattle.pack.specs.Pack.{
-  told_reading,
   byte_at,
   word_at,
   laid_out,
@@ -14,6 +14,7 @@ ghost use Rattle.pack.specs.Pack.{
   bodies_of,
 };
 
+use frame::Refusal;
 use frame::count::word;
 
 // The ends' settings as the pack has them, in its order.
@@ -34,19 +35,12 @@ pub struct Settings {
 }
 
 // The settings, the length of the message, which starts at 23, and the number of the events, which
-// start behind it.
+// start behind it. Lengths and not slices: the pack is lent anew at each call that plays it.
 #[derive(Clone, Copy)]
 pub struct Bodies {
     pub settings: Settings,
     pub message: u16,
     pub events: u16,
-}
-
-// What reading answers: the bodies, or the number of the refusal.
-#[derive(Clone, Copy)]
-pub enum Reading {
-    Pack(Bodies),
-    Refused(u8),
 }
 
 // How long count and table are, and the settings; where the message starts.
@@ -56,11 +50,11 @@ const SETTINGS: usize = 10;
 
 const MESSAGE: usize = 23;
 
-// The byte at a place, 0 past the end.
+// The byte at a place, 0 past the end. (The groups have the like; it is one line.)
 fn byte_at(pack: &[u8], place: usize) -> u8
     ensures { result ≡ byte_at pack.now place }
 {
-    if place < pack.len() { pack[place] } else { 0 }
+    pack.get(place).copied().unwrap_or(0)
 }
 
 fn word_at(pack: &[u8], place: usize) -> u16
@@ -72,18 +66,20 @@ fn word_at(pack: &[u8], place: usize) -> u16
     word(low, high)
 }
 
+// Three places and three lengths, as the definition tests them.
 // A count of 3, and three bodies without gaps from the table to the end of at most 65535 bytes.
+#[tactic(auto, unfolding(crate::specs::Pack::laid_out))]
 fn laid_out(pack: &[u8]) -> bool
     ensures { result ≡ laid_out pack.now }
 {
     let end = pack.len();
     let count = byte_at(pack, 0);
-    let first = word_at(pack, 1) as usize;
-    let settings = word_at(pack, 3) as usize;
-    let second = word_at(pack, 5) as usize;
-    let message = word_at(pack, 7) as usize;
-    let third = word_at(pack, 9) as usize;
-    let events = word_at(pack, 11) as usize;
+    let first = usize::from(word_at(pack, 1));
+    let settings = usize::from(word_at(pack, 3));
+    let second = usize::from(word_at(pack, 5));
+    let message = usize::from(word_at(pack, 7));
+    let third = usize::from(word_at(pack, 9));
+    let events = usize::from(word_at(pack, 11));
     (TABLE <= end)
         & (end <= 65535)
         & (count == 3)
@@ -94,71 +90,56 @@ fn laid_out(pack: &[u8]) -> bool
         & (end == third + events)
 }
 
+#[tactic(auto, unfolding(crate::specs::Pack::settings_of))]
 fn settings_of(pack: &[u8]) -> Settings
     ensures { result ≡ settings_of pack.now }
 {
-    let gap = byte_at(pack, 13);
-    let timeout = word_at(pack, 14);
-    let limit = word_at(pack, 16);
-    let patience = word_at(pack, 18);
-    let window = byte_at(pack, 20);
-    let capacity = word_at(pack, 21);
     Settings {
-        gap,
-        timeout,
-        limit,
-        patience,
-        window,
-        capacity,
+        gap: byte_at(pack, 13),
+        timeout: word_at(pack, 14),
+        limit: word_at(pack, 16),
+        patience: word_at(pack, 18),
+        window: byte_at(pack, 20),
+        capacity: word_at(pack, 21),
     }
 }
 
+#[tactic(auto, unfolding(crate::specs::Pack::bodies_in))]
 fn bodies_in(pack: &[u8]) -> Bodies
     ensures { result ≡ bodies_in pack.now }
 {
-    let settings = settings_of(pack);
-    let message = word_at(pack, 7);
-    let events = word_at(pack, 11);
     Bodies {
-        settings,
-        message,
-        events,
+        settings: settings_of(pack),
+        message: word_at(pack, 7),
+        events: word_at(pack, 11),
     }
 }
 
+// Events are the pack's bytes and stay numbers: the definitions have a case for each byte.
 fn is_event(event: u8) -> bool
     ensures { result ≡ is_event event }
 {
-    (1 <= event) & (event <= 8)
+    (1..=8).contains(&event)
 }
 
 // Every byte from a place on is an event.
 fn all_events(pack: &[u8], from: usize) -> bool
     ensures { result ≡ all_events (drop from pack.now) }
 {
-    let mut i = from;
-    while i < pack.len() {
-        if is_event(pack[i]) {
-            i += 1;
-        } else {
-            return false;
-        }
-    }
-    true
+    pack.iter().skip(from).all(|event| is_event(*event))
 }
 
 // The bodies of a pack; refused 12 where it is none.
-pub fn read(pack: &[u8]) -> Reading
-    ensures { told_reading result ≡ bodies_of pack.now }
+pub fn read(pack: &[u8]) -> Result<Bodies, Refusal>
+    ensures { told_result result ≡ bodies_of pack.now }
 {
-    if laid_out(pack) {
-        let bodies = bodies_in(pack);
-        if all_events(pack, MESSAGE + bodies.message as usize) {
-            Reading::Pack(bodies)
-        } else {
-            Reading::Refused(12)
-        }
+    if !laid_out(pack) {
+        return Err(Refusal::Pack);
+    }
+    let bodies = bodies_in(pack);
+    if all_events(pack, MESSAGE + usize::from(bodies.message)) {
+        Ok(bodies)
     } else {
-        Reading::Refused(12)
+        Err(Refusal::Pack)
     }
 }

@@ -9,7 +9,6 @@ use Rattle.player.proofs.Whole.{prints_played}
 use Rattle.player.specs.Calls.{told_progress, play_of, is_finished}
 use Rattle.player.specs.Played.{open_of, played}
 use Rattle.player.specs.Whole.{Held, held, Begins, Plays, none, plays}
-use Rattle.player.specs.declared.Opening.TheVariants as variants
 use Rattle.player.specs.declared.Player.{Player}
 use Rattle.player.specs.declared.Progress.{Progress}
 use Rattle.play.specs.Program.{PlaysOut}
@@ -51,6 +50,6 @@ played_out r before begun after bytes text q h ready first shown = on_ok r all
   where
     all : PlaysOut begun after bytes h → Appends before after (played bytes)
     all (n, more, last, calls, ended, written) =
-        let prints = prints_played bytes (variants.Ready q) (sym ready) n text more h last first calls in
+        let prints = prints_played bytes (Ok q) (sym ready) n text more h last first calls in
         let done : is_finished last.player ≡ true = elim (cases_lt n 512) [ inl few ↦ ended few | inr many ↦ prints.1 many ] in
         subst (Appends before after) (prints.2 done) (Appends-trans _ _ _ _ _ shown written)

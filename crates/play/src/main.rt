@@ -4,20 +4,25 @@
 
 ghost use Rattle.std.specs.Prelude.{◌≡◌, ◌≤◌, List, length, take, IfOk, IfSome, OnOk};
 ghost use Rattle.std.specs.Io.KnownBytes.{Appends};
-ghost use Rattle.frame.specs.Result.{accepted};
+ghost use Rattle.frame.specs.Result.{accepted, number_of};
 ghost use Rattle.text.specs.Text.{refused_text};
 ghost use Rattle.player.specs.Played.{open_of, played};
 ghost use Rattle.player.specs.Whole.{held};
 ghost use Rattle.play.specs.Program.{PlaysOut};
 
-use player::{Opening, Player};
+use frame::Refusal;
+use player::Player;
 use std::io;
 use std::io::{Read, Write};
 
 // A pack has at most 65535 bytes: one more is read, so that a longer input is seen to be none.
 const MOST: usize = 65536;
 
-// Reads until the buffer is full or the input ends, and returns how many bytes it put at its start.
+// So many calls of play finish every pack (`PrintsPlayed` in crates/player).
+const CALLS: usize = 512;
+
+// Reads until the buffer is full or the input ends, and returns how many bytes it put at its start. The library has no
+// method that fills a lent slice as far as the input goes.
 fn read_full<R: Read>(input: &mut R, buffer: &mut [u8]) -> io::Result<usize>
     ensures fits { IfOk result (λ n. n ≤ length buffer.new) }
     ensures bytes { IfOk result (λ n. IfSome (R.remaining input.old)
@@ -34,7 +39,7 @@ fn read_full<R: Read>(input: &mut R, buffer: &mut [u8]) -> io::Result<usize>
     Ok(done)
 }
 
-// The part of a page that is written goes out.
+// The part of a page that is written goes out. It is cut to the page here: that it fits is not promised of `written`.
 fn show<W: Write>(out: &mut W, page: &[u8], written: usize) -> io::Result<()>
     ensures { OnOk result (Appends (W.contents out.old) (W.contents out.new) (take written page.now)) }
 {
@@ -42,7 +47,7 @@ fn show<W: Write>(out: &mut W, page: &[u8], written: usize) -> io::Result<()>
     out.write_all(&page[..shown])
 }
 
-// Plays the events, 128 in a call; 512 calls finish every pack (`PrintsPlayed` in crates/player).
+// Plays the events, 128 in a call. What is lent goes apart, as `Player::play` takes it.
 fn play_events<W: Write>(
     out: &mut W,
     begun: Player,
@@ -57,15 +62,13 @@ fn play_events<W: Write>(
         (held begun forward.old back.old buffer.old)) }
 {
     let mut player = begun;
-    let mut calls: usize = 0;
-    while calls < 512 {
+    for _calls in 0..CALLS {
         if player.is_finished() {
             return Ok(());
         }
         let progress = player.play(pack, buffer, forward, back, page);
         show(out, page, progress.written)?;
         player = progress.player;
-        calls += 1;
     }
     Ok(())
 }
@@ -81,10 +84,9 @@ fn play<W: Write>(out: &mut W, player: Player, pack: &[u8]) -> io::Result<()>
     let mut buffer = [0u8; 1785];
     let begun = player.begin(pack, &mut forward, &mut page);
     show(out, &page, begun.written)?;
-    let next = begun.player;
     play_events(
         out,
-        next,
+        begun.player,
         pack,
         &mut buffer,
         &mut forward,
@@ -94,11 +96,11 @@ fn play<W: Write>(out: &mut W, player: Player, pack: &[u8]) -> io::Result<()>
 }
 
 // A pack that is refused.
-fn refuse<W: Write>(out: &mut W, number: u8) -> io::Result<()>
-    ensures { OnOk result (Appends (W.contents out.old) (W.contents out.new) (refused_text number)) }
+fn refuse<W: Write>(out: &mut W, refusal: Refusal) -> io::Result<()>
+    ensures { OnOk result (Appends (W.contents out.old) (W.contents out.new) (refused_text (number_of refusal))) }
 {
     let mut page = [0u8; 32];
-    let written = text::refused_line(number, &mut page, 0);
+    let written = text::refused_line(u8::from(refusal), &mut page, 0);
     show(out, &page, written)
 }
 
@@ -106,8 +108,8 @@ fn print_pack<W: Write>(out: &mut W, pack: &[u8]) -> io::Result<()>
     ensures { OnOk result (Appends (W.contents out.old) (W.contents out.new) (played pack.now)) }
 {
     match Player::open(pack) {
-        Opening::Ready(player) => play(out, player, pack),
-        Opening::Refused(number) => refuse(out, number),
+        Ok(player) => play(out, player, pack),
+        Err(refusal) => refuse(out, refusal),
     }
 }
 

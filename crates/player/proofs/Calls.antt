@@ -2,20 +2,19 @@
 -- Assumes nothing.
 use Prim.Native.Nat.{ℕ, suc, ◌+◌, ◌-◌, ◌<◌, ◌≤◌, min}
 use mathlib.Core.Path.{◌≡◌, refl, sym, ap, subst, ◌∙◌}
-use mathlib.Core.Bool.{Bool, true, false, ◌&&◌}
+use mathlib.Core.Bool.{Bool, true, false}
 use mathlib.Core.List.{List, []}
 use native.Mathlib.Numerals.{add-one}
 use native.Mathlib.Omega.{arith}
-use borrow.Author.Tests.{eqb-true}
-use lib.Dec.{eqb}
+use borrow.Author.Tests.{ne_eqb}
 use lib.ListN.{length, get_or, take, drop, length-take, length-drop, drop_of_length-le}
 use lib.Seq.{drop-cons, drop-drop, take_all, take-nil}
+use Rattle.std.specs.Array.{IsWholeChunk}
 use Rattle.frame.proofs.Choice.{pick_true, pick_false}
-use Rattle.frame.specs.Result.{Result, accepted, refused}
-use Rattle.pack.specs.Pack.{told_reading, message_of, events_of, bodies_of}
+use Rattle.frame.specs.Result.{Result, accepted, refused, number_of}
+use Rattle.frame.specs.declared.refusal.Refusal.{Refusal}
+use Rattle.pack.specs.Pack.{message_of, events_of, bodies_of}
 use Rattle.pack.specs.declared.Bodies.{Bodies}
-use Rattle.pack.specs.declared.Reading.{Reading}
-use Rattle.pack.specs.declared.Reading.TheVariants as read
 use Rattle.player.specs.Calls as calls
 use Rattle.player.specs.Calls.{progressed, playing, next_events, play_of}
 use Rattle.player.specs.Events.{turn_for, events_from, world_after}
@@ -27,18 +26,14 @@ use Rattle.player.specs.declared.Player.{Player}
 use Rattle.player.specs.declared.Progress.{Progress}
 use Rattle.text.proofs.Laws.{put_append}
 use Rattle.text.specs.Page.{Page, page, put}
-use Rattle.frame.proofs.Choice.{both_left, both_right}
 use Rattle.sender.specs.Told as sender
 use Rattle.sender.specs.declared.Outcome.{Outcome}
 use Rattle.sender.specs.declared.Outcome.TheVariants.{Quiet, Refused, Sent, Failed}
 use Rattle.transport.proofs.Events.{begin_reports, lent_answer}
 use Rattle.transport.specs.Answer.{world_of, Told, told, answer_of, lent_of}
-use Rattle.transport.specs.Make.{told_made}
 use Rattle.transport.specs.World.{World, begin}
 use Rattle.transport.specs.declared.Answer.{Answer}
 use Rattle.transport.specs.declared.Ends.{Ends}
-use Rattle.transport.specs.declared.Made.{Made}
-use Rattle.transport.specs.declared.Made.TheVariants as made
 
 -- ---- a part of a pack
 
@@ -86,20 +81,16 @@ plays_none w m events i number p {y} all e = subst (λ (rest : List ℕ). playin
 -- ---- opening a pack
 
 -- by what the begin reported
-module _ (o : Outcome) (q : Player) where
-  pub unless_quiet : o ≡ Quiet → accepted q ≡ unless_refused (sender.told_outcome o) q
-  unless_quiet e = rw e refl
+pub unless_refused_lem : (o : Outcome) (q : Player) {refusal : Refusal} → o ≡ Refused refusal
+    → refused (number_of refusal) ≡ unless_refused (sender.told_outcome o) q
+unless_refused_lem o q e = rw e refl
 
-  pub unless_refused_lem : (number : ℕ) → o ≡ Refused number → refused number ≡ unless_refused (sender.told_outcome o) q
-  unless_refused_lem number e = rw e refl
-
-  pub unless_sent : (ticks frames : ℕ) → o ≡ Sent ticks frames → accepted q ≡ unless_refused (sender.told_outcome o) q
-  unless_sent ticks frames e = rw e refl
-
-  pub unless_failed : (cause ticks frames : ℕ) → o ≡ Failed cause ticks frames → accepted q ≡ unless_refused (sender.told_outcome o) q
-  unless_failed cause ticks frames e = rw e refl
-
-pub ruleset outcomes = (unless_quiet, unless_refused_lem, unless_sent, unless_failed)
+pub unless_other : (o : Outcome) (q : Player) → ((refusal : Refusal) → o ≡ Refused refusal → ⊥)
+    → accepted q ≡ unless_refused (sender.told_outcome o) q
+unless_other Quiet q other = refl
+unless_other (Refused refusal) q other = absurd (other refusal refl)
+unless_other (Sent ticks frames) q other = refl
+unless_other (Failed cause ticks frames) q other = refl
 
 -- the begin reports what it would report of the run
 pub tried : (a : Answer) (ends : Ends) (b : Bodies) (m line line' : List ℕ) (fits : Bool) (x : Result Player)
@@ -115,48 +106,32 @@ tried a ends b m line line' fits x e there h =
     (ap (λ (t : Told). t.sender) (lent_answer w (begin m) there (e [] [])) ∙ begin_reports w (start ends) m refl)
 
 -- what making the ends starts
-module _ (bytes : List ℕ) (b : Bodies) (answered : Made) (e : told_made answered ≡ made_for b) where
-  pub no_ends : (number : ℕ) → answered ≡ made.Refused number → refused number ≡ opened_bodies bytes (accepted b)
+module _ (bytes : List ℕ) (b : Bodies) where
+  pub no_ends : (number : ℕ) → refused number ≡ made_for b → refused number ≡ opened_bodies bytes (accepted b)
   unfolding opened_bodies opened_with
-  no_ends number k = ap (opened_with (message_of bytes b) b) (ap told_made (sym k) ∙ e)
+  no_ends number e = ap (opened_with (message_of bytes b) b) e
 
-  pub with_ends : (ends : Ends) (m : List ℕ) (x : Result Player) → answered ≡ made.Ready ends
+  pub with_ends : (ends : Ends) (m : List ℕ) (x : Result Player) → accepted ends ≡ made_for b
       → m ≡ take b.message (drop 23 bytes)
       → x ≡ opened_with m b (accepted ends)
       → x ≡ opened_bodies bytes (accepted b)
   unfolding opened_bodies message_of
-  with_ends ends m x k part h =
+  with_ends ends m x e part h =
       h
       ∙ ap (λ (l : List ℕ). opened_with l b (accepted ends)) part
-      ∙ ap (opened_with (take b.message (drop 23 bytes)) b) (ap told_made (sym k) ∙ e)
-
-pub ruleset makings = (no_ends, with_ends)
+      ∙ ap (opened_with (take b.message (drop 23 bytes)) b) e
 
 -- what reading the pack starts
-module _ (bytes : List ℕ) (reading : Reading) (e : told_reading reading ≡ bodies_of bytes) where
-  pub with_bodies : (b : Bodies) (x : Result Player) → reading ≡ read.Pack b → x ≡ opened_bodies bytes (accepted b) → x ≡ open_of bytes
+module _ (bytes : List ℕ) where
+  pub with_bodies : (b : Bodies) (x : Result Player) → accepted b ≡ bodies_of bytes → x ≡ opened_bodies bytes (accepted b) → x ≡ open_of bytes
   unfolding open_of
-  with_bodies b x p h = h ∙ ap (opened_bodies bytes) (ap told_reading (sym p) ∙ e)
+  with_bodies b x e h = h ∙ ap (opened_bodies bytes) e
 
-  pub no_bodies : (number : ℕ) → reading ≡ read.Refused number → refused number ≡ open_of bytes
+  pub no_bodies : (number : ℕ) → refused number ≡ bodies_of bytes → refused number ≡ open_of bytes
   unfolding open_of opened_bodies
-  no_bodies number p = ap (opened_bodies bytes) (ap told_reading (sym p) ∙ e)
-
-pub ruleset readings = (with_bodies, no_bodies)
+  no_bodies number e = ap (opened_bodies bytes) e
 
 -- ---- beginning and playing
-
--- the lent lengths, of the test that found them right
-pub begins_line : (f o : ℕ) {b : Bool} → b ≡ (eqb f 576 && eqb o 16384) → b ≡ true → f ≡ 576
-begins_line f o e t = eqb-true f 576 (both_left (eqb f 576) (eqb o 16384) (sym e ∙ t))
-
-pub plays_forward : (f k o : ℕ) {b : Bool} → b ≡ (eqb f 576 && eqb k 576 && eqb o 16384) → b ≡ true → f ≡ 576
-plays_forward f k o e t =
-    eqb-true f 576 (both_left (eqb f 576) (eqb k 576) (both_left (eqb f 576 && eqb k 576) (eqb o 16384) (sym e ∙ t)))
-
-pub plays_back : (f k o : ℕ) {b : Bool} → b ≡ (eqb f 576 && eqb k 576 && eqb o 16384) → b ≡ true → k ≡ 576
-plays_back f k o e t =
-    eqb-true k 576 (both_right (eqb f 576) (eqb k 576) (both_left (eqb f 576 && eqb k 576) (eqb o 16384) (sym e ∙ t)))
 
 -- a part is no longer than was asked for
 part_length : (events s : List ℕ) (from most : ℕ) → events ≡ take most (drop from s) → length events ≤ most
@@ -182,36 +157,44 @@ after_step : (x : Progress) (ends : Ends) (at played : ℕ) (b : Bodies) (forwar
     ≡ progressed (turned (world_of ends forward back buffer) (page out at)) b played
 after_step x ends at played b forward back buffer out a = rw (a.0, a.1, a.2, a.3) refl
 
-pub begin_there : (bytes m forward forward' out out' : List ℕ) (q : Player) (x : Progress) (ends : Ends) (at : ℕ) {fits : Bool}
-    → fits ≡ (eqb (length forward) 576 && eqb (length out) 16384)
-    → fits ≡ true
+pub begin_there : (bytes m forward line line' out out' : List ℕ) (q : Player) (x : Progress) (ends : Ends) (at : ℕ)
+    → IsWholeChunk forward line 576
+    → length out ≡ 16384
     → m ≡ take q.bodies.message (drop 23 bytes)
     → ((back buffer : List ℕ)
-    → turned (world_of ends forward' back buffer) (page out' at)
-    ≡ printed (capped_step (world_of q.ends forward back buffer) (begin m)) 0 (page out 0))
+    → turned (world_of ends line' back buffer) (page out' at)
+    ≡ printed (capped_step (world_of q.ends line back buffer) (begin m)) 0 (page out 0))
     → After x ends at q.bodies q.played
     → (back buffer : List ℕ)
-    → progressed (turned (world_of x.player.ends forward' back buffer) (page out' x.written)) x.player.bodies x.player.played
+    → progressed (turned (world_of x.player.ends line' back buffer) (page out' x.written)) x.player.bodies x.player.played
     ≡ calls.begin_of bytes q forward back buffer out
 unfolding calls.begin_of message_of
-begin_there bytes m forward forward' out out' q x ends at e t part step a back buffer =
-    after_step x ends at q.played q.bodies forward' back buffer out' a
+begin_there bytes m forward line line' out out' q x ends at whole full part step a back buffer =
+    after_step x ends at q.played q.bodies line' back buffer out' a
     ∙ ap (λ (y : Turned). progressed y q.bodies q.played)
-    (pick_true _ (sym e ∙ t) (step back buffer ∙ ap (λ (l : List ℕ). printed (capped_step (world_of q.ends forward back buffer) (begin l)) 0 (page out 0)) part))
+    (pick_true _ (rw (whole.long, full) refl)
+    (step back buffer ∙ rw whole.same (ap (λ (l : List ℕ). printed (capped_step (world_of q.ends forward back buffer) (begin l)) 0 (page out 0)) part)))
 
 abbrev Unchanged : Progress → Player → Type 0
 Unchanged x q = (x.player ≡ q) × (x.written ≡ 0)
 
-pub begin_not : (bytes forward out : List ℕ) (q : Player) (x : Progress) {fits : Bool}
-    → fits ≡ (eqb (length forward) 576 && eqb (length out) 16384)
-    → fits ≡ false
-    → Unchanged x q
-    → (back buffer : List ℕ)
-    → progressed (turned (world_of x.player.ends forward back buffer) (page out x.written)) x.player.bodies x.player.played
-    ≡ calls.begin_of bytes q forward back buffer out
-unfolding calls.begin_of
-begin_not bytes forward out q x e t a back buffer =
-    rw (a.0, a.1) (ap (λ (y : Turned). progressed y q.bodies q.played) (pick_false _ (sym e ∙ t) refl))
+-- lent a line or a page of another length
+module _ (bytes forward out : List ℕ) (q : Player) (x : Progress) (a : Unchanged x q) where
+  abbrev NotBegun : Type 0
+  NotBegun =
+      (back buffer : List ℕ)
+      → progressed (turned (world_of x.player.ends forward back buffer) (page out x.written)) x.player.bodies x.player.played
+      ≡ calls.begin_of bytes q forward back buffer out
+
+  begin_not : calls.begins_on forward out ≡ false → NotBegun
+  unfolding calls.begin_of
+  begin_not t back buffer = rw (a.0, a.1) (ap (λ (y : Turned). progressed y q.bodies q.played) (pick_false _ t refl))
+
+  pub begin_no_line : (length forward ≡ 576 → ⊥) → NotBegun
+  begin_no_line other = begin_not (rw (ne_eqb _ 576 other) refl)
+
+  pub begin_no_page : length forward ≡ 576 → (length out ≡ 16384 → ⊥) → NotBegun
+  begin_no_page size other = begin_not (rw (size, ne_eqb _ 16384 other) refl)
 
 -- the events that are lent are the pack's next
 next_are : (bytes events : List ℕ) (q : Player) (from most : ℕ)
@@ -222,33 +205,44 @@ next_are : (bytes events : List ℕ) (q : Player) (from most : ℕ)
 unfolding next_events events_of
 next_are bytes events q from most f n e = e ∙ rw (f, n) (ap (take (min 128 (65535 - q.played))) (sym (drop-drop q.played (23 + q.bodies.message) bytes)))
 
-pub play_there : (bytes m events forward forward' back back' buffer buffer' out out' : List ℕ) (q : Player) (x : Progress) (ends : Ends) (at from most : ℕ)
-    {fits : Bool}
-    → fits ≡ (eqb (length forward) 576 && eqb (length back) 576 && eqb (length out) 16384)
-    → fits ≡ true
+pub play_there : (bytes m events forward line line' back far far' buffer buffer' out out' : List ℕ) (q : Player) (x : Progress) (ends : Ends) (at from most : ℕ)
+    → IsWholeChunk forward line 576
+    → IsWholeChunk back far 576
+    → length out ≡ 16384
     → m ≡ take q.bodies.message (drop 23 bytes)
     → from ≡ 23 + q.bodies.message + q.played
     → most ≡ min 128 (65535 - q.played)
     → events ≡ take most (drop from bytes)
-    → turned (world_of ends forward' back' buffer') (page out' at)
-    ≡ playing (world_of q.ends forward back buffer) m events (suc q.played) (page out 0)
+    → turned (world_of ends line' far' buffer') (page out' at)
+    ≡ playing (world_of q.ends line far buffer) m events (suc q.played) (page out 0)
     → After x ends at q.bodies (q.played + length events)
-    → progressed (turned (world_of x.player.ends forward' back' buffer') (page out' x.written)) x.player.bodies x.player.played
+    → progressed (turned (world_of x.player.ends line' far' buffer') (page out' x.written)) x.player.bodies x.player.played
     ≡ play_of bytes q forward back buffer out
 unfolding play_of message_of
-play_there bytes m events forward forward' back back' buffer buffer' out out' q x ends at from most e t part f n es step a =
+play_there bytes m events forward line line' back far far' buffer buffer' out out' q x ends at from most whole whole' full part f n es step a =
     let w = world_of q.ends forward back buffer in
-    after_step x ends at (q.played + length events) q.bodies forward' back' buffer' out' a
-    ∙ pick_true _ (sym e ∙ t)
-    (ap (λ (y : Turned). progressed y q.bodies (q.played + length events)) step
+    after_step x ends at (q.played + length events) q.bodies line' far' buffer' out' a
+    ∙ pick_true _ (rw (whole.long, whole'.long, full) refl)
+    (ap (λ (y : Turned). progressed y q.bodies (q.played + length events)) (rw (whole.same, whole'.same) at step)
     ∙ ap (λ (l : List ℕ). progressed (playing w l events (suc q.played) (page out 0)) q.bodies (q.played + length events)) part
     ∙ ap (λ (l : List ℕ). progressed (playing w (take q.bodies.message (drop 23 bytes)) l (suc q.played) (page out 0)) q.bodies (q.played + length l)) (next_are bytes events q from most f n es))
 
-pub play_not : (bytes forward back buffer out : List ℕ) (q : Player) (x : Progress) {fits : Bool}
-    → fits ≡ (eqb (length forward) 576 && eqb (length back) 576 && eqb (length out) 16384)
-    → fits ≡ false
-    → Unchanged x q
-    → progressed (turned (world_of x.player.ends forward back buffer) (page out x.written)) x.player.bodies x.player.played
-    ≡ play_of bytes q forward back buffer out
-unfolding play_of
-play_not bytes forward back buffer out q x e t a = rw (a.0, a.1) (pick_false _ (sym e ∙ t) refl)
+-- lent a line or a page of another length
+module _ (bytes forward back buffer out : List ℕ) (q : Player) (x : Progress) (a : Unchanged x q) where
+  abbrev NotPlayed : Type 0
+  NotPlayed =
+      progressed (turned (world_of x.player.ends forward back buffer) (page out x.written)) x.player.bodies x.player.played
+      ≡ play_of bytes q forward back buffer out
+
+  play_not : calls.plays_on forward back out ≡ false → NotPlayed
+  unfolding play_of
+  play_not t = rw (a.0, a.1) (pick_false _ t refl)
+
+  pub play_no_forward : (length forward ≡ 576 → ⊥) → NotPlayed
+  play_no_forward other = play_not (rw (ne_eqb _ 576 other) refl)
+
+  pub play_no_back : length forward ≡ 576 → (length back ≡ 576 → ⊥) → NotPlayed
+  play_no_back size other = play_not (rw (size, ne_eqb _ 576 other) refl)
+
+  pub play_no_page : length forward ≡ 576 → length back ≡ 576 → (length out ≡ 16384 → ⊥) → NotPlayed
+  play_no_page size size' other = play_not (rw (size, size', ne_eqb _ 16384 other) refl)

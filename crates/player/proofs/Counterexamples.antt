@@ -18,6 +18,7 @@ use Rattle.frame.proofs.Choice.{pick_true, pick_false}
 use Rattle.frame.specs.Choice.{pick}
 use Rattle.frame.specs.Count.{frame_count_of}
 use Rattle.line.specs.Ring.{frames_from, frames_in}
+use Rattle.std.specs.Prelude.{Ok}
 use Rattle.pack.proofs.Examples as pack
 use Rattle.pack.specs.Pack.{message_of}
 use Rattle.player.proofs.Clean.{prints_report}
@@ -31,7 +32,6 @@ use Rattle.player.specs.Played.{start, run_of, played}
 use Rattle.player.specs.State.{Turned, turned}
 use Rattle.player.specs.Text.{event_text, text_of}
 use Rattle.player.specs.Whole.{Held, held, Begins, begins, Plays, none, plays, Run}
-use Rattle.player.specs.declared.Opening.TheVariants as variants
 use Rattle.player.specs.declared.Player.{Player}
 use Rattle.player.specs.declared.Progress.{Progress}
 use Rattle.sender.specs.Told as sender
@@ -52,7 +52,7 @@ begun = runs_exist pack.example (player_of 7) 0
 
 going : {text : List ℕ} {k : Held} → Plays pack.example 0 begun.first text k → is_finished k.player ≡ false
 going {text} {k} none_yet =
-    (prints_played pack.example (variants.Ready (player_of 7)) (sym computed.opens)
+    (prints_played pack.example (Ok (player_of 7)) (sym computed.opens)
     0 begun.begun text begun.first k begun.begin none_yet).0
 
 -- claim_finished_a_call_early: it would be finished
@@ -153,7 +153,7 @@ ended = runs_exist silent (player_of 0) 0
 pub begins_page_left_out : (is_finished ended.last.player ≡ true → ended.text ≡ played silent) → ⊥
 begins_page_left_out claim =
     let done : is_finished ended.last.player ≡ true =
-    (prints_played silent (variants.Ready (player_of 0)) (sym computed.opens_silent)
+    (prints_played silent (Ok (player_of 0)) (sym computed.opens_silent)
     0 ended.begun ended.text ended.first ended.last ended.begin ended.play).0 in
     let none : ◌≡◌ {A = ℕ} 0 30 = ap length (sym (no_plays refl ended.play) ∙ claim done ∙ computed.prints_silent) in
     omega arith

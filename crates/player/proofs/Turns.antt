@@ -10,9 +10,13 @@ use lib.Dec.{eqb}
 use lib.ListN.{length}
 use Rattle.frame.proofs.Choice.{pick_false, pick_elim, neither_left, neither_right}
 use Rattle.frame.specs.Choice.{pick}
+use Rattle.std.specs.Prelude.{is_some}
+use Rattle.frame.specs.Frames.{frame_or_blank}
 use Rattle.frame.specs.declared.Frame.{Frame}
 use Rattle.player.specs.Events.{call_for, turn_for}
-use Rattle.player.specs.State.{turned, printed, turn_of, said_text, says}
+use Rattle.player.specs.State.{Turned, turned, printed, turn_of, said_text, says}
+use Rattle.player.specs.Session.{Goes, Keeps, at_ends, page_in}
+use Rattle.player.specs.declared.turn.Session.{Session}
 use Rattle.player.specs.Text.{letter_of, frames_text, event_text}
 use Rattle.receiver.specs.Told as receiver
 use Rattle.sender.specs.Told as sender
@@ -28,38 +32,48 @@ use Rattle.transport.specs.declared.Answer.{Answer}
 use Rattle.transport.specs.declared.Ends.{Ends}
 use Rattle.transport.specs.declared.Said.{Said}
 
+-- ---- what is lent
+
+pub keeps_in : {old new : Session} → new.message ≡ old.message → new.buffer.ghost_name ≡ old.buffer.ghost_name
+    → new.forward.ghost_name ≡ old.forward.ghost_name
+    → new.back.ghost_name ≡ old.back.ghost_name
+    → new.out.ghost_name ≡ old.out.ghost_name
+    → Keeps old new
+keeps_in m b f k o = record { message = m; buffer = b; forward = f; back = k; out = o }
+
+pub keeps_on : {old mid new : Session} → Keeps old mid → Keeps mid new → Keeps old new
+keeps_on h k =
+    record {
+      message = k.message ∙ h.message;
+      buffer = k.buffer ∙ h.buffer;
+      forward = k.forward ∙ h.forward;
+      back = k.back ∙ h.back;
+      out = k.out ∙ h.out;
+    }
+
+pub goes_to : {old mid new : Session} {x y : Turned} → Keeps old mid → Goes mid new x → x ≡ y → Goes old new y
+goes_to kept h e = record { keeps = keeps_on kept h.keeps; holds = h.holds ∙ e }
+
 -- ---- what is printed of an answer
 
 -- the frame's line, then the reports
 pub lines_put : (number letter : ℕ) (a : Said) (p q t x : Page)
-    → q ≡ put p (emitted_text number letter a.emits a.frame)
+    → q ≡ put p (emitted_text number letter (is_some a.frame) (frame_or_blank a.frame))
     → t ≡ put q (sender_report number (sender.told_outcome a.sender))
-    → x ≡ put t (receiver_report number (receiver.told_outcome a.receiver) a.bytes)
+    → x ≡ put t (receiver_report number (receiver.told_outcome a.receiver) (receiver.told_bytes a.receiver))
     → x ≡ put p (said_text number letter a)
 unfolding said_text
 lines_put number letter a p q t x d e h =
-    let frame = emitted_text number letter a.emits a.frame in
+    let frame = emitted_text number letter (is_some a.frame) (frame_or_blank a.frame) in
     let first = sender_report number (sender.told_outcome a.sender) in
-    let second = receiver_report number (receiver.told_outcome a.receiver) a.bytes in
+    let second = receiver_report number (receiver.told_outcome a.receiver) (receiver.told_bytes a.receiver) in
     rw (h, e, d, ← put_append p frame (first ++ second), ← put_append (put p frame) first second) refl
-
--- whether there is anything to print: a frame, or a report
-pub says_frame : (a : Said) → a.emits ≡ true → true ≡ says a
-says_frame a e = rw e refl
-
-pub says_sender : (a : Said) {x : Bool} → a.emits ≡ false → x ≡ has_sender_report (sender.told_outcome a.sender) → x ≡ true → true ≡ says a
-says_sender a n e t = rw (n, ← e, t) refl
-
-pub says_receiver : (a : Said) {x y : Bool} → a.emits ≡ false → x ≡ has_sender_report (sender.told_outcome a.sender) → x ≡ false
-    → y ≡ has_receiver_report (receiver.told_outcome a.receiver)
-    → y ≡ says a
-says_receiver a n e t d = rw (n, ← e, t, d) refl
 
 silent_text : (number letter : ℕ) (a : Said) → says a ≡ false → said_text number letter a ≡ []
 unfolding said_text
 silent_text number letter a e =
-    let reports = neither_left (a.emits || has_sender_report (sender.told_outcome a.sender)) (has_receiver_report (receiver.told_outcome a.receiver)) e in
-    rw (no_frame number letter a.emits a.frame (neither_left a.emits _ reports), no_sender_report number (sender.told_outcome a.sender) (neither_right a.emits _ reports), no_receiver_report number (receiver.told_outcome a.receiver) a.bytes (neither_right (a.emits || has_sender_report (sender.told_outcome a.sender)) _ e)) refl
+    let reports = neither_left (is_some a.frame || has_sender_report (sender.told_outcome a.sender)) (has_receiver_report (receiver.told_outcome a.receiver)) e in
+    rw (no_frame number letter (is_some a.frame) (frame_or_blank a.frame) (neither_left (is_some a.frame) _ reports), no_sender_report number (sender.told_outcome a.sender) (neither_right (is_some a.frame) _ reports), no_receiver_report number (receiver.told_outcome a.receiver) (receiver.told_bytes a.receiver) (neither_right (is_some a.frame || has_sender_report (sender.told_outcome a.sender)) _ e)) refl
 
 -- the line of a frame, if one is emitted
 frames_emitted : (number letter : ℕ) (b : Bool) (f : Frame) → frames_text number letter (emission b f) ≡ emitted_text number letter b f
@@ -75,22 +89,23 @@ module _ (a : Answer) (w : World) (c : Call) (number letter : ℕ) (forward back
     told_text : said_text number letter a.said ≡ event_text number (capped_step w c).event
     unfolding said_text event_text answer_of told capped_step
     told_text =
-        rw (call_of_lem w c, ← same, ← frames_emitted number letter a.said.emits a.said.frame)
+        rw (call_of_lem w c, ← same, ← frames_emitted number letter (is_some a.said.frame) (frame_or_blank a.said.frame))
         (ap (λ (t : Told). frames_text number letter t.emitted ++ (sender_report number t.sender ++ receiver_report number t.receiver t.bytes)) e)
 
     -- and so the step, printed
-    turned_answer : (ends : Ends) (p q : Page) → ends ≡ a.next → q ≡ put p (said_text number letter a.said)
-        → turned (world_of ends forward back buffer) q ≡ printed (capped_step w c) number p
+    turned_answer : (p : Page) → turned (world_of a.next forward back buffer) (put p (said_text number letter a.said)) ≡ printed (capped_step w c) number p
     unfolding answer_of told
-    turned_answer ends p q k h =
-        ap (λ (x : Ends). turned (world_of x forward back buffer) q) k
-        ∙ ap (λ (v : World). turned v q) (ap (λ (t : Told). t.world) e)
-        ∙ ap (turned (capped_step w c).world) (h ∙ ap (put p) told_text)
+    turned_answer p =
+        ap (λ (v : World). turned v (put p (said_text number letter a.said))) (ap (λ (t : Told). t.world) e)
+        ∙ ap (λ (text : List ℕ). turned (capped_step w c).world (put p text)) told_text
 
 -- an answer that says nothing leaves the page
-pub shown_not : (number letter : ℕ) (a : Said) (p : Page) {said : Bool} → said ≡ says a → said ≡ false → p ≡ put p (said_text number letter a)
+pub shown_not : (s : Session) (ends : Ends) (number letter : ℕ) (a : Said) {said : Bool} → said ≡ says a → said ≡ false
+    → Goes s (record s { ends = ends }) (turned (at_ends s ends) (put (page_in s) (said_text number letter a)))
 unfolding put
-shown_not number letter a p s never = ap (put p) (sym (silent_text number letter a (sym s ∙ never)))
+shown_not s ends number letter a e never =
+    let silent = silent_text number letter a (sym e ∙ never) in
+    record { keeps = keeps_in refl refl refl refl refl; holds = ap (λ (text : List ℕ). turned (at_ends s ends) (put (page_in s) text)) (sym silent) }
 
 pub begin_shown : (a : Answer) (ends : Ends) (forward forward' m : List ℕ) (p q : Page)
     → length forward ≡ 576
@@ -100,51 +115,48 @@ pub begin_shown : (a : Answer) (ends : Ends) (forward forward' m : List ℕ) (p 
     → turned (world_of a.next forward' back buffer) q ≡ printed (capped_step (world_of ends forward back buffer) (begin m)) 0 p
 begin_shown a ends forward forward' m p q size e h back buffer =
     let w = world_of ends forward back buffer in
-    turned_answer a w (begin m) 0 letter_s forward' back buffer (lent_answer w (begin m) (eq-eqb _ 576 size) (e back buffer)) refl a.next p q refl h
+    ap (turned (world_of a.next forward' back buffer)) h
+    ∙ turned_answer a w (begin m) 0 letter_s forward' back buffer (lent_answer w (begin m) (eq-eqb _ 576 size) (e back buffer)) refl p
 
 -- ---- the event's number decides
 
 abbrev Not : ℕ → ℕ → Type 0
 Not event k = event ≡ k → ⊥
 
-module _ (a : Answer) (w : World) (m : List ℕ) (event number : ℕ) (last : Ends) (forward back buffer : List ℕ) (p q : Page) (k : last ≡ a.next) where
-  -- what is shown, and that it is the event
-  abbrev Shown : ℕ → Type 0
-  Shown letter = q ≡ put p (said_text number letter a.said)
+module _ (a : Answer) (w : World) (m : List ℕ) (event number : ℕ) (forward back buffer : List ℕ) (p : Page) where
+  -- what is shown is the event
+  abbrev Turns : ℕ → Type 0
+  Turns letter = turned (world_of a.next forward back buffer) (put p (said_text number letter a.said)) ≡ turn_of w m event number p
 
-  abbrev Turns : Type 0
-  Turns = turned (world_of last forward back buffer) q ≡ turn_of w m event number p
-
-  by : (c : Call) (letter : ℕ) → letter ≡ letter_of c → call_for w m event ≡ c → told a forward back buffer ≡ answer_of w c → Shown letter → Turns
+  by : (c : Call) (letter : ℕ) → letter ≡ letter_of c → call_for w m event ≡ c → told a forward back buffer ≡ answer_of w c → Turns letter
   unfolding turn_of turn_for
-  by c letter l e h d =
-      turned_answer a w c number letter forward back buffer h l last p q k d
+  by c letter l e h =
+      turned_answer a w c number letter forward back buffer h l p
       ∙ ap (λ (x : Call). printed (capped_step w x) number p) (sym e)
 
-  pub turn_1 : (n : ℕ) → event ≡ 1 → n ≡ 576 → told a forward back buffer ≡ lent_of (eqb n 576) w (sender_tick m) → Shown letter_s → Turns
+  pub turn_1 : (n : ℕ) → event ≡ 1 → n ≡ 576 → told a forward back buffer ≡ lent_of (eqb n 576) w (sender_tick m) → Turns letter_s
   unfolding call_for pick
   turn_1 n i size h = by (sender_tick m) letter_s refl (rw i refl) (lent_answer w (sender_tick m) (eq-eqb _ 576 size) h)
 
-  pub turn_2 : (n : ℕ) → event ≡ 2 → n ≡ 576 → told a forward back buffer ≡ lent_of (eqb n 576) w receiver_tick → Shown letter_r → Turns
+  pub turn_2 : (n : ℕ) → event ≡ 2 → n ≡ 576 → told a forward back buffer ≡ lent_of (eqb n 576) w receiver_tick → Turns letter_r
   unfolding call_for pick
   turn_2 n i size h = by receiver_tick letter_r refl (rw i refl) (lent_answer w receiver_tick (eq-eqb _ 576 size) h)
 
   -- 3 hears, 5 repeats
   pub turn_3_5 : (x y : ℕ) (lent : List ℕ) → lent ≡ w.buffer → (event ≡ 3) ⊎ (event ≡ 5) → x ≡ 576 → y ≡ 576
       → told a forward back buffer ≡ lent_of (eqb x 576 && eqb y 576) w (pick (eqb event 3) (hear_forward lent) (repeat_forward lent))
-      → Shown letter_r
-      → Turns
+      → Turns letter_r
   unfolding call_for pick
   turn_3_5 x y lent same (inl i) sx sy h =
       by (hear_forward lent) letter_r refl (rw (i, same) refl) (lent_answer w (hear_forward lent) (rw (sx, sy) refl) (rw i at h))
   turn_3_5 x y lent same (inr i) sx sy h =
       by (repeat_forward lent) letter_r refl (rw (i, same) refl) (lent_answer w (repeat_forward lent) (rw (sx, sy) refl) (rw i at h))
 
-  pub turn_4 : event ≡ 4 → told a forward back buffer ≡ answer_of w lose_forward → Shown letter_r → Turns
+  pub turn_4 : event ≡ 4 → told a forward back buffer ≡ answer_of w lose_forward → Turns letter_r
   unfolding call_for pick
   turn_4 i h = by lose_forward letter_r refl (rw i refl) h
 
-  pub turn_7 : event ≡ 7 → told a forward back buffer ≡ answer_of w lose_back → Shown letter_s → Turns
+  pub turn_7 : event ≡ 7 → told a forward back buffer ≡ answer_of w lose_back → Turns letter_s
   unfolding call_for pick
   turn_7 i h = by lose_back letter_s refl (rw i refl) h
 
@@ -154,8 +166,7 @@ module _ (a : Answer) (w : World) (m : List ℕ) (event number : ℕ) (last : En
       → x ≡ 576
       → y ≡ 576
       → told a forward back buffer ≡ lent_of (eqb x 576 && eqb y 576) w (pick (eqb event 6) hear_back repeat_back)
-      → Shown letter_s
-      → Turns
+      → Turns letter_s
   unfolding call_for
   turn_6_8 x y (((((_, n1), n2), n3), n4), n7) sx sy h =
       let c = pick (eqb event 6) hear_back repeat_back in
@@ -166,5 +177,3 @@ module _ (a : Answer) (w : World) (m : List ℕ) (event number : ℕ) (last : En
 pub lent_buffer : (ends : Ends) (forward back buffer : List ℕ) → buffer ≡ (world_of ends forward back buffer).buffer
 unfolding world_of
 lent_buffer ends forward back buffer = refl
-
-pub ruleset prints = (lines_put, says_frame, says_sender, says_receiver, shown_not, begin_shown)

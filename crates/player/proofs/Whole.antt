@@ -10,7 +10,9 @@ use native.Mathlib.Omega.{arith}
 use borrow.Author.Tests.{leb-true, leb-false, le-leb, lt-leb}
 use lib.Dec.{leb}
 use lib.ListN.{length, take, replicate}
-use Rattle.frame.specs.Result.{accepted, refused}
+use Rattle.std.specs.Prelude.{Ok, Err}
+use Rattle.frame.specs.Result.{accepted, refused, number_of}
+use Rattle.frame.specs.declared.refusal.Refusal.{Refusal}
 use Rattle.pack.proofs.Laws.{read_most, read_whole}
 use Rattle.pack.specs.Pack.{bodies_of}
 use Rattle.pack.specs.declared.Bodies.{Bodies}
@@ -19,7 +21,6 @@ use Rattle.player.proofs.Steps.{shown, left_of, left_after, page_shows, play_pri
 use Rattle.player.specs.Calls.{Progressed, told_progress, play_of, is_finished}
 use Rattle.player.specs.Played.{open_of, played_opened, played}
 use Rattle.player.specs.Whole.{Held, held, Begins, begins, Plays, none, plays, Prints, PrintsPlayed}
-use Rattle.player.specs.declared.Opening.TheVariants as variants
 use Rattle.player.specs.declared.Player.{Player}
 use Rattle.player.specs.declared.Progress.{Progress}
 use Rattle.text.proofs.Laws.{refused_text_length}
@@ -109,7 +110,7 @@ all_played events n count e = by (leb events (128 * n)) refl
     by false t = lt-leb events count (omega (arith, leb-false events (128 * n) t))
 
 -- a player that was opened
-of_player : (bytes : List ℕ) (q : Player) → open_of bytes ≡ accepted q → Prints bytes (variants.Ready q)
+of_player : (bytes : List ℕ) (q : Player) → open_of bytes ≡ accepted q → Prints bytes (Ok q)
 of_player bytes q ready n begun text h k first more =
     let read = (opened bytes q ready).read in
     let a = after_plays 0 begun read more (after_begin ready first) in
@@ -132,13 +133,13 @@ of_player bytes q ready n begun text h k first more =
     )
 
 -- a refusal's line fits its page
-of_refusal : (bytes : List ℕ) (number : ℕ) → open_of bytes ≡ refused number → Prints bytes (variants.Refused number)
+of_refusal : (bytes : List ℕ) (refusal : Refusal) → open_of bytes ≡ refused (number_of refusal) → Prints bytes (Err refusal)
 unfolding played played_opened
-of_refusal bytes number e out out' written room line =
+of_refusal bytes refusal e out out' written room line =
     ap (λ (p : Page). take p.place p.bytes) line
-    ∙ page_shows out (refused_text number) (omega (arith, refused_text_length number))
+    ∙ page_shows out (refused_text (number_of refusal)) (omega (arith, refused_text_length (number_of refusal)))
     ∙ ap (played_opened bytes) (sym e)
 
 pub prints_played : PrintsPlayed
-prints_played bytes (variants.Ready q) e = of_player bytes q (sym e)
-prints_played bytes (variants.Refused number) e = of_refusal bytes number (sym e)
+prints_played bytes (Ok q) e = of_player bytes q (sym e)
+prints_played bytes (Err refusal) e = of_refusal bytes refusal (sym e)

@@ -2,25 +2,17 @@
 -- is printed stands in a lent page of 16384 bytes, from its first place on.
 use Rattle.std.specs.Prelude.{ℕ, suc, ◌+◌, ◌-◌, min, Bool, ◌&&◌, List, eqb, leb, length, take, drop}
 use Rattle.frame.specs.Choice.{pick}
-use Rattle.frame.specs.Result.{Result, accepted, refused}
 use Rattle.pack.specs.Pack.{message_of, events_of}
 use Rattle.pack.specs.declared.Bodies.{Bodies}
 use Rattle.player.specs.Events.{events_from, world_after}
 use Rattle.player.specs.State.{Turned, turned, printed}
 use Rattle.transport.specs.Capped.{capped_step}
 use Rattle.player.specs.Text.{text_of}
-use Rattle.player.specs.declared.Opening as opening
-use Rattle.player.specs.declared.Opening.TheVariants as variants
 use Rattle.player.specs.declared.Player.{Player}
 use Rattle.player.specs.declared.Progress.{Progress}
 use Rattle.text.specs.Page.{Page, page, put}
 use Rattle.transport.specs.Answer.{world_of}
 use Rattle.transport.specs.World.{World, begin}
-
--- document 01's value for each case of the answer
-abbrev pub told_opening : opening.Opening → Result Player
-told_opening (variants.Ready player) = accepted player
-told_opening (variants.Refused number) = refused number
 
 -- the world, the bodies, the number of events played, and the page
 pub record Progressed : Type 0 where

@@ -2,6 +2,7 @@ pub mod Events
 pub mod Text
 pub mod State
 pub mod Played
+pub mod Session
 pub mod Calls
 pub mod Whole
 pub mod Claim

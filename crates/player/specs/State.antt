@@ -1,5 +1,6 @@
 -- The world and the page after an event.
-use Rattle.std.specs.Prelude.{ℕ, Bool, ◌||◌, List, ◌++◌}
+use Rattle.std.specs.Prelude.{ℕ, Bool, ◌||◌, List, ◌++◌, is_some}
+use Rattle.frame.specs.Frames.{frame_or_blank}
 use Rattle.player.specs.Events.{turn_for}
 use Rattle.player.specs.Text.{event_text}
 use Rattle.receiver.specs.Told as receiver
@@ -30,13 +31,13 @@ turn_of w message event number p = printed (turn_for w message event) number p
 -- what is printed of an answer: the frame's line, then the reports
 unfoldable pub said_text : ℕ → ℕ → Said → List ℕ
 said_text number letter a =
-    emitted_text number letter a.emits a.frame
+    emitted_text number letter (is_some a.frame) (frame_or_blank a.frame)
     ++ (sender_report number (sender.told_outcome a.sender)
-    ++ receiver_report number (receiver.told_outcome a.receiver) a.bytes)
+    ++ receiver_report number (receiver.told_outcome a.receiver) (receiver.told_bytes a.receiver))
 
 -- whether there is anything to print
 abbrev pub says : Said → Bool
 says a =
-    a.emits
+    is_some a.frame
     || has_sender_report (sender.told_outcome a.sender)
     || has_receiver_report (receiver.told_outcome a.receiver)

@@ -1,10 +1,11 @@
 -- The calls of the player joined: what a program prints that opens a pack, begins it and then calls play until the player
 -- is finished. Nothing is known here of a call but what it promises, and that a lent slice keeps its length.
-use Rattle.std.specs.Prelude.{ℕ, suc, ◌*◌, ◌≤◌, true, List, [], ◌++◌, ◌≡◌, leb, length, take, replicate}
-use Rattle.player.specs.Calls.{told_opening, told_progress, begin_of, play_of, is_finished}
+use Rattle.std.specs.Prelude.{ℕ, suc, ◌*◌, ◌≤◌, true, List, [], ◌++◌, ◌≡◌, leb, length, take, replicate, Ok, Err}
+use Rattle.std.specs.declared.result.Result as answers
+use Rattle.frame.specs.Result.{number_of, told_result}
+use Rattle.frame.specs.declared.refusal.Refusal.{Refusal}
+use Rattle.player.specs.Calls.{told_progress, begin_of, play_of, is_finished}
 use Rattle.player.specs.Played.{open_of, played}
-use Rattle.player.specs.declared.Opening as opening
-use Rattle.player.specs.declared.Opening.TheVariants as variants
 use Rattle.player.specs.declared.Player.{Player}
 use Rattle.player.specs.declared.Progress.{Progress}
 use Rattle.text.specs.Page.{page, put}
@@ -49,13 +50,13 @@ pub data Plays (bytes : List ℕ) : ℕ → Held → List ℕ → Held → Type 
 -- What opening answered, and what is printed then. A refusal: its line alone, on a page of at least 14 bytes. A player:
 -- after n calls of play it is finished just where 128 times n reaches the number of events, as 512 calls always do; and
 -- once it is, all that was printed is `played`, however many calls follow.
-abbrev pub Prints : List ℕ → opening.Opening → Type 0
-Prints bytes (variants.Refused number) =
+abbrev pub Prints : List ℕ → answers.Result Player Refusal → Type 0
+Prints bytes (Err refusal) =
     (out out' : List ℕ) (written : ℕ)
     → 14 ≤ length out
-    → page out' written ≡ put (page out 0) (refused_text number)
+    → page out' written ≡ put (page out 0) (refused_text (number_of refusal))
     → take written out' ≡ played bytes
-Prints bytes (variants.Ready q) =
+Prints bytes (Ok q) =
     (n : ℕ) (begun text : List ℕ) (h k : Held)
     → Begins bytes q begun h
     → Plays bytes n h text k
@@ -66,7 +67,7 @@ Prints bytes (variants.Ready q) =
 -- whatever the bytes are
 abbrev pub PrintsPlayed : Type 0
 PrintsPlayed =
-    (bytes : List ℕ) (answer : opening.Opening) → told_opening answer ≡ open_of bytes → Prints bytes answer
+    (bytes : List ℕ) (answer : answers.Result Player Refusal) → told_result answer ≡ open_of bytes → Prints bytes answer
 
 -- a begin and so many calls of play
 pub record Run (bytes : List ℕ) (q : Player) (n : ℕ) : Type 0 where

@@ -1,15 +1,17 @@
 // The player's calls: each writes what it prints into the lent page.
-ghost use Rattle.std.specs.Prelude.{◌≡◌, ◌&&◌, List, eqb, ℕ, ◌+◌, ◌≤◌, ◌-◌, min};
+ghost use Rattle.std.specs.Prelude.{◌≡◌, List, ℕ, ◌+◌, ◌≤◌, ◌-◌, min};
 ghost use Rattle.player.specs.Calls.{told_progress, begin_of, play_of, is_finished};
 
 use crate::parts::part;
-use crate::run::run;
-use crate::turn::{Turn, first_turn};
+use crate::turn::{Session, lines};
 use crate::{Player, Progress};
 use pack::Bodies;
+use text::SENDER;
+use transport::Ends;
 
 // The lent lengths: a line's 64 places of nine bytes, and the page.
-const LINE: usize = 576;
+// A line's is the number that this crate's promises name, as transport's do.
+pub(crate) const LINE: usize = 576;
 
 const PAGE: usize = 16384;
 
@@ -17,8 +19,7 @@ const PAGE: usize = 16384;
 fn most(played: u16) -> usize
     ensures { (result ≤ 128) × (played + result ≤ 65535) × (result ≡ min 128 (65535 - played)) }
 {
-    let left = 65535 - played;
-    if left <= 128 { left as usize } else { 128 }
+    usize::from((65535 - played).min(128))
 }
 
 // Where the next event stands in the pack.
@@ -26,20 +27,6 @@ fn next_event(bodies: Bodies, played: u16) -> usize
     ensures { (result ≤ 200000) × (result ≡ 23 + bodies.message + played) }
 {
     23 + bodies.message as usize + played as usize
-}
-
-// Whether a line and the page are lent in their lengths.
-fn begins_on(forward: usize, out: usize) -> bool
-    ensures { result ≡ (eqb forward 576 && eqb out 16384) }
-{
-    (forward == LINE) & (out == PAGE)
-}
-
-// Whether both lines and the page are.
-fn plays_on(forward: usize, back: usize, out: usize) -> bool
-    ensures { result ≡ (eqb forward 576 && eqb back 576 && eqb out 16384) }
-{
-    (forward == LINE) & (back == LINE) & (out == PAGE)
 }
 
 impl Player {
@@ -54,22 +41,19 @@ impl Player {
     }
 
     // After a step, with so many events played.
-    fn after(self, turn: Turn, played: u16) -> Progress
-        ensures { (result.player.ends ≡ turn.ends)
+    fn after(self, ends: Ends, at: usize, played: u16) -> Progress
+        ensures { (result.player.ends ≡ ends)
             × (result.player.bodies ≡ self.bodies)
             × (result.player.played ≡ played)
-            × (result.written ≡ turn.at) }
+            × (result.written ≡ at) }
     {
-        let ends = turn.ends;
-        let bodies = self.bodies;
-        let player = Player {
-            ends,
-            bodies,
-            played,
-        };
         Progress {
-            player,
-            written: turn.at,
+            player: Player {
+                ends,
+                played,
+                ..self
+            },
+            written: at,
         }
     }
 
@@ -79,18 +63,19 @@ impl Player {
             told_progress result forward.new back buffer out.new
             ≡ begin_of pack.now self forward.old back buffer out.old }
     {
-        if begins_on(forward.len(), out.len()) {
-            let bodies = self.bodies;
-            let ends = self.ends;
-            let message = part(pack, 23, bodies.message as usize);
-            let turn = first_turn(ends, message, forward, out);
-            self.after(turn, self.played)
-        } else {
-            self.unchanged()
+        let Some(forward) = forward.as_mut_array::<LINE>() else {
+            return self.unchanged();
+        };
+        if out.len() != PAGE {
+            return self.unchanged();
         }
+        let message = part(pack, 23, self.bodies.message as usize);
+        let a = self.ends.begin(message, forward);
+        let at = lines(a.said, SENDER, 0, out, 0);
+        self.after(a.next, at, self.played)
     }
 
-    // Plays the next events.
+    // Plays the next events. What is lent goes apart here: the promise names each slice.
     pub fn play(
         self,
         pack: &[u8],
@@ -104,24 +89,35 @@ impl Player {
             ≡ play_of pack.now self
             forward.old back.old buffer.old out.old }
     {
-        if plays_on(forward.len(), back.len(), out.len()) {
-            let bodies = self.bodies;
-            let played = self.played;
-            let ends = self.ends;
-            let message = part(pack, 23, bodies.message as usize);
-            let events = part(pack, next_event(bodies, played), most(played));
-            let turn = run(ends, played, message, events, buffer, forward, back, out);
-            self.after(turn, played + events.len() as u16)
-        } else {
-            self.unchanged()
+        let Some(forward) = forward.as_mut_array::<LINE>() else {
+            return self.unchanged();
+        };
+        let Some(back) = back.as_mut_array::<LINE>() else {
+            return self.unchanged();
+        };
+        if out.len() != PAGE {
+            return self.unchanged();
         }
+        let played = self.played;
+        let message = part(pack, 23, self.bodies.message as usize);
+        let events = part(pack, next_event(self.bodies, played), most(played));
+        let mut session = Session {
+            ends: self.ends,
+            message,
+            buffer,
+            forward,
+            back,
+            out,
+            at: 0,
+        };
+        session.run(played, events);
+        self.after(session.ends, session.at, played + events.len() as u16)
     }
 
     // Whether every event has been played.
     pub fn is_finished(self) -> bool
         ensures { result ≡ is_finished self }
     {
-        let bodies = self.bodies;
-        bodies.events <= self.played
+        self.bodies.events <= self.played
     }
 }

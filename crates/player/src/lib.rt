@@ -19,14 +19,7 @@ pub struct Player {
     pub played: u16,
 }
 
-// What opening a pack answers: the player, or the number of the refusal.
-#[derive(Clone, Copy)]
-pub enum Opening {
-    Ready(Player),
-    Refused(u8),
-}
-
-// The player after a call, and how many bytes of the page are written.
+// The player after a call, and how many bytes of the page are written: a length and no slice, since the page is lent.
 #[derive(Clone, Copy)]
 pub struct Progress {
     pub player: Player,

@@ -1,42 +1,46 @@
 -- What is told of an answer leaves nothing of it open: telling has a left inverse, by cases.
 -- Assumes nothing.
+use Prim.Native.Nat.{ℕ}
 use mathlib.Core.Path.{◌≡◌, refl, ap}
-use Rattle.frame.specs.Result as result
-use Rattle.receiver.specs.Told.{told_made, Outcome, quiet, refused, delivered, failed, short, told_outcome, Told, told}
+use mathlib.Core.List.{List}
+use Rattle.std.specs.Prelude.{Some, None}
+use Rattle.std.specs.declared.option.Option.{Option}
+use Rattle.frame.proofs.Told.{refusal_at, number_injective, cause_at, cause_injective}
+use Rattle.frame.specs.declared.cause.Cause.{Cause}
+use Rattle.frame.specs.Choice.{pick}
+use Rattle.frame.specs.declared.Frame.{Frame}
+use Rattle.receiver.specs.Told.{Outcome, quiet, refused, delivered, failed, short, told_outcome, told_bytes, Told, told}
 use Rattle.receiver.specs.declared.Answer as answer
-use Rattle.receiver.specs.declared.Made as Made-enum
-use Rattle.receiver.specs.declared.Receiver.{Receiver}
-use Rattle.receiver.specs.declared.Made.TheVariants as made-variants
 use Rattle.receiver.specs.declared.Outcome as outcome-enum
 use Rattle.receiver.specs.declared.Outcome.TheVariants as outcome-variants
+use Rattle.receiver.specs.declared.Receiver.{Receiver}
 
-abbrev pub untold_made : result.Result Receiver → Made-enum.Made
-untold_made (result.accepted r) = made-variants.End r
-untold_made (result.refused number) = made-variants.Refused number
+abbrev pub untold_outcome : Outcome → List ℕ → outcome-enum.Outcome
+untold_outcome quiet bytes = outcome-variants.Quiet
+untold_outcome (refused number) bytes = outcome-variants.Refused (refusal_at number)
+untold_outcome (delivered length) bytes = outcome-variants.Delivered length
+untold_outcome (failed cause) bytes = outcome-variants.Failed (cause_at cause)
+untold_outcome short bytes = outcome-variants.Short bytes
 
-pub told_made_injective : (m : Made-enum.Made) → untold_made (told_made m) ≡ m
-told_made_injective (made-variants.End r) = refl
-told_made_injective (made-variants.Refused number) = refl
-
-abbrev pub untold_outcome : Outcome → outcome-enum.Outcome
-untold_outcome quiet = outcome-variants.Quiet
-untold_outcome (refused number) = outcome-variants.Refused number
-untold_outcome (delivered length) = outcome-variants.Delivered length
-untold_outcome (failed cause) = outcome-variants.Failed cause
-untold_outcome short = outcome-variants.Short
-
-told_outcome_injective : (o : outcome-enum.Outcome) → untold_outcome (told_outcome o) ≡ o
+told_outcome_injective : (o : outcome-enum.Outcome) → untold_outcome (told_outcome o) (told_bytes o) ≡ o
 told_outcome_injective outcome-variants.Quiet = refl
-told_outcome_injective (outcome-variants.Refused number) = refl
+told_outcome_injective (outcome-variants.Refused refusal) = ap outcome-variants.Refused (number_injective refusal)
 told_outcome_injective (outcome-variants.Delivered length) = refl
-told_outcome_injective (outcome-variants.Failed cause) = refl
-told_outcome_injective outcome-variants.Short = refl
+told_outcome_injective (outcome-variants.Failed cause) = ap (λ (c : Cause). outcome-variants.Failed c) (cause_injective cause)
+told_outcome_injective (outcome-variants.Short bytes) = refl
 
 abbrev pub untold : Told → answer.Answer
 untold t =
-    record { next = t.next; emits = t.emits; frame = t.frame; outcome = untold_outcome t.outcome; bytes = t.bytes }
+    record { next = t.next; frame = pick t.emits (Some t.frame) None; outcome = untold_outcome t.outcome t.bytes }
+
+by_frame : (r : Receiver) (f : Option Frame) (o : outcome-enum.Outcome)
+    → untold (told (record { next = r; frame = f; outcome = o })) ≡ record { next = r; frame = f; outcome = o }
+unfolding pick
+by_frame r None o =
+    ap (λ (o : outcome-enum.Outcome). record { next = r; frame = None; outcome = o }) (told_outcome_injective o)
+by_frame r (Some f) o =
+    ap (λ (o : outcome-enum.Outcome). record { next = r; frame = Some f; outcome = o }) (told_outcome_injective o)
 
 pub told_injective : (a : answer.Answer) → untold (told a) ≡ a
-told_injective a =
-    ap (λ (o : outcome-enum.Outcome). record { next = a.next; emits = a.emits; frame = a.frame; outcome = o; bytes = a.bytes })
-    (told_outcome_injective a.outcome)
+unfolding pick
+told_injective a = by_frame a.next a.frame a.outcome

@@ -1,20 +1,21 @@
 -- Every call counts by type as document 02, E4, says: a walk over the view, and over the five that can be counted.
 -- Assumes nothing.
-use Prim.Native.Nat.{ℕ, ◌+◌}
-use mathlib.Core.Bool.{Bool, true}
+use Prim.Native.Nat.{ℕ, ◌+◌, ◌≤◌}
+use mathlib.Core.Bool.{Bool, true, false}
 use mathlib.Core.List.{List}
 use mathlib.Core.Path.{◌≡◌, refl, sym, ap, ◌∙◌}
 use native.Mathlib.Omega.{arith}
-use borrow.Author.Tests.{ne_eqb, eq-eqb}
+use borrow.Author.Tests.{ne_eqb, eq-eqb, le-leb}
 use lib.Dec.{leb}
 use Rattle.frame.specs.Choice.{pick}
+use Rattle.frame.specs.Count.{increment_of}
 use Rattle.frame.specs.Frames.{lm_ack_of}
 use Rattle.frame.specs.declared.Frame.{Frame}
-use Rattle.receiver.proofs.Laws.{tick_free}
+use Rattle.frame.proofs.Choice.{pick_true, pick_false}
 use Rattle.receiver.proofs.View.{receiver_in, Shut, Ticks, rests, waits, retries, repeats, expires, tick_does, Counted, first_after_ack, second_after_ack, first_after_frame, first_again, Pause, hold, resume, Pauses, denied, holds, resumes, pause_does, nacks, opens, again, ended, above, delivers, asks, goes_on, Hears, refuses, ignores, announced, informed, closes, short, short_only_lem, hear_does}
 use Rattle.receiver.specs.Hear.{opening}
 use Rattle.receiver.specs.Misses.{acknowledged, timed_out}
-use Rattle.receiver.specs.Tick.{timeout_by, tick_phase, tick_of}
+use Rattle.receiver.specs.Tick.{timeout_by, timeout_free, tick_open, tick_phase, tick_of}
 use Rattle.receiver.specs.Told as told
 use Rattle.receiver.specs.Told.{Told, quiet, failed}
 use Rattle.receiver.specs.Types.{count_of, number_of, acknowledges, times_out, count_after, CountsTick, CountsPause, CountsHear, ThirdFails, CountsByType}
@@ -112,13 +113,19 @@ module _ (s : Settings) where
   by_misses r x NoneAfterFrame = refl
   by_misses r x OneAfterFrame = refl
 
+  free_ticks : (r : Receiver) (x : Connection) → r.settings.timeout ≤ increment_of x.wait → x.held ≡ false
+      → timeout_free r x ≡ tick_open r x
+  unfolding tick_open
+  free_ticks r x due free =
+      pick_true _ (le-leb r.settings.timeout (increment_of x.wait) due) (pick_false _ free refl)
+
   third_fails : (p : Phase) → ThirdFails (receiver_in s p) p
   unfolding tick_of tick_phase
   third_fails Idle = tt
   third_fails (Done y) = tt
   third_fails (Open x) = λ free due.
       let r = receiver_in s (Open x) in
-      ap (λ (t : Told). t.outcome) (sym (tick_free r x refl refl due free)) ∙ by_misses r x x.misses
+      ap (λ (t : Told). t.outcome) (sym (free_ticks r x due free)) ∙ by_misses r x x.misses
 
 pub counts_by_type : CountsByType
 counts_by_type =

@@ -2,10 +2,10 @@
 -- the same time what the connection waits after. Of all that the two could be together these five come about: a frame that is
 -- accepted clears the count, and every timeout draws an LM_ACK, so that a wait after a frame is one with nothing counted, and of
 -- timeouts after a frame there is never more than one in a row.
+use Rattle.std.specs.Prelude.{Some, None}
+use Rattle.std.specs.declared.option.Option.{Option}
 use Rattle.receiver.specs.declared.Misses.{Misses}
 use Rattle.receiver.specs.declared.Misses.TheVariants.{NoneAfterAck, OneAfterAck, TwoAfterAck, NoneAfterFrame, OneAfterFrame}
-use Rattle.receiver.specs.declared.Timeout.{Timeout}
-use Rattle.receiver.specs.declared.Timeout.TheVariants.{Third, Counts}
 
 -- "the later one decides the type", where it is an LM_ACK of a hold, of a resume or of a timeout while held: from now on the
 -- wait is one after an LM_ACK; what is counted stays
@@ -18,10 +18,10 @@ acknowledged OneAfterFrame = OneAfterFrame
 
 -- A timeout, not held, is of the type of the wait that it ends. After an LM_ACK it is the first, the second or the third of its
 -- type in a row; after a frame it is the first. After the LM_ACK that one after a frame drew it is of another type than that one,
--- and the first again.
-abbrev pub timed_out : Misses → Timeout
-timed_out NoneAfterAck = Counts OneAfterAck
-timed_out OneAfterAck = Counts TwoAfterAck
-timed_out TwoAfterAck = Third
-timed_out NoneAfterFrame = Counts OneAfterFrame
-timed_out OneAfterFrame = Counts OneAfterAck
+-- and the first again. None: it is the third of one type; else what is counted after it.
+abbrev pub timed_out : Misses → Option Misses
+timed_out NoneAfterAck = Some OneAfterAck
+timed_out OneAfterAck = Some TwoAfterAck
+timed_out TwoAfterAck = None
+timed_out NoneAfterFrame = Some OneAfterFrame
+timed_out OneAfterFrame = Some OneAfterAck

@@ -1,6 +1,7 @@
 -- Document 01, The receiver, "Tick, Open" and "Tick or LM_NACK, Idle"; document 02, E2, the timeouts while held, and E4, the
 -- types of the others.
-use Rattle.std.specs.Prelude.{◌+◌, leb}
+use Rattle.std.specs.Prelude.{◌+◌, leb, Some, None}
+use Rattle.std.specs.declared.option.Option.{Option}
 use Rattle.frame.specs.Choice.{pick}
 use Rattle.frame.specs.Count.{increment_of}
 use Rattle.receiver.specs.Hold.{hold_ack}
@@ -13,8 +14,6 @@ use Rattle.receiver.specs.declared.Misses.{Misses}
 use Rattle.receiver.specs.declared.Phase.{Phase}
 use Rattle.receiver.specs.declared.Phase.TheVariants.{Idle, Done, Open}
 use Rattle.receiver.specs.declared.Receiver.{Receiver}
-use Rattle.receiver.specs.declared.Timeout.{Timeout}
-use Rattle.receiver.specs.declared.Timeout.TheVariants.{Third, Counts}
 
 -- before T: a tick more has been waited, and nothing else changes
 abbrev pub waiting : Receiver → Connection → Told
@@ -28,9 +27,9 @@ abbrev pub asking_again : Receiver → Connection → Misses → Told
 asking_again r x misses = asking r x x.expected misses
 
 -- E4: the third of one type in a row fails the connection with NACK 2
-unfoldable pub timeout_by : Receiver → Connection → Timeout → Told
-timeout_by r x Third = failing_with r 2
-timeout_by r x (Counts misses) = asking_again r x misses
+unfoldable pub timeout_by : Receiver → Connection → Option Misses → Told
+timeout_by r x None = failing_with r 2
+timeout_by r x (Some misses) = asking_again r x misses
 
 abbrev pub timeout_free : Receiver → Connection → Told
 timeout_free r x = timeout_by r x (timed_out x.misses)

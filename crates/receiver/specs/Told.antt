@@ -1,21 +1,15 @@
 -- What the receiver's calls answer, with the numbers that documents 01 and 02 give to refusals and causes.
-use Rattle.std.specs.Prelude.{ℕ, Bool, true, false, List, [], ◌∷◌}
-use Rattle.frame.specs.Result as result
-use Rattle.frame.specs.Frames.{blank_of, lm_nack_of}
+use Rattle.std.specs.Prelude.{ℕ, Bool, true, false, List, [], ◌∷◌, is_some}
+use Rattle.frame.specs.Frames.{blank_of, frame_or_blank, lm_nack_of}
+use Rattle.frame.specs.Cause.{cause_of}
+use Rattle.frame.specs.Result.{number_of}
 use Rattle.frame.specs.declared.Frame.{Frame}
 use Rattle.receiver.specs.State.{in_phase}
 use Rattle.receiver.specs.declared.Answer as answer
-use Rattle.receiver.specs.declared.Made as Made-enum
-use Rattle.receiver.specs.declared.Made.TheVariants as made-variants
 use Rattle.receiver.specs.declared.Outcome as outcome-enum
 use Rattle.receiver.specs.declared.Outcome.TheVariants as outcome-variants
 use Rattle.receiver.specs.declared.Phase.TheVariants.{Idle}
 use Rattle.receiver.specs.declared.Receiver.{Receiver}
-
--- document 01's value for each case of making's answer
-abbrev pub told_made : Made-enum.Made → result.Result Receiver
-told_made (made-variants.End r) = result.accepted r
-told_made (made-variants.Refused number) = result.refused number
 
 -- what a call reports: nothing; that it was refused, by a number; a long delivery of so many bytes; a failure with its
 -- cause; a short delivery, whose eight bytes stand beside it
@@ -29,10 +23,21 @@ pub data Outcome : Type 0 where
 -- the documents' number and values for each case of the outcome
 abbrev pub told_outcome : outcome-enum.Outcome → Outcome
 told_outcome outcome-variants.Quiet = quiet
-told_outcome (outcome-variants.Refused number) = refused number
+told_outcome (outcome-variants.Refused refusal) = refused (number_of refusal)
 told_outcome (outcome-variants.Delivered length) = delivered length
-told_outcome (outcome-variants.Failed cause) = failed cause
-told_outcome outcome-variants.Short = short
+told_outcome (outcome-variants.Failed cause) = failed (cause_of cause)
+told_outcome (outcome-variants.Short bytes) = short
+
+-- the bytes of a short delivery, eight zeros where there is none
+abbrev pub no_bytes : List ℕ
+no_bytes = 0 ∷ 0 ∷ 0 ∷ 0 ∷ 0 ∷ 0 ∷ 0 ∷ 0 ∷ []
+
+abbrev pub told_bytes : outcome-enum.Outcome → List ℕ
+told_bytes outcome-variants.Quiet = no_bytes
+told_bytes (outcome-variants.Refused refusal) = no_bytes
+told_bytes (outcome-variants.Delivered length) = no_bytes
+told_bytes (outcome-variants.Failed cause) = no_bytes
+told_bytes (outcome-variants.Short bytes) = bytes
 
 -- a call's whole answer: the next state, whether a frame goes out, which one (blank where none does), what is reported,
 -- and the bytes of a short delivery (eight zeros where there is none)
@@ -45,7 +50,13 @@ pub record Told : Type 0 where
 
 abbrev pub told : answer.Answer → Told
 told a =
-    record { next = a.next; emits = a.emits; frame = a.frame; outcome = told_outcome a.outcome; bytes = a.bytes }
+    record {
+      next = a.next;
+      emits = is_some a.frame;
+      frame = frame_or_blank a.frame;
+      outcome = told_outcome a.outcome;
+      bytes = told_bytes a.outcome;
+    }
 
 -- a hearing's whole answer: what is told, and the lent buffer as the hearing leaves it
 pub record Heard : Type 0 where
@@ -54,9 +65,6 @@ pub record Heard : Type 0 where
 
 abbrev pub heard : Told → List ℕ → Heard
 heard t buffer = record { told = t; buffer = buffer }
-
-abbrev pub no_bytes : List ℕ
-no_bytes = 0 ∷ 0 ∷ 0 ∷ 0 ∷ 0 ∷ 0 ∷ 0 ∷ 0 ∷ []
 
 -- Refusals, by place: the number alone; the state holds what it held
 abbrev pub refusing : Receiver → ℕ → Told

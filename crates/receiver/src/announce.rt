@@ -1,4 +1,4 @@
-// Frame 0: an announcement of N frames that hold L bytes.
+// Frame 0: an announcement of N frames that hold L bytes. The two go as two numbers, as in the definitions.
 ghost use Rattle.std.specs.Prelude.{◌≡◌};
 ghost use Rattle.receiver.specs.Hear.{
   announces_well,
@@ -12,6 +12,7 @@ ghost use Rattle.receiver.specs.Hear.{
 ghost use Rattle.receiver.specs.Told.{told};
 
 use crate::{Answer, Connection, Phase, Receiver};
+use frame::Cause;
 use frame::build::{lm_ack, lm_nack};
 use frame::count::{frame_count, within};
 
@@ -19,8 +20,7 @@ use frame::count::{frame_count, within};
 fn announces_well(frames: u8, length: u16) -> bool
     ensures { result ≡ announces_well frames length }
 {
-    let needed = frame_count(length);
-    within(9, length, 1785) & (frames as u16 == needed)
+    within(9, length, 1785) & (u16::from(frames) == frame_count(length))
 }
 
 // The same N and L, before the first frame.
@@ -41,6 +41,7 @@ impl Receiver {
     }
 
     // NACK 5 for a bad announcement, then NACK 1 for one that is over the capacity.
+    #[tactic(auto, unfolding(crate::specs::Hear::announce_idle, frame::specs::Choice::pick))]
     fn announce_idle(self, frames: u8, length: u16) -> Answer
         ensures { told result ≡ announce_idle self frames length }
     {
@@ -48,10 +49,10 @@ impl Receiver {
             if length <= self.settings.capacity {
                 self.opening(frames, length)
             } else {
-                self.emitting(lm_nack(1))
+                self.emitting(lm_nack(u8::from(Cause::NoSpace)))
             }
         } else {
-            self.emitting(lm_nack(5))
+            self.emitting(lm_nack(u8::from(Cause::Announcement)))
         }
     }
 
@@ -62,6 +63,7 @@ impl Receiver {
         self.emitting(lm_ack(1, x.last))
     }
 
+    #[tactic(auto, unfolding(crate::specs::Hear::announce_open, frame::specs::Choice::pick))]
     fn announce_open(self, x: Connection, frames: u8, length: u16) -> Answer
         ensures { told result ≡ announce_open self x frames length }
     {
@@ -72,13 +74,12 @@ impl Receiver {
         }
     }
 
+    #[tactic(auto, unfolding(crate::specs::Hear::hear_announcement))]
     pub(crate) fn hear_announcement(self, frames: u8, length: u16) -> Answer
         ensures { told result ≡ hear_announcement self self.phase frames length }
     {
-        let phase = self.phase;
-        match phase {
-            Phase::Idle => self.announce_idle(frames, length),
-            Phase::Done(_) => self.announce_idle(frames, length),
+        match self.phase {
+            Phase::Idle | Phase::Done(_) => self.announce_idle(frames, length),
             Phase::Open(x) => self.announce_open(x, frames, length),
         }
     }

@@ -14,16 +14,15 @@ ghost use Rattle.receiver.specs.Told.{told};
 
 use crate::window::window_ack;
 use crate::{Answer, Connection, Phase, Receiver};
-use frame::Frame;
 use frame::build::lm_ack;
-use frame::count::saturating_sub;
+use frame::{Frame, Refusal};
 
 impl Connection {
     // LM_ACK e − 1, 1.
     pub(crate) fn hold_ack(self) -> Frame
         ensures { result ≡ hold_ack self }
     {
-        lm_ack(saturating_sub(self.expected, 1), 1)
+        lm_ack(self.expected.saturating_sub(1), 1)
     }
 
     // A frame has been accepted, and no hold stands.
@@ -35,32 +34,36 @@ impl Connection {
 }
 
 impl Receiver {
-    // The mark is set.
+    // The mark is set. (`resuming` and a tick's `holding_on` change other fields and ask for other frames.)
     fn holding(self, x: Connection) -> Answer
         ensures { told result ≡ holding self x }
     {
-        self.in_phase(Phase::Open(x.marked(true, x.last, x.wait, x.holds)))
-            .emitting(x.hold_ack())
+        let kept = Connection {
+            held: true,
+            ..x.acknowledged()
+        };
+        self.in_phase(Phase::Open(kept)).emitting(x.hold_ack())
     }
 
+    #[tactic(auto, unfolding(crate::specs::Hold::hold_open, frame::specs::Choice::pick))]
+    // (`resume_open` has this shape; its test and its step are others, and each has its definition. So have `hold` and `resume`.)
     fn hold_open(self, x: Connection) -> Answer
         ensures { told result ≡ hold_open self x }
     {
         if x.may_hold() {
             self.holding(x)
         } else {
-            self.refusing(13)
+            self.refusing(Refusal::Hold)
         }
     }
 
     // Holds the transfer. Refused 13 where none is open, where frame 1 is expected, and where it is held.
+    #[tactic(auto, unfolding(crate::specs::Hold::hold_of, crate::specs::Hold::hold_phase))]
     pub fn hold(self) -> Answer
         ensures { told result ≡ hold_of self }
     {
-        let phase = self.phase;
-        match phase {
-            Phase::Idle => self.refusing(13),
-            Phase::Done(_) => self.refusing(13),
+        match self.phase {
+            Phase::Idle | Phase::Done(_) => self.refusing(Refusal::Hold),
             Phase::Open(x) => self.hold_open(x),
         }
     }
@@ -70,28 +73,33 @@ impl Receiver {
         ensures { told result ≡ resuming self x }
     {
         let last = self.settings.window_of(x.expected, x.frames);
-        self.in_phase(Phase::Open(x.marked(false, last, x.wait, x.holds)))
+        let going = Connection {
+            held: false,
+            last,
+            ..x.acknowledged()
+        };
+        self.in_phase(Phase::Open(going))
             .emitting(window_ack(x.expected, last))
     }
 
+    #[tactic(auto, unfolding(crate::specs::Hold::resume_open, frame::specs::Choice::pick))]
     fn resume_open(self, x: Connection) -> Answer
         ensures { told result ≡ resume_open self x }
     {
         if x.held {
             self.resuming(x)
         } else {
-            self.refusing(13)
+            self.refusing(Refusal::Hold)
         }
     }
 
     // Ends the hold. Refused 13 where none stands.
+    #[tactic(auto, unfolding(crate::specs::Hold::resume_of, crate::specs::Hold::resume_phase))]
     pub fn resume(self) -> Answer
         ensures { told result ≡ resume_of self }
     {
-        let phase = self.phase;
-        match phase {
-            Phase::Idle => self.refusing(13),
-            Phase::Done(_) => self.refusing(13),
+        match self.phase {
+            Phase::Idle | Phase::Done(_) => self.refusing(Refusal::Hold),
             Phase::Open(x) => self.resume_open(x),
         }
     }

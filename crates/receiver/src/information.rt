@@ -1,9 +1,8 @@
-// Frames from number 1 on: the message, seven bytes each.
-ghost use Rattle.std.specs.Prelude.{◌≡◌, ◌≤◌, ◌<◌, length, drop};
+// Frames from number 1 on: the message, seven bytes each. A frame, what was read of it and the buffer go together as the definitions
+// take them; what is asked of the frame expected stands in two functions, for which no type would be plainer.
+ghost use Rattle.std.specs.Prelude.{◌≡◌, ◌≤◌, drop};
 ghost use Rattle.receiver.specs.Hear.{
   ending,
-  asking_next,
-  expecting_next,
   stored,
   is_unclean,
   information_expected,
@@ -15,9 +14,9 @@ ghost use Rattle.receiver.specs.Hear.{
 ghost use Rattle.receiver.specs.Told.{told, heard};
 
 use crate::store::storing;
-use crate::{Answer, Connection, Delivery, Misses, Phase, Receiver};
+use crate::{Answer, Buffer, Connection, Delivery, Misses, Phase, Receiver};
 use frame::build::end_of_ack;
-use frame::{Frame, Parsed};
+use frame::{Cause, Frame, Parsed, Refusal};
 
 impl Connection {
     // The message's last frame, with something else than filler behind the message.
@@ -40,24 +39,9 @@ impl Receiver {
         .delivering(end_of_ack(x.frames, x.length), x.length)
     }
 
-    // The next window is asked for: the wait is one after its LM_ACK.
-    fn asking_next(self, x: Connection) -> Answer
-        requires { x.expected < x.frames }
-        ensures { told result ≡ asking_next self x }
-    {
-        self.asking(x, x.expected + 1, Misses::NoneAfterAck)
-    }
-
-    // The next frame is expected: the wait is one after this frame.
-    fn expecting_next(self, x: Connection) -> Answer
-        requires { x.expected < x.frames }
-        ensures { told result ≡ expecting_next self x }
-    {
-        self.in_phase(Phase::Open(x.moved(x.expected + 1, x.last, 0, Misses::NoneAfterFrame)))
-            .silently()
-    }
-
-    // The frame expected is in the buffer.
+    // The frame expected is in the buffer. Where it is the window's last, the next window is asked for, and the wait is one after
+    // its LM_ACK; else the next frame is expected, and the wait is one after this frame.
+    #[tactic(auto, unfolding(crate::specs::Hear::stored, frame::specs::Choice::pick))]
     fn stored(self, x: Connection) -> Answer
         requires { x.expected ≤ x.frames }
         ensures { told result ≡ stored self x }
@@ -66,38 +50,52 @@ impl Receiver {
             return self.ending(x);
         }
         if x.expected == x.last {
-            return self.asking_next(x);
+            self.asking(x, x.expected + 1, Misses::NoneAfterAck)
+        } else {
+            let next = Connection {
+                expected: x.expected + 1,
+                wait: 0,
+                misses: Misses::NoneAfterFrame,
+                ..x
+            };
+            self.in_phase(Phase::Open(next)).silently()
         }
-        self.expecting_next(x)
     }
 
     // The frame expected: refused 14 where it is the message's last and unclean, else stored.
+    #[tactic(auto, unfolding(crate::specs::Hear::information_expected, frame::specs::Choice::pick))]
     fn information_expected(
         self,
         x: Connection,
         f: Frame,
         parsed: Parsed,
-        buffer: &mut [u8],
+        buffer: &mut Buffer,
     ) -> Answer
-        requires { (length buffer.old ≡ 1785) × (x.expected ≤ x.frames) }
+        requires { x.expected ≤ x.frames }
         ensures { heard (told result) buffer.new
             ≡ information_expected self x parsed (drop 1 f.bytes) buffer.old }
     {
         if x.is_unclean(parsed) {
-            return self.refusing(14);
+            return self.refusing(Refusal::Unclean);
         }
         storing(f, parsed.number, x.length, buffer);
         self.stored(x)
     }
 
     // Above N the connection fails; the frame expected is taken or refused; any other is ignored.
-    fn information_open(self, x: Connection, f: Frame, parsed: Parsed, buffer: &mut [u8]) -> Answer
-        requires { length buffer.old ≡ 1785 }
+    #[tactic(auto, unfolding(crate::specs::Hear::information_open, frame::specs::Choice::pick))]
+    fn information_open(
+        self,
+        x: Connection,
+        f: Frame,
+        parsed: Parsed,
+        buffer: &mut Buffer,
+    ) -> Answer
         ensures { heard (told result) buffer.new
             ≡ information_open self x parsed (drop 1 f.bytes) buffer.old }
     {
         if x.frames < parsed.number {
-            return self.failing_with(4);
+            return self.failing_with(Cause::Number);
         }
         if parsed.number == x.expected {
             return self.information_expected(x, f, parsed, buffer);
@@ -112,6 +110,7 @@ impl Receiver {
     }
 
     // The last frame of what was delivered is acknowledged again.
+    #[tactic(auto, unfolding(crate::specs::Hear::information_done, frame::specs::Choice::pick))]
     fn information_done(self, x: Delivery, number: u8) -> Answer
         ensures { told result ≡ information_done self x number }
     {
@@ -122,13 +121,12 @@ impl Receiver {
         }
     }
 
-    pub(crate) fn hear_information(self, f: Frame, parsed: Parsed, buffer: &mut [u8]) -> Answer
-        requires { length buffer.old ≡ 1785 }
+    #[tactic(auto, unfolding(crate::specs::Hear::hear_information))]
+    pub(crate) fn hear_information(self, f: Frame, parsed: Parsed, buffer: &mut Buffer) -> Answer
         ensures { heard (told result) buffer.new
             ≡ hear_information self self.phase parsed (drop 1 f.bytes) buffer.old }
     {
-        let phase = self.phase;
-        match phase {
+        match self.phase {
             Phase::Idle => self.silently(),
             Phase::Done(x) => self.information_done(x, parsed.number),
             Phase::Open(x) => self.information_open(x, f, parsed, buffer),

@@ -11,7 +11,7 @@ mod store;
 mod tick;
 mod window;
 
-use frame::Frame;
+use frame::{Cause, Frame, Refusal};
 
 // Timeout T in ticks, window C in frames, capacity K in bytes.
 #[derive(Clone, Copy)]
@@ -39,13 +39,6 @@ pub enum Misses {
     OneAfterFrame,
 }
 
-// What a timeout comes to: it is the third of its type in a row, or these misses stand after it.
-#[derive(Clone, Copy)]
-pub enum Timeout {
-    Third,
-    Counts(Misses),
-}
-
 // An open connection: N and L as announced, the frame number expected (e) and the last of the window (w), the timeouts
 // counted and the ticks waited; whether it is held, and how many timeouts it has had while held. In this order it is laid
 // out without gaps.
@@ -69,37 +62,29 @@ pub enum Phase {
     Open(Connection),
 }
 
+// The buffer that a hearing is lent, once its length is known: `LONGEST`, by its number, since a length is not computed in a type.
+pub(crate) type Buffer = [u8; 1785];
+
 #[derive(Clone, Copy)]
 pub struct Receiver {
     pub settings: Settings,
     pub phase: Phase,
 }
 
-// What making answers: the receiver, or the number of the refusal.
-#[derive(Clone, Copy)]
-pub enum Made {
-    End(Receiver),
-    Refused(u8),
-}
-
-// What a call reports: nothing, a refusal by its number, a delivery of L bytes, a failure by its cause, or a short
-// delivery.
+// What a call reports: nothing, a refusal, a delivery of L bytes, a failure by its cause, or a short delivery of these bytes.
 #[derive(Clone, Copy)]
 pub enum Outcome {
     Quiet,
-    Refused(u8),
+    Refused(Refusal),
     Delivered(u16),
-    Failed(u8),
-    Short,
+    Failed(Cause),
+    Short([u8; 8]),
 }
 
-// What a call answers. Where emits is false, frame is the blank frame. bytes are those of a short delivery, else eight
-// zeros.
+// What a call answers: the state after it, the frame that goes out, if one does, and what is reported.
 #[derive(Clone, Copy)]
 pub struct Answer {
     pub next: Receiver,
-    pub emits: bool,
-    pub frame: Frame,
+    pub frame: Option<Frame>,
     pub outcome: Outcome,
-    pub bytes: [u8; 8],
 }

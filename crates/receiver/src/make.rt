@@ -1,12 +1,13 @@
 // Making a receiver.
 ghost use Rattle.std.specs.Prelude.{◌≡◌};
+ghost use Rattle.frame.specs.Result.{told_result};
 ghost use Rattle.receiver.specs.Make.{settings_fit, make_of};
-ghost use Rattle.receiver.specs.Told.{told_made};
 
-use crate::{Made, Phase, Receiver, Settings};
+use crate::{Phase, Receiver, Settings};
+use frame::Refusal;
 use frame::count::within;
 
-// T is 1 to 10000, C is 1 to 255, K is 9 to 1785.
+// T is 1 to 10000, C is 1 to 255, K is 9 to 1785. C hands them over as numbers, and `make_of` judges them.
 fn settings_fit(timeout: u16, window: u16, capacity: u16) -> bool
     ensures { result ≡ settings_fit timeout window capacity }
 {
@@ -15,11 +16,12 @@ fn settings_fit(timeout: u16, window: u16, capacity: u16) -> bool
 
 impl Receiver {
     // A receiver with these settings, Idle with nothing delivered; refused 1 where one is outside its limits.
-    pub fn make(timeout: u16, window: u16, capacity: u16) -> Made
-        ensures { told_made result ≡ make_of timeout window capacity }
+    #[tactic(auto, unfolding(crate::specs::Make::make_of, frame::specs::Choice::pick))]
+    pub fn make(timeout: u16, window: u16, capacity: u16) -> Result<Receiver, Refusal>
+        ensures { told_result result ≡ make_of timeout window capacity }
     {
         if settings_fit(timeout, window, capacity) {
-            Made::End(Receiver {
+            Ok(Receiver {
                 settings: Settings {
                     timeout,
                     window: window as u8,
@@ -28,7 +30,7 @@ impl Receiver {
                 phase: Phase::Idle,
             })
         } else {
-            Made::Refused(1)
+            Err(Refusal::Setting)
         }
     }
 }

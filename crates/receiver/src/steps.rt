@@ -1,7 +1,9 @@
 // The steps that the calls share: the changed state, and the answer of each kind.
+ghost use Rattle.frame.specs.Cause.{cause_of};
 ghost use Rattle.std.specs.Prelude.{◌≡◌};
+ghost use Rattle.frame.specs.Result.{number_of};
 ghost use Rattle.receiver.specs.Misses.{acknowledged, timed_out};
-ghost use Rattle.receiver.specs.State.{opened, moved, marked, in_phase};
+ghost use Rattle.receiver.specs.State.{opened, marked, in_phase};
 ghost use Rattle.receiver.specs.Told.{
   told,
   refusing,
@@ -14,44 +16,38 @@ ghost use Rattle.receiver.specs.Told.{
   short_only,
 };
 
-use crate::{Answer, Connection, Misses, Outcome, Phase, Receiver, Timeout};
-use frame::Frame;
-use frame::build::{blank, lm_nack};
-
-const NO_BYTES: [u8; 8] = [0, 0, 0, 0, 0, 0, 0, 0];
+use crate::{Answer, Connection, Misses, Outcome, Phase, Receiver};
+use frame::build::lm_nack;
+use frame::{Cause, Frame, Refusal};
 
 impl Misses {
     // An LM_ACK has gone out: the wait is one after it, and the count stays.
     pub(crate) fn acknowledged(self) -> Misses
         ensures { result ≡ acknowledged self }
     {
-        let misses = self;
-        match misses {
-            Misses::NoneAfterAck => Misses::NoneAfterAck,
-            Misses::OneAfterAck => Misses::OneAfterAck,
-            Misses::TwoAfterAck => Misses::TwoAfterAck,
+        match self {
             Misses::NoneAfterFrame => Misses::NoneAfterAck,
-            Misses::OneAfterFrame => Misses::OneAfterFrame,
+            misses => misses,
         }
     }
 
-    // A timeout more: of the same type as those counted, the first, or of another type and so the first again.
-    pub(crate) fn timed_out(self) -> Timeout
+    // What stands after a timeout more: of the same type as those counted, the first, or of another type and so the first again.
+    // None where it is the third of its type in a row.
+    pub(crate) fn timed_out(self) -> Option<Misses>
         ensures { result ≡ timed_out self }
     {
-        let misses = self;
-        match misses {
-            Misses::NoneAfterAck => Timeout::Counts(Misses::OneAfterAck),
-            Misses::OneAfterAck => Timeout::Counts(Misses::TwoAfterAck),
-            Misses::TwoAfterAck => Timeout::Third,
-            Misses::NoneAfterFrame => Timeout::Counts(Misses::OneAfterFrame),
-            Misses::OneAfterFrame => Timeout::Counts(Misses::OneAfterAck),
+        match self {
+            Misses::NoneAfterAck => Some(Misses::OneAfterAck),
+            Misses::OneAfterAck => Some(Misses::TwoAfterAck),
+            Misses::TwoAfterAck => None,
+            Misses::NoneAfterFrame => Some(Misses::OneAfterFrame),
+            Misses::OneAfterFrame => Some(Misses::OneAfterAck),
         }
     }
 }
 
 impl Connection {
-    // Just opened.
+    // Just opened: N and L as two numbers, as in the definitions.
     pub(crate) fn opened(frames: u8, length: u16, last: u8) -> Connection
         ensures { result ≡ opened frames length last }
     {
@@ -67,37 +63,13 @@ impl Connection {
         }
     }
 
-    // With other numbers.
-    pub(crate) fn moved(self, expected: u8, last: u8, wait: u16, misses: Misses) -> Connection
-        ensures { result ≡ moved self expected last wait misses }
+    // An LM_ACK has gone out: the wait is one after it.
+    pub(crate) fn acknowledged(self) -> Connection
+        ensures { result ≡ marked self self.held self.last self.wait self.holds }
     {
         Connection {
-            frames: self.frames,
-            length: self.length,
-            expected,
-            last,
-            wait,
-            misses,
-            held: self.held,
-            holds: self.holds,
-        }
-    }
-
-    // With another held mark, window end, wait and count of held timeouts; it goes with an LM_ACK.
-    pub(crate) fn marked(self, held: bool, last: u8, wait: u16, holds: u8) -> Connection
-        ensures { result ≡ marked self held last wait holds }
-    {
-        let misses = self.misses;
-        let misses = misses.acknowledged();
-        Connection {
-            frames: self.frames,
-            length: self.length,
-            expected: self.expected,
-            last,
-            wait,
-            misses,
-            held,
-            holds,
+            misses: self.misses.acknowledged(),
+            ..self
         }
     }
 }
@@ -106,21 +78,19 @@ impl Receiver {
     pub(crate) fn in_phase(self, phase: Phase) -> Receiver
         ensures { result ≡ in_phase self phase }
     {
-        let settings = self.settings;
-        Receiver { settings, phase }
+        Receiver { phase, ..self }
     }
 
-    // A refusal: its number, no frame and no report.
-    pub(crate) fn refusing(self, number: u8) -> Answer
-        ensures { told result ≡ refusing self number }
+    // The answers of each kind. Each is written out: a promise of what is told does not give the fields that `..` would copy.
+
+    // A refusal, no frame.
+    pub(crate) fn refusing(self, refusal: Refusal) -> Answer
+        ensures { told result ≡ refusing self (number_of refusal) }
     {
-        let frame = blank();
         Answer {
             next: self,
-            emits: false,
-            frame,
-            outcome: Outcome::Refused(number),
-            bytes: NO_BYTES,
+            frame: None,
+            outcome: Outcome::Refused(refusal),
         }
     }
 
@@ -128,13 +98,10 @@ impl Receiver {
     pub(crate) fn silently(self) -> Answer
         ensures { told result ≡ silently self }
     {
-        let frame = blank();
         Answer {
             next: self,
-            emits: false,
-            frame,
+            frame: None,
             outcome: Outcome::Quiet,
-            bytes: NO_BYTES,
         }
     }
 
@@ -144,10 +111,8 @@ impl Receiver {
     {
         Answer {
             next: self,
-            emits: true,
-            frame,
+            frame: Some(frame),
             outcome: Outcome::Quiet,
-            bytes: NO_BYTES,
         }
     }
 
@@ -157,40 +122,30 @@ impl Receiver {
     {
         Answer {
             next: self,
-            emits: true,
-            frame,
+            frame: Some(frame),
             outcome: Outcome::Delivered(length),
-            bytes: NO_BYTES,
         }
     }
 
     // A failure that emits the NACK of its cause. The last delivery is forgotten.
-    pub(crate) fn failing_with(self, cause: u8) -> Answer
-        ensures { told result ≡ failing_with self cause }
+    pub(crate) fn failing_with(self, cause: Cause) -> Answer
+        ensures { told result ≡ failing_with self (cause_of cause) }
     {
-        let next = self.in_phase(Phase::Idle);
-        let frame = lm_nack(cause);
         Answer {
-            next,
-            emits: true,
-            frame,
+            next: self.in_phase(Phase::Idle),
+            frame: Some(lm_nack(u8::from(cause))),
             outcome: Outcome::Failed(cause),
-            bytes: NO_BYTES,
         }
     }
 
     // A failure that emits nothing.
-    pub(crate) fn failing(self, cause: u8) -> Answer
-        ensures { told result ≡ failing self cause }
+    pub(crate) fn failing(self, cause: Cause) -> Answer
+        ensures { told result ≡ failing self (cause_of cause) }
     {
-        let next = self.in_phase(Phase::Idle);
-        let frame = blank();
         Answer {
-            next,
-            emits: false,
-            frame,
+            next: self.in_phase(Phase::Idle),
+            frame: None,
             outcome: Outcome::Failed(cause),
-            bytes: NO_BYTES,
         }
     }
 
@@ -200,10 +155,8 @@ impl Receiver {
     {
         Answer {
             next: self,
-            emits: true,
-            frame,
-            outcome: Outcome::Short,
-            bytes,
+            frame: Some(frame),
+            outcome: Outcome::Short(bytes),
         }
     }
 
@@ -211,13 +164,10 @@ impl Receiver {
     pub(crate) fn short_only(self, bytes: [u8; 8]) -> Answer
         ensures { told result ≡ short_only self bytes }
     {
-        let frame = blank();
         Answer {
             next: self,
-            emits: false,
-            frame,
-            outcome: Outcome::Short,
-            bytes,
+            frame: None,
+            outcome: Outcome::Short(bytes),
         }
     }
 }

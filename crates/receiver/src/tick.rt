@@ -3,7 +3,8 @@ ghost use Rattle.std.specs.Prelude.{◌≡◌, ◌<◌};
 ghost use Rattle.receiver.specs.Tick.{waiting, asking_again, timeout_free, holding_on, timeout_held, tick_open, tick_of};
 ghost use Rattle.receiver.specs.Told.{told};
 
-use crate::{Answer, Connection, Misses, Phase, Receiver, Timeout};
+use crate::{Answer, Connection, Misses, Phase, Receiver};
+use frame::Cause;
 use frame::count::increment;
 
 impl Receiver {
@@ -11,10 +12,11 @@ impl Receiver {
     fn waiting(self, x: Connection) -> Answer
         ensures { told result ≡ waiting self x }
     {
-        let wait = increment(x.wait);
-        let misses = x.misses;
-        self.in_phase(Phase::Open(x.moved(x.expected, x.last, wait, misses)))
-            .silently()
+        let waited = Connection {
+            wait: increment(x.wait),
+            ..x
+        };
+        self.in_phase(Phase::Open(waited)).silently()
     }
 
     // The window is asked for again, and these misses stand.
@@ -25,14 +27,13 @@ impl Receiver {
     }
 
     // The third of one type fails the connection; before it the window is asked for again.
+    #[tactic(auto, unfolding(crate::specs::Tick::timeout_by))]
     fn timeout_free(self, x: Connection) -> Answer
         ensures { told result ≡ timeout_free self x }
     {
-        let misses = x.misses;
-        let timeout = misses.timed_out();
-        match timeout {
-            Timeout::Third => self.failing_with(2),
-            Timeout::Counts(misses) => self.asking_again(x, misses),
+        match x.misses.timed_out() {
+            None => self.failing_with(Cause::Timeouts),
+            Some(misses) => self.asking_again(x, misses),
         }
     }
 
@@ -41,23 +42,28 @@ impl Receiver {
         requires { x.holds < 20 }
         ensures { told result ≡ holding_on self x }
     {
-        let holds = x.holds + 1;
-        self.in_phase(Phase::Open(x.marked(x.held, x.last, 0, holds)))
-            .emitting(x.hold_ack())
+        let kept = Connection {
+            wait: 0,
+            holds: x.holds + 1,
+            ..x.acknowledged()
+        };
+        self.in_phase(Phase::Open(kept)).emitting(x.hold_ack())
     }
 
     // Twenty times; with these behind it, the connection fails.
+    #[tactic(auto, unfolding(crate::specs::Tick::timeout_held, frame::specs::Choice::pick))]
     fn timeout_held(self, x: Connection) -> Answer
         ensures { told result ≡ timeout_held self x }
     {
         if 20 <= x.holds {
-            self.failing_with(2)
+            self.failing_with(Cause::Timeouts)
         } else {
             self.holding_on(x)
         }
     }
 
     // Before T the wait grows; at T by the held mark.
+    #[tactic(auto, unfolding(crate::specs::Tick::tick_open, frame::specs::Choice::pick))]
     fn tick_open(self, x: Connection) -> Answer
         ensures { told result ≡ tick_open self x }
     {
@@ -71,13 +77,12 @@ impl Receiver {
     }
 
     // One tick. Idle: nothing.
+    #[tactic(auto, unfolding(crate::specs::Tick::tick_of, crate::specs::Tick::tick_phase))]
     pub fn tick(self) -> Answer
         ensures { told result ≡ tick_of self }
     {
-        let phase = self.phase;
-        match phase {
-            Phase::Idle => self.silently(),
-            Phase::Done(_) => self.silently(),
+        match self.phase {
+            Phase::Idle | Phase::Done(_) => self.silently(),
             Phase::Open(x) => self.tick_open(x),
         }
     }

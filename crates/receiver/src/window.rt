@@ -6,27 +6,23 @@ ghost use Rattle.receiver.specs.Window.{window_of, window_ack, asking};
 use crate::{Answer, Connection, Misses, Phase, Receiver, Settings};
 use frame::Frame;
 use frame::build::lm_ack;
-use frame::count::saturating_sub;
 
 // LM_ACK e, w − e + 1.
 pub(crate) fn window_ack(expected: u8, last: u8) -> Frame
     ensures { result ≡ window_ack expected last }
 {
-    let before = saturating_sub(expected, 1);
-    let count = saturating_sub(last, before);
-    lm_ack(expected, count)
+    lm_ack(expected, last.saturating_sub(expected.saturating_sub(1)))
 }
 
 impl Settings {
-    // The last frame of the window that starts at `expected`: e + C − 1, or N where that is smaller.
+    // The last frame of the window that starts at `expected`: e + C − 1, or N where that is smaller. So it is a byte. (The sender's
+    // `Window` has that sum of an LM_ACK's numbers: one line, and each end's edits try its own.)
+    #[tactic(auto, unfolding(crate::specs::Window::window_of))]
     pub(crate) fn window_of(self, expected: u8, frames: u8) -> u8
         ensures { result ≡ window_of self expected frames }
     {
-        let past = expected as u32 + self.window as u32;
-        if (frames as u32) < past {
-            return frames;
-        }
-        if past == 0 { 0 } else { (past - 1) as u8 }
+        let past = u16::from(expected) + u16::from(self.window);
+        past.saturating_sub(1).min(u16::from(frames)) as u8
     }
 }
 
@@ -36,7 +32,14 @@ impl Receiver {
         ensures { told result ≡ asking self x expected misses }
     {
         let last = self.settings.window_of(expected, x.frames);
-        self.in_phase(Phase::Open(x.moved(expected, last, 0, misses)))
+        let next = Connection {
+            expected,
+            last,
+            wait: 0,
+            misses,
+            ..x
+        };
+        self.in_phase(Phase::Open(next))
             .emitting(window_ack(expected, last))
     }
 }

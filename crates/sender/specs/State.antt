@@ -9,18 +9,13 @@ use Rattle.sender.specs.declared.Sender.{Sender}
 use Rattle.sender.specs.declared.Streamed.{Streamed}
 use Rattle.sender.specs.declared.Transfer.{Transfer}
 
--- the transfer with other counts
-abbrev pub transfer_with : Transfer → ℕ → ℕ → Transfer
-transfer_with t age emitted =
-    record { length = t.length; frames = t.frames; first = t.first; age = age; emitted = emitted }
-
 -- Tick: the transfer is a tick older
 abbrev pub aged : Transfer → Transfer
-aged t = transfer_with t (increment_of t.age) t.emitted
+aged t = record t { age = increment_of t.age }
 
 -- A report: one more frame has gone out since the begin
 abbrev pub counted : Transfer → Transfer
-counted t = transfer_with t t.age (increment_of t.emitted)
+counted t = record t { emitted = increment_of t.emitted }
 
 -- Opening: a transfer with its wait and misses
 abbrev pub opening_with : Transfer → ℕ → ℕ → Phase

@@ -1,22 +1,16 @@
 -- What the sender's calls answer, in document 01's words and numbers.
-use Rattle.std.specs.Prelude.{ℕ, Bool, true, false}
-use Rattle.frame.specs.Result as result
-use Rattle.frame.specs.Frames.{blank_of, lm_nack_of}
+use Rattle.std.specs.Prelude.{ℕ, Bool, true, false, is_some}
+use Rattle.frame.specs.Frames.{blank_of, frame_or_blank, lm_nack_of}
+use Rattle.frame.specs.Cause.{cause_of}
+use Rattle.frame.specs.Result.{number_of}
 use Rattle.frame.specs.declared.Frame.{Frame}
 use Rattle.sender.specs.State.{counted, in_phase}
 use Rattle.sender.specs.declared.Answer as answer
-use Rattle.sender.specs.declared.Made as Made-enum
-use Rattle.sender.specs.declared.Made.TheVariants as made-variants
 use Rattle.sender.specs.declared.Outcome as outcome-enum
 use Rattle.sender.specs.declared.Outcome.TheVariants as outcome-variants
 use Rattle.sender.specs.declared.Phase.TheVariants.{Idle}
 use Rattle.sender.specs.declared.Sender.{Sender}
 use Rattle.sender.specs.declared.Transfer.{Transfer}
-
--- document 01's value for each case of making's answer
-abbrev pub told_made : Made-enum.Made → result.Result Sender
-told_made (made-variants.End s) = result.accepted s
-told_made (made-variants.Refused number) = result.refused number
 
 -- what a call reports: nothing; the number of a refusal; that the message was sent, or the cause for which the transfer
 -- failed. The sender, A report: each has the ticks and the frames that went out from the begin on
@@ -36,9 +30,9 @@ is_refused (failed cause ticks frames) = false
 -- document 01's number and values for each case of the outcome
 abbrev pub told_outcome : outcome-enum.Outcome → Outcome
 told_outcome outcome-variants.Quiet = quiet
-told_outcome (outcome-variants.Refused number) = refused number
+told_outcome (outcome-variants.Refused refusal) = refused (number_of refusal)
 told_outcome (outcome-variants.Sent ticks frames) = sent ticks frames
-told_outcome (outcome-variants.Failed cause ticks frames) = failed cause ticks frames
+told_outcome (outcome-variants.Failed cause ticks frames) = failed (cause_of cause) ticks frames
 
 -- a call's whole answer: the next state, whether a frame goes out, which one (blank where none does), what is reported
 pub record Told : Type 0 where
@@ -48,7 +42,8 @@ pub record Told : Type 0 where
   pub outcome : Outcome
 
 abbrev pub told : answer.Answer → Told
-told a = record { next = a.next; emits = a.emits; frame = a.frame; outcome = told_outcome a.outcome }
+told a =
+    record { next = a.next; emits = is_some a.frame; frame = frame_or_blank a.frame; outcome = told_outcome a.outcome }
 
 -- Refusals, by place, its last line: the number is all that a refused call answers; the sender is as it was
 abbrev pub refusing : Sender → ℕ → Told

@@ -1,38 +1,31 @@
-// LM_EndofACK: the receiver has the message.
+// LM_EndofACK: the receiver has the message. N and L go as two numbers, as in the definitions.
 ghost use Rattle.std.specs.Prelude.{◌≡◌};
-ghost use Rattle.sender.specs.Hear.{is_whole, if_whole, hear_end};
+ghost use Rattle.sender.specs.Hear.{if_whole, hear_end};
 ghost use Rattle.sender.specs.Told.{told};
 
-use crate::{Answer, Phase, Sender, Transfer};
-
-// An EndofACK names the N and L of the transfer.
-fn is_whole(transfer: Transfer, frames: u8, length: u16) -> bool
-    ensures { result ≡ is_whole transfer frames length }
-{
-    (frames == transfer.frames) & (length == transfer.length)
-}
+use crate::{Answer, Awaited, Phase, Sender, Streamed, Transfer};
 
 impl Sender {
     // Sent, if N and L are those of the transfer.
+    #[tactic(auto, unfolding(crate::specs::Hear::if_whole, frame::specs::Choice::pick))]
     fn if_whole(self, transfer: Transfer, frames: u8, length: u16) -> Answer
         ensures { told result ≡ if_whole self transfer frames length }
     {
-        if is_whole(transfer, frames, length) {
+        if frames == transfer.frames && length == transfer.length {
             self.finishing(transfer)
         } else {
             self.silently()
         }
     }
 
-    pub(crate) fn hear_end(self, phase: Phase, frames: u8, length: u16) -> Answer
-        ensures { told result ≡ hear_end self phase frames length }
+    #[tactic(auto, unfolding(crate::specs::Hear::hear_end))]
+    pub(crate) fn hear_end(self, frames: u8, length: u16) -> Answer
+        ensures { told result ≡ hear_end self self.phase frames length }
     {
-        match phase {
-            Phase::Idle => self.silently(),
-            Phase::Opening(_) => self.silently(),
-            Phase::Sending(x) => self.if_whole(x.transfer, frames, length),
-            Phase::Waiting(x) => self.if_whole(x.transfer, frames, length),
-            Phase::Short(_) => self.silently(),
+        match self.phase {
+            Phase::Sending(Streamed { transfer, .. }) | Phase::Waiting(Awaited { transfer, .. }) =>
+                { self.if_whole(transfer, frames, length) }
+            Phase::Idle | Phase::Opening(_) | Phase::Short(_) => self.silently(),
         }
     }
 }

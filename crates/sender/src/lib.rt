@@ -16,7 +16,7 @@ mod steps;
 mod tick;
 mod waiting;
 
-use frame::Frame;
+use frame::{Cause, Frame, Refusal};
 
 // Gap G, timeout T and sending time M, in ticks.
 #[derive(Clone, Copy)]
@@ -27,7 +27,7 @@ pub struct Settings {
 }
 
 // What is known of the message that was begun (L, N and its first byte), and what has been counted
-// since: the ticks (age) and the frames emitted.
+// since: the ticks (age) and the frames emitted. Its length and not the message: that is lent anew at each tick.
 #[derive(Clone, Copy)]
 pub struct Transfer {
     pub length: u16,
@@ -88,27 +88,26 @@ pub struct Sender {
     pub phase: Phase,
 }
 
-// What making answers: the sender, or the number of the refusal.
-#[derive(Clone, Copy)]
-pub enum Made {
-    End(Sender),
-    Refused(u8),
-}
-
-// What a call reports: nothing, a refusal by its number, or how the transfer finished.
+// What a call reports: nothing, why it is refused, or how the transfer finished.
 #[derive(Clone, Copy)]
 pub enum Outcome {
     Quiet,
-    Refused(u8),
-    Sent { ticks: u16, frames: u16 },
-    Failed { cause: u8, ticks: u16, frames: u16 },
+    Refused(Refusal),
+    Sent {
+        ticks: u16,
+        frames: u16,
+    },
+    Failed {
+        cause: Cause,
+        ticks: u16,
+        frames: u16,
+    },
 }
 
-// What a call answers. Where emits is false, frame is the blank frame.
+// What a call answers: the next state, the frame that goes out, if one does, and the report.
 #[derive(Clone, Copy)]
 pub struct Answer {
     pub next: Sender,
-    pub emits: bool,
-    pub frame: Frame,
+    pub frame: Option<Frame>,
     pub outcome: Outcome,
 }

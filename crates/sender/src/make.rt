@@ -1,12 +1,14 @@
 // Making a sender.
 ghost use Rattle.std.specs.Prelude.{◌≡◌};
+ghost use Rattle.frame.specs.Result.{told_result};
 ghost use Rattle.sender.specs.Make.{settings_fit, make_of};
-ghost use Rattle.sender.specs.Told.{told_made};
 
-use crate::{Made, Phase, Sender, Settings};
+use crate::{Phase, Sender, Settings};
+use frame::Refusal;
 use frame::count::within;
 
-// G is 1 to 10, T is 1 to 10000, M is 1 to 60000.
+// G is 1 to 10, T is 1 to 10000, M is 1 to 60000. (The receiver's settings are others, within others. C hands them
+// over as numbers, and `make_of` judges them.)
 fn settings_fit(gap: u16, timeout: u16, limit: u16) -> bool
     ensures { result ≡ settings_fit gap timeout limit }
 {
@@ -15,8 +17,9 @@ fn settings_fit(gap: u16, timeout: u16, limit: u16) -> bool
 
 impl Sender {
     // An idle sender with these settings; refused 1 where one is outside its limits.
-    pub fn make(gap: u16, timeout: u16, limit: u16) -> Made
-        ensures { told_made result ≡ make_of gap timeout limit }
+    #[tactic(auto, unfolding(crate::specs::Make::make_of, frame::specs::Choice::pick))]
+    pub fn make(gap: u16, timeout: u16, limit: u16) -> Result<Sender, Refusal>
+        ensures { told_result result ≡ make_of gap timeout limit }
     {
         if settings_fit(gap, timeout, limit) {
             let settings = Settings {
@@ -24,12 +27,12 @@ impl Sender {
                 timeout,
                 limit,
             };
-            Made::End(Sender {
+            Ok(Sender {
                 settings,
                 phase: Phase::Idle,
             })
         } else {
-            Made::Refused(1)
+            Err(Refusal::Setting)
         }
     }
 }

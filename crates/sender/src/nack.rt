@@ -3,18 +3,19 @@ ghost use Rattle.std.specs.Prelude.{◌≡◌};
 ghost use Rattle.sender.specs.Hear.{hear_nack};
 ghost use Rattle.sender.specs.Told.{told};
 
-use crate::{Answer, Phase, Sender};
+use crate::{Announced, Answer, Awaited, Phase, Sender, Streamed};
+use frame::Cause;
 
 impl Sender {
-    pub(crate) fn hear_nack(self, phase: Phase) -> Answer
-        ensures { told result ≡ hear_nack self phase }
+    #[tactic(auto, unfolding(crate::specs::Hear::hear_nack))]
+    pub(crate) fn hear_nack(self) -> Answer
+        ensures { told result ≡ hear_nack self self.phase }
     {
-        match phase {
-            Phase::Idle => self.silently(),
-            Phase::Opening(x) => self.failing(x.transfer, 1),
-            Phase::Sending(x) => self.failing(x.transfer, 1),
-            Phase::Waiting(x) => self.failing(x.transfer, 1),
-            Phase::Short(_) => self.silently(),
+        match self.phase {
+            Phase::Opening(Announced { transfer, .. })
+            | Phase::Sending(Streamed { transfer, .. })
+            | Phase::Waiting(Awaited { transfer, .. }) => self.failing(transfer, Cause::NoSpace),
+            Phase::Idle | Phase::Short(_) => self.silently(),
         }
     }
 }

@@ -5,10 +5,11 @@ ghost use Rattle.sender.specs.Told.{told};
 
 use crate::tick::information_at;
 use crate::{Answer, Awaited, Phase, Sender, Streamed, Transfer};
+use frame::Cause;
 use frame::count::increment;
 
 impl Streamed {
-    // The window has gone out.
+    // The window has gone out. Field by field: the phase after it is another type.
     fn waiting_after(self, transfer: Transfer) -> Phase
         ensures { result ≡ waiting_after self transfer }
     {
@@ -22,6 +23,7 @@ impl Streamed {
     }
 
     // The phase after the next frame of the window has gone out.
+    #[tactic(auto, unfolding(crate::specs::Tick::after_frame, frame::specs::Choice::pick))]
     fn after_frame(self) -> Phase
         ensures { result ≡ after_frame self }
     {
@@ -43,7 +45,7 @@ impl Sender {
         self.in_phase(x.after_frame()).emitting(frame)
     }
 
-    // The gap before the next frame goes on.
+    // The gap before the next frame goes on. (`tick_short` tests as `tick_sending` does; a failure emits nothing there.)
     pub(crate) fn sending_on(self, x: Streamed) -> Answer
         ensures { told result ≡ sending_on self x }
     {
@@ -52,12 +54,13 @@ impl Sender {
         self.in_phase(phase).silently()
     }
 
+    #[tactic(auto, unfolding(crate::specs::Tick::tick_sending, crate::specs::Tick::unless_over, crate::specs::Tick::at_limit, frame::specs::Choice::pick))]
     pub(crate) fn tick_sending(self, x: Streamed, message: &[u8]) -> Answer
         ensures { told result ≡ tick_sending self x message.now }
     {
         let transfer = x.transfer.aged();
         if self.settings.limit <= transfer.age {
-            return self.failing_with(transfer, 3);
+            return self.failing_with(transfer, Cause::TimeOver);
         }
         if self.settings.gap <= increment(x.gap) {
             return self.sending_next(x, message);

@@ -5,6 +5,7 @@ ghost use Rattle.sender.specs.Tick.{short_on, short_again, tick_short};
 ghost use Rattle.sender.specs.Told.{told};
 
 use crate::{Answer, Phase, Sender, Single, Transfer};
+use frame::Cause;
 use frame::build::sm_rm;
 use frame::count::increment;
 
@@ -26,12 +27,13 @@ impl Sender {
         self.in_phase(transfer.short_with(0)).emitting(frame)
     }
 
+    #[tactic(auto, unfolding(crate::specs::Tick::tick_short, crate::specs::Tick::unless_over, crate::specs::Tick::at_limit, frame::specs::Choice::pick))]
     pub(crate) fn tick_short(self, x: Single, message: &[u8]) -> Answer
         ensures { told result ≡ tick_short self x message.now }
     {
         let transfer = x.transfer.aged();
         if self.settings.limit <= transfer.age {
-            return self.failing(transfer, 3);
+            return self.failing(transfer, Cause::TimeOver);
         }
         if self.settings.timeout <= increment(x.wait) {
             return self.short_again(x, message);
@@ -40,6 +42,7 @@ impl Sender {
     }
 
     // Sent, if the first byte is that of the message.
+    #[tactic(auto, unfolding(crate::specs::Hear::if_first, frame::specs::Choice::pick))]
     fn if_first(self, transfer: Transfer, first: u8) -> Answer
         ensures { told result ≡ if_first self transfer first }
     {
@@ -50,15 +53,15 @@ impl Sender {
         }
     }
 
-    pub(crate) fn hear_short_ack(self, phase: Phase, first: u8) -> Answer
-        ensures { told result ≡ hear_short_ack self phase first }
+    #[tactic(auto, unfolding(crate::specs::Hear::hear_short_ack))]
+    pub(crate) fn hear_short_ack(self, first: u8) -> Answer
+        ensures { told result ≡ hear_short_ack self self.phase first }
     {
-        match phase {
-            Phase::Idle => self.silently(),
-            Phase::Opening(_) => self.silently(),
-            Phase::Sending(_) => self.silently(),
-            Phase::Waiting(_) => self.silently(),
+        match self.phase {
             Phase::Short(x) => self.if_first(x.transfer, first),
+            Phase::Idle | Phase::Opening(_) | Phase::Sending(_) | Phase::Waiting(_) => {
+                self.silently()
+            }
         }
     }
 }

@@ -2,11 +2,10 @@
 // at a frame.
 ghost use Rattle.std.specs.Prelude.{◌≡◌};
 ghost use Rattle.sender.specs.SilentTicks.{goes_on, short_is_silent, silent_in, short_silently, silent_tick_in};
-ghost use Rattle.sender.specs.Tick.{lent_to};
 ghost use Rattle.sender.specs.Told.{told};
 
-use crate::tick::lent_to;
 use crate::{Answer, Phase, Sender, Single, Transfer};
+use frame::Cause;
 use frame::count::increment;
 
 impl Sender {
@@ -25,31 +24,25 @@ impl Sender {
             | (increment(x.wait) < self.settings.timeout)
     }
 
-    // A silent tick of a short transfer: it fails where the sending time is over.
+    // A silent tick of a short transfer: it fails where the sending time is over. (`tick_short` tests that too, since it does not
+    // know whether it is silent; edits/ tries both.)
+    #[tactic(auto, unfolding(crate::specs::SilentTicks::short_silently, crate::specs::Tick::unless_over, frame::specs::Choice::pick))]
     fn short_silently(self, x: Single) -> Answer
         ensures { told result ≡ short_silently self x }
     {
         let transfer = x.transfer.aged();
         if self.settings.limit <= transfer.age {
-            return self.failing(transfer, 3);
+            return self.failing(transfer, Cause::TimeOver);
         }
         self.short_on(x)
     }
 
-    // Whether a tick may be lent this message; where not, it is refused 4.
-    pub fn is_lent(self, message: &[u8]) -> bool
-        ensures { result ≡ lent_to self.phase message.now }
-    {
-        let phase = self.phase;
-        lent_to(phase, message)
-    }
-
     // Whether a tick that is lent its message emits nothing.
+    #[tactic(auto, unfolding(crate::specs::SilentTicks::silent_in))]
     pub fn is_silent(self) -> bool
         ensures { result ≡ silent_in self self.phase }
     {
-        let phase = self.phase;
-        match phase {
+        match self.phase {
             Phase::Idle => true,
             Phase::Opening(x) => self.goes_on(x.transfer, self.settings.timeout, x.wait),
             Phase::Sending(x) => self.goes_on(x.transfer, self.settings.gap, x.gap),
@@ -59,11 +52,11 @@ impl Sender {
     }
 
     // What such a tick does; of no use for any other.
+    #[tactic(auto, unfolding(crate::specs::SilentTicks::silent_tick_in))]
     pub fn tick_silently(self) -> Answer
         ensures { told result ≡ silent_tick_in self self.phase }
     {
-        let phase = self.phase;
-        match phase {
+        match self.phase {
             Phase::Idle => self.silently(),
             Phase::Opening(x) => self.opening_on(x),
             Phase::Sending(x) => self.sending_on(x),

@@ -1,7 +1,7 @@
 // The steps that the calls share: the changed state, and the answers that end no transfer.
 ghost use Rattle.std.specs.Prelude.{◌≡◌};
+ghost use Rattle.frame.specs.Result.{number_of};
 ghost use Rattle.sender.specs.State.{
-  transfer_with,
   aged,
   counted,
   opening_with,
@@ -13,41 +13,31 @@ ghost use Rattle.sender.specs.State.{
 ghost use Rattle.sender.specs.Told.{told, refusing, silently, emitting};
 
 use crate::{Announced, Answer, Awaited, Outcome, Phase, Sender, Single, Streamed, Transfer};
-use frame::Frame;
-use frame::build::blank;
 use frame::count::increment;
+use frame::{Frame, Refusal};
 
 impl Transfer {
-    // The transfer with other counts.
-    fn transfer_with(self, age: u16, emitted: u16) -> Transfer
-        ensures { result ≡ transfer_with self age emitted }
-    {
-        Transfer {
-            length: self.length,
-            frames: self.frames,
-            first: self.first,
-            age,
-            emitted,
-        }
-    }
-
     // One tick more.
     pub(crate) fn aged(self) -> Transfer
         ensures { result ≡ aged self }
     {
-        let age = increment(self.age);
-        self.transfer_with(age, self.emitted)
+        Transfer {
+            age: increment(self.age),
+            ..self
+        }
     }
 
     // One frame more.
     pub(crate) fn counted(self) -> Transfer
         ensures { result ≡ counted self }
     {
-        let emitted = increment(self.emitted);
-        self.transfer_with(self.age, emitted)
+        Transfer {
+            emitted: increment(self.emitted),
+            ..self
+        }
     }
 
-    // Opening: a transfer with its wait and misses.
+    // Opening: a transfer with its wait and misses, as the definition takes them.
     pub(crate) fn opening_with(self, wait: u16, misses: u16) -> Phase
         ensures { result ≡ opening_with self wait misses }
     {
@@ -76,11 +66,9 @@ impl Streamed {
     {
         Phase::Sending(Streamed {
             transfer,
-            start: self.start,
             next,
-            last: self.last,
             gap,
-            misses: self.misses,
+            ..self
         })
     }
 }
@@ -92,32 +80,29 @@ impl Awaited {
     {
         Phase::Waiting(Awaited {
             transfer,
-            start: self.start,
-            last: self.last,
             wait,
             misses,
+            ..self
         })
     }
 }
 
 impl Sender {
+    // (This and the answers below are the receiver's too, of other types: their promises name each end's own state.)
     pub(crate) fn in_phase(self, phase: Phase) -> Sender
         ensures { result ≡ in_phase self phase }
     {
-        let settings = self.settings;
-        Sender { settings, phase }
+        Sender { phase, ..self }
     }
 
-    // A refusal: its number, no frame and no report.
-    pub fn refusing(self, number: u8) -> Answer
-        ensures { told result ≡ refusing self number }
+    // A refusal: why, no frame and no report.
+    pub fn refusing(self, refusal: Refusal) -> Answer
+        ensures { told result ≡ refusing self (number_of refusal) }
     {
-        let frame = blank();
         Answer {
             next: self,
-            emits: false,
-            frame,
-            outcome: Outcome::Refused(number),
+            frame: None,
+            outcome: Outcome::Refused(refusal),
         }
     }
 
@@ -125,11 +110,9 @@ impl Sender {
     pub(crate) fn silently(self) -> Answer
         ensures { told result ≡ silently self }
     {
-        let frame = blank();
         Answer {
             next: self,
-            emits: false,
-            frame,
+            frame: None,
             outcome: Outcome::Quiet,
         }
     }
@@ -140,8 +123,7 @@ impl Sender {
     {
         Answer {
             next: self,
-            emits: true,
-            frame,
+            frame: Some(frame),
             outcome: Outcome::Quiet,
         }
     }

@@ -5,6 +5,7 @@ ghost use Rattle.sender.specs.Told.{told};
 
 use crate::tick::information_at;
 use crate::{Answer, Awaited, Sender};
+use frame::Cause;
 use frame::count::increment;
 
 impl Sender {
@@ -27,18 +28,19 @@ impl Sender {
         self.in_phase(phase).emitting(frame)
     }
 
+    #[tactic(auto, unfolding(crate::specs::Tick::tick_waiting, crate::specs::Tick::unless_over, crate::specs::Tick::at_limit, crate::specs::Tick::unless_third, frame::specs::Choice::pick))]
     pub(crate) fn tick_waiting(self, x: Awaited, message: &[u8]) -> Answer
         ensures { told result ≡ tick_waiting self x message.now }
     {
         let transfer = x.transfer.aged();
         if self.settings.limit <= transfer.age {
-            return self.failing_with(transfer, 3);
+            return self.failing_with(transfer, Cause::TimeOver);
         }
         if increment(x.wait) < self.settings.timeout {
             return self.waiting_on(x);
         }
         if 3 <= increment(x.misses) {
-            return self.failing_with(transfer, 2);
+            return self.failing_with(transfer, Cause::Timeouts);
         }
         self.waiting_again(x, message)
     }

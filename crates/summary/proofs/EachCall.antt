@@ -18,7 +18,7 @@ use Rattle.sender.specs.Hear.{taking, taking_hold}
 use Rattle.sender.specs.Told.{refused, is_refused, Told, refusing}
 use Rattle.sender.specs.declared.Phase.{Phase}
 use Rattle.sender.specs.declared.Sender.{Sender}
-use Rattle.summary.proofs.Laws.{counts_no_other, not_lent, lent_keeps}
+use Rattle.summary.proofs.Laws.{counts_no_other, counts_none, not_lent, lent_keeps}
 use Rattle.summary.specs.Calls.{Kept, kept, if_lent, keeping, begun, kept_by, kept_of}
 use Rattle.summary.specs.Counts.{cleared, counting}
 use Rattle.summary.specs.Summary.{EachCall}
@@ -27,8 +27,7 @@ use Rattle.summary.specs.Summary.{EachCall}
 
 module _ (counts : List ℕ) where
   pub blank_none : counting counts blank_of ≡ counts
-  unfolding blank_of
-  blank_none = sym (counts_no_other counts blank_of (λ e. omega (arith, e)))
+  blank_none = sym (counts_none counts)
 
   pub nack_none : (cause : ℕ) → counting counts (lm_nack_of cause) ≡ counts
   unfolding lm_nack_of

@@ -1,21 +1,17 @@
 -- Laws on the definitions of specs/ that several proofs cite.
 -- Assumes nothing.
-use Prim.Native.Nat.{ℕ, suc, ◌+◌, ◌≤◌}
-use mathlib.Core.Path.{◌≡◌, refl, sym, subst, ◌∙◌}
+use Prim.Native.Nat.{ℕ, suc, ◌-◌, ◌≤◌}
+use mathlib.Core.Path.{◌≡◌, refl, sym, ap, subst, ◌∙◌}
 use mathlib.Core.Bool.{Bool, true, false}
 use mathlib.Core.List.{List}
-use native.Mathlib.Numerals.{add-one}
 use native.Mathlib.Omega.{arith}
 use borrow.Author.Tests.{eq-eqb, ne_eqb}
-use lib.Dec.{eqb}
 use lib.ListN.{length, replicate}
 use Rattle.frame.proofs.Choice.{pick_true, pick_false}
-use Rattle.frame.specs.Choice.{pick}
-use Rattle.frame.specs.Frames.{byte_of}
-use Rattle.frame.specs.Result.{Result, accepted, refused}
+use Rattle.frame.specs.Frames.{byte_of, blank_of}
 use Rattle.frame.specs.declared.Frame.{Frame}
-use Rattle.sender.specs.Told.{is_refused, told_outcome, Told, told, refusing}
-use Rattle.sender.specs.declared.Answer.{Answer}
+use Rattle.sender.specs.Told.{is_refused, Told, refusing}
+use Rattle.std.specs.Array.{IsWholeChunk}
 use Rattle.sender.specs.declared.Sender.{Sender}
 use Rattle.summary.specs.Calls.{Kept, kept, if_lent, keeping, begun}
 use Rattle.summary.specs.Counts.{count_at, cleared, adding, counting}
@@ -34,7 +30,10 @@ pub counts_no_other : (counts : List ℕ) (f : Frame) → (f.kind ≡ 1 → ⊥)
 unfolding counting
 counts_no_other counts f other = pick_false _ (ne_eqb _ _ other) refl
 
-pub ruleset frames_counted = (counts_information, counts_no_other)
+-- nor is the blank frame
+pub counts_none : (counts : List ℕ) → counts ≡ counting counts blank_of
+unfolding blank_of
+counts_none counts = counts_no_other counts blank_of (λ e. omega (arith, e))
 
 -- ---- the calls
 
@@ -48,84 +47,53 @@ pub lent_keeps : (s : Sender) (counts : List ℕ) (a k : Kept) → length counts
 unfolding if_lent
 lent_keeps s counts a k full e = pick_true _ (eq-eqb _ _ full) e
 
--- a call's answer, and its frame counted
-pub keeps : (s : Sender) (counts after : List ℕ) (a : Answer) (t : Told) → length counts ≡ 512 → told a ≡ t
-    → after ≡ counting counts a.frame
-    → kept (told a) after ≡ if_lent s counts (keeping t counts)
-keeps s counts after a t full same e = lent_keeps s counts _ _ full (subst (λ x. kept (told a) after ≡ keeping x counts) same (rw e))
-
--- a begin that is refused, and one that is accepted
-pub keeps_refused : (s : Sender) (counts : List ℕ) (a : Answer) (t : Told) (denied : Bool) → length counts ≡ 512 → told a ≡ t
-    → denied ≡ is_refused (told_outcome a.outcome)
-    → denied ≡ true
-    → kept (told a) counts ≡ if_lent s counts (begun t counts)
-unfolding begun
-keeps_refused s counts a t denied full same e holds =
-    lent_keeps s counts _ _ full
-    (subst (λ (x : Told). kept (told a) counts ≡ pick (is_refused x.outcome) (kept x counts) (keeping x cleared)) same
-    (pick_true _ (sym e ∙ holds) refl))
-
-pub keeps_begun : (s : Sender) (counts empty after : List ℕ) (a : Answer) (t : Told) (denied : Bool) → length counts ≡ 512
-    → told a ≡ t
-    → denied ≡ is_refused (told_outcome a.outcome)
-    → denied ≡ false
-    → empty ≡ replicate (length counts) 0
-    → after ≡ counting empty a.frame
-    → kept (told a) after ≡ if_lent s counts (begun t counts)
+-- a begin that is accepted: the counts are taken whole and cleared
+pub keeps_begun : (s : Sender) (counts words : List ℕ) {a t : Told} {denied : Bool} {empty : List ℕ} {k : Kept}
+    → IsWholeChunk counts words 512 → a ≡ t → denied ≡ is_refused a.outcome → denied ≡ false
+    → empty ≡ replicate (length words) 0 → k ≡ keeping a empty
+    → k ≡ if_lent s counts (begun t counts)
 unfolding begun cleared
-keeps_begun s counts empty after a t denied full same e accepts zeros counted =
-    let all : empty ≡ replicate 512 0 = subst (λ (n : ℕ). empty ≡ replicate n 0) full zeros in
-    lent_keeps s counts _ _ full
-    (subst (λ (x : Told). kept (told a) after ≡ pick (is_refused x.outcome) (kept x counts) (keeping x (replicate 512 0))) same
-    (pick_false _ (sym e ∙ accepts) (rw (counted, all))))
-
-pub ruleset calls_keep = (not_lent, keeps, keeps_refused, keeps_begun)
+keeps_begun s counts words {a} whole same asked accepts zeros counted =
+    let full : length words ≡ 512 = ap length whole.same ∙ whole.long in
+    lent_keeps s counts _ _ whole.long
+    (rw (← same) (pick_false _ (sym asked ∙ accepts) (counted ∙ ap (keeping a) (rw full at zeros))))
 
 -- ---- reading the counts
-
-pub reads_none : (counts : List ℕ) (r : Result Count) → (length counts ≡ 512 → ⊥)
-    → refused 5 ≡ pick (eqb (length counts) 512) r (refused 5)
-reads_none counts r other = pick_false r (ne_eqb _ _ other) refl
-
-pub reads_count : (counts : List ℕ) (x y : Count) → length counts ≡ 512 → x ≡ y
-    → accepted x ≡ pick (eqb (length counts) 512) (accepted y) (refused 5)
-reads_count counts x y full e = pick_true _ (eq-eqb _ _ full) (rw e)
 
 pub counted_is : (counts : List ℕ) (number count : ℕ) → count ≡ count_at counts number
     → record { number = number; count = count } ≡ count_for counts number
 unfolding count_for
 counted_is counts number count e = rw e
 
-pub ruleset counts_read = (reads_none, reads_count, counted_is)
-
 -- at first 0 is named
-pub most_first : (counts : List ℕ) → 0 ≡ most_to counts 0
+pub most_first : (counts : List ℕ) (count : ℕ) → count ≡ count_at counts 0
+    → record { number = 0; count = count } ≡ count_for counts (most_to counts 0)
 unfolding most_to
-most_first counts = refl
+most_first counts count e = counted_is counts 0 count e
 
 -- a later number is named in the place of the one named so far, or is not
-module _ (counts : List ℕ) (number count last later : ℕ) (takes : Bool)
-    (named : number ≡ most_to counts last) (is : count ≡ count_at counts number)
-    (reads : later ≡ count_at counts (last + 1)) (test : takes ≡ overtakes count later) where
-  by_test : overtakes (count_at counts (most_to counts last)) (count_at counts (suc last)) ≡ takes
-  by_test = rw (← named, ← is, ← add-one last, ← reads, ← test)
+module _ (counts : List ℕ) (number later : ℕ) (named : Count) {takes : Bool} {last : ℕ} (from : 1 ≤ number) (upto : last ≡ number)
+    (is : named ≡ count_for counts (most_to counts (number - 1))) (reads : later ≡ count_at counts number)
+    (test : takes ≡ overtakes named.count later) where
+  next : suc (number - 1) ≡ number
+  next = omega arith
 
-  pub most_later : takes ≡ true → last + 1 ≡ most_to counts (last + 1)
+  by_test : overtakes (count_at counts (most_to counts (number - 1))) (count_at counts (suc (number - 1))) ≡ takes
+  unfolding count_for
+  by_test = rw (test, is, reads, next)
+
+  picked_later : takes ≡ true → most_to counts number ≡ number
   unfolding most_to of_two
-  most_later holds = rw (add-one last) (pick_true _ (by_test ∙ holds) refl)
+  picked_later holds = rw (← next) (sym (pick_true _ (by_test ∙ holds) refl))
 
-  pub most_stays : takes ≡ false → number ≡ most_to counts (last + 1)
+  picked_named : takes ≡ false → most_to counts number ≡ most_to counts (number - 1)
   unfolding most_to of_two
-  most_stays fails = rw (add-one last) (pick_false _ (by_test ∙ fails) named)
+  picked_named fails = subst (λ n. most_to counts n ≡ most_to counts (number - 1)) next (sym (pick_false _ (by_test ∙ fails) refl))
 
--- all have been read
-pub most_all : (counts : List ℕ) (number count last : ℕ) → last ≤ 255 → 255 ≤ last → number ≡ most_to counts last
-    → count ≡ count_at counts number
-    → record { number = number; count = count } ≡ count_for counts (most_to counts 255)
-unfolding count_for
-most_all counts number count last most full named is =
-    let end : last ≡ 255 = omega arith in
-    let same : number ≡ most_to counts 255 = named ∙ rw end in
-    rw (is, same)
+  pub most_later : takes ≡ true → record { number = number; count = later } ≡ count_for counts (most_to counts last)
+  most_later holds = rw (upto, picked_later holds) (counted_is counts number later reads)
 
-pub ruleset naming = (most_first, most_later, most_stays, most_all)
+  pub most_stays : takes ≡ false → named ≡ count_for counts (most_to counts last)
+  most_stays fails = rw (upto, picked_named fails) is
+
+pub ruleset naming = (most_later, most_stays)

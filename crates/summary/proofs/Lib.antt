@@ -1,5 +1,4 @@
 pub mod Laws
-pub mod Told
 pub mod Words
 pub mod Named
 pub mod EachCall

@@ -10,7 +10,7 @@ use native.Mathlib.Omega.{arith}
 use borrow.Author.Tests.{eqb-true, eqb-false, eq-eqb, ne_eqb, le-leb, lt-leb}
 use lib.Dec.{eqb, leb}
 use lib.ListN.{length}
-use Rattle.frame.proofs.Choice.{pick_elim, pick_accepted}
+use Rattle.frame.proofs.Choice.{pick_true, pick_elim, pick_accepted}
 use Rattle.frame.proofs.Laws.{increment_is}
 use Rattle.frame.specs.Choice.{pick}
 use Rattle.frame.specs.Count.{frame_count_of, increment_of}
@@ -34,7 +34,7 @@ use Rattle.sender.specs.declared.Sender.{Sender}
 use Rattle.sender.specs.declared.Streamed.{Streamed}
 use Rattle.sender.specs.declared.Transfer.{Transfer}
 use Rattle.summary.proofs.EachCall.{blank_none, nack_none, posted_none, lent_is, answers_alike, each_call}
-use Rattle.summary.proofs.Laws.{counts_information, counts_no_other, reads_count, counted_is}
+use Rattle.summary.proofs.Laws.{counts_information, counts_no_other, counted_is}
 use Rattle.summary.proofs.Named.{names_none}
 use Rattle.summary.proofs.Words.{length_adding, at_added, at_others, sum_adding, at_most_sum, length_cleared, at_cleared, sum_cleared}
 use Rattle.summary.specs.Calls.{Kept, begun, kept_by}
@@ -565,7 +565,7 @@ starts gap timeout limit s e =
 reads_so : (counts : List ℕ) (number count : ℕ) → length counts ≡ 512 → count_at counts number ≡ count
     → count_of number counts ≡ accepted (record { number = number; count = count })
 unfolding count_of
-reads_so counts number count full e = sym (reads_count counts _ _ full (counted_is counts number count (sym e)))
+reads_so counts number count full e = sym (pick_true _ (eq-eqb _ _ full) (ap accepted (counted_is counts number count (sym e))))
 
 promised : (limit : ℕ) (p : Past) → limit ≤ 60000 → Stands limit p → Promise limit p
 promised limit p small x =

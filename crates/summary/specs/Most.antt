@@ -4,8 +4,6 @@ use Rattle.frame.specs.Choice.{pick}
 use Rattle.frame.specs.Result.{Result, accepted, refused}
 use Rattle.summary.specs.Counts.{is_lent, count_at}
 use Rattle.summary.specs.declared.Count.{Count}
-use Rattle.summary.specs.declared.Counted as counted-enum
-use Rattle.summary.specs.declared.Counted.TheVariants as counted-variants
 
 -- E6, which of two numbers is named: whether a later number takes the place of the one named so far, by their counts. It has
 -- to have been sent more often, so that of equals the lowest stays
@@ -24,11 +22,6 @@ most_to counts (suc last) = of_two counts (most_to counts last) (suc last)
 -- a number with its count
 unfoldable pub count_for : List ℕ → ℕ → Count
 count_for counts number = record { number = number; count = count_at counts number }
-
--- document 01's number for a refusal, and the value otherwise
-abbrev pub told_counted : counted-enum.Counted → Result Count
-told_counted (counted-variants.Read x) = accepted x
-told_counted (counted-variants.Refused number) = refused number
 
 -- the count of a number. Refused 5 where the counts are not lent
 unfoldable pub count_of : ℕ → List ℕ → Result Count

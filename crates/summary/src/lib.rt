@@ -6,22 +6,17 @@ pub mod calls;
 mod counts;
 pub mod most;
 
+use frame::Refusal;
+
 // A word for each number from 0 to 255.
 pub const SIZE: usize = 512;
 
-// The refusal's number where the counts are not lent so many bytes.
-pub const NOT_LENT: u8 = 5;
+// Why a call is refused where the counts are not lent so many bytes.
+const NOT_LENT: Refusal = Refusal::Lent;
 
 // How many information frames with this number have gone out.
 #[derive(Clone, Copy)]
 pub struct Count {
     pub number: u8,
     pub count: u16,
-}
-
-// What reading the counts answers, or the number of the refusal.
-#[derive(Clone, Copy)]
-pub enum Counted {
-    Read(Count),
-    Refused(u8),
 }

@@ -1,27 +1,30 @@
-// Writing bytes into a lent slice from a place on. Each function answers the place after what it
-// wrote; a byte that finds the slice full is left out.
-ghost use Rattle.std.specs.Prelude.{◌≡◌, [], ◌∷◌};
-ghost use Rattle.text.specs.Page.{page, put};
+// Writing bytes into a lent slice from a place on.
+ghost use Rattle.std.specs.Prelude.{[], ◌∷◌};
+ghost use Rattle.text.specs.Puts.{Puts};
 
-pub(crate) fn put_byte(byte: u8, out: &mut [u8], at: usize) -> usize
-    ensures { page out.new result ≡ put (page out.old at) (byte ∷ []) }
-{
-    if at < out.len() {
-        out[at] = byte;
-        at + 1
-    } else {
-        at
-    }
+// A lent slice and the place in it where the next byte goes; a byte that finds the slice full is left out.
+#[derive(Drop)]
+pub(crate) struct Page<'a> {
+    pub(crate) bytes: &'a mut [u8],
+    pub(crate) place: usize,
 }
 
-pub(crate) fn put_text(text: &[u8], out: &mut [u8], at: usize) -> usize
-    ensures { page out.new result ≡ put (page out.old at) text.now }
-{
-    let mut next = at;
-    let mut i = 0;
-    while i < text.len() {
-        next = put_byte(text[i], out, next);
-        i += 1;
+impl Page<'_> {
+    // By the place and not by `get_mut`: what is written through that is not known to a proof.
+    pub(crate) fn put_byte(&mut self, byte: u8)
+        ensures { Puts self.old self.new (byte ∷ []) }
+    {
+        if self.place < self.bytes.len() {
+            self.bytes[self.place] = byte;
+            self.place += 1;
+        }
     }
-    next
+
+    pub(crate) fn put_text(&mut self, text: &[u8])
+        ensures { Puts self.old self.new text.now }
+    {
+        for byte in text {
+            self.put_byte(*byte);
+        }
+    }
 }

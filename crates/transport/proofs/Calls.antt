@@ -10,8 +10,12 @@ use borrow.Author.Tests.{eqb-true, eqb-false, eq-eqb, ne_eqb}
 use lib.Dec.{eqb}
 use lib.ListN.{length, take}
 use lib.Seq.{take_all, take-take}
+use Rattle.std.specs.Array.{IsWholeChunk}
+use Rattle.std.specs.Prelude.{Some, None, is_some}
+use Rattle.std.specs.declared.option.Option.{Option}
 use Rattle.frame.proofs.Choice.{pick_true, pick_false}
 use Rattle.frame.specs.Choice.{pick}
+use Rattle.frame.specs.Frames.{frame_or_blank}
 use Rattle.frame.specs.declared.Frame.{Frame}
 use Rattle.line.proofs.Frames.{frames_joined, frames_limit, frames_some, frames_none, rest_frames}
 use Rattle.line.proofs.Laws.{rest_empty}
@@ -21,14 +25,14 @@ use Rattle.receiver.specs.Hear as hearing
 use Rattle.receiver.specs.Hold.{hold_of, resume_of}
 use Rattle.receiver.specs.Tick as ticking
 use Rattle.receiver.specs.Told as receiver
-use Rattle.receiver.specs.declared.Outcome as receiver-outcome
+use Rattle.receiver.specs.declared.Answer as receiver-answer
 use Rattle.receiver.specs.declared.Outcome.TheVariants as receiver-variants
 use Rattle.receiver.specs.declared.Receiver.{Receiver}
 use Rattle.sender.specs.Begin.{begin_of}
 use Rattle.sender.specs.Hear.{hear_of}
 use Rattle.sender.specs.Tick.{tick_of}
 use Rattle.sender.specs.Told as sender
-use Rattle.sender.specs.declared.Outcome as sender-outcome
+use Rattle.sender.specs.declared.Answer as sender-answer
 use Rattle.sender.specs.declared.Outcome.TheVariants as sender-variants
 use Rattle.sender.specs.declared.Sender.{Sender}
 use Rattle.transport.proofs.Refusals.{buffer_left}
@@ -45,20 +49,20 @@ use Rattle.transport.specs.declared.Ends.{Ends}
 all_frames : (ring : Ring) (bytes : List ℕ) → take 64 (frames_in ring bytes) ≡ frames_in ring bytes
 all_frames ring bytes = take_all 64 (frames_in ring bytes) (frames_limit ring bytes)
 
-pub line_joined : (ring r : Ring) (f : Frame) (emits : Bool) (bytes after : List ℕ)
+pub line_joined : (ring r : Ring) (f : Frame) (o : Option Frame) (bytes after : List ℕ)
     → kept r after ≡ join_of ring f bytes
     → length bytes ≡ 576
     → length f.bytes ≡ 8
-    → emits ≡ true
-    → frames_in r after ≡ take 64 (frames_in ring bytes ++ emission emits f)
-line_joined ring r f emits bytes after e size eight t =
+    → o ≡ Some f
+    → frames_in r after ≡ take 64 (frames_in ring bytes ++ emission (is_some o) (frame_or_blank o))
+line_joined ring r f o bytes after e size eight t =
     rw t
     (ap (λ (k : Kept). frames_in k.ring k.bytes) e
     ∙ frames_joined ring f bytes size eight)
 
-pub line_alone : (ring : Ring) (f : Frame) (emits : Bool) (bytes : List ℕ) → emits ≡ false
-    → frames_in ring bytes ≡ take 64 (frames_in ring bytes ++ emission emits f)
-line_alone ring f emits bytes t = rw (t, append-nil) (sym (all_frames ring bytes))
+pub line_alone : (ring : Ring) (o : Option Frame) (bytes : List ℕ) → o ≡ None
+    → frames_in ring bytes ≡ take 64 (frames_in ring bytes ++ emission (is_some o) (frame_or_blank o))
+line_alone ring o bytes t = rw (t, append-nil) (sym (all_frames ring bytes))
 
 -- ---- an end's answer
 
@@ -75,33 +79,33 @@ ReceiverSpoke ends bytes t a after =
     → told a forward after buffer
     ≡ told_step (at_line (by_receiver c (world_of ends forward bytes buffer) given (frames_in ends.forward forward) (receiver.heard t buffer)))
 
-pub sender_spoke : (ends : Ends) (r : Ring) (next : Sender) (emits : Bool) (f : Frame) (outcome : sender-outcome.Outcome) (bytes after : List ℕ)
-    → frames_in r after ≡ take 64 (frames_in ends.forward bytes ++ emission emits f)
-    → SenderSpoke ends bytes (record { next = next; emits = emits; frame = f; outcome = sender.told_outcome outcome })
+pub sender_spoke : (ends : Ends) (r : Ring) (a : sender-answer.Answer) (bytes after : List ℕ)
+    → frames_in r after ≡ take 64 (frames_in ends.forward bytes ++ emission (is_some a.frame) (frame_or_blank a.frame))
+    → SenderSpoke ends bytes (sender.told a)
     (record {
-      next = record { sender = next; receiver = ends.receiver; forward = r; back = ends.back };
-      said = record { emits = emits; frame = f; sender = outcome; receiver = receiver-variants.Quiet; bytes = receiver.no_bytes };
+      next = record { sender = a.next; receiver = ends.receiver; forward = r; back = ends.back };
+      said = record { frame = a.frame; sender = a.outcome; receiver = receiver-variants.Quiet };
     })
     after
 unfolding told world_of capped
-sender_spoke ends r next emits f outcome bytes after line c given back buffer = rw (line, all_frames ends.back back) refl
+sender_spoke ends r a bytes after line c given back buffer = rw (line, all_frames ends.back back) refl
 
 -- a refused call leaves the buffer, and so does any call whose lent buffer it is
 same_buffer : (refused : Bool) (buffer : List ℕ) → buffer_after refused buffer buffer ≡ buffer
 same_buffer true buffer = refl
 same_buffer false buffer = refl
 
-pub receiver_spoke : (ends : Ends) (r : Ring) (next : Receiver) (emits : Bool) (f : Frame) (outcome : receiver-outcome.Outcome) (eight bytes after : List ℕ)
-    → frames_in r after ≡ take 64 (frames_in ends.back bytes ++ emission emits f)
-    → ReceiverSpoke ends bytes (record { next = next; emits = emits; frame = f; outcome = receiver.told_outcome outcome; bytes = eight })
+pub receiver_spoke : (ends : Ends) (r : Ring) (a : receiver-answer.Answer) (bytes after : List ℕ)
+    → frames_in r after ≡ take 64 (frames_in ends.back bytes ++ emission (is_some a.frame) (frame_or_blank a.frame))
+    → ReceiverSpoke ends bytes (receiver.told a)
     (record {
-      next = record { sender = ends.sender; receiver = next; forward = ends.forward; back = r };
-      said = record { emits = emits; frame = f; sender = sender-variants.Quiet; receiver = outcome; bytes = eight };
+      next = record { sender = ends.sender; receiver = a.next; forward = ends.forward; back = r };
+      said = record { frame = a.frame; sender = sender-variants.Quiet; receiver = a.outcome };
     })
     after
 unfolding told world_of capped
-receiver_spoke ends r next emits f outcome eight bytes after line c given forward buffer =
-    rw (line, all_frames ends.forward forward, same_buffer (was_refused (receiver.told_outcome outcome)) buffer) refl
+receiver_spoke ends r a bytes after line c given forward buffer =
+    rw (line, all_frames ends.forward forward, same_buffer (was_refused (receiver.told_outcome a.outcome)) buffer) refl
 
 pub ruleset answers = (sender_spoke, receiver_spoke, line_joined, line_alone)
 
@@ -143,50 +147,47 @@ module _ (ends : Ends) (a : Answer) (c : Call) (h : (forward back buffer : List 
 
 -- ---- begin and ticks
 
-pub begins : (ends : Ends) (a : Answer) (bytes after m : List ℕ) (t : sender.Told)
+pub begins : (ends : Ends) (a : Answer) (bytes line after m : List ℕ) (t : sender.Told)
     → t ≡ begin_of ends.sender m
-    → length bytes ≡ 576
-    → SenderSpoke ends bytes t a after
+    → IsWholeChunk bytes line 576
+    → SenderSpoke ends line t a after
     → (back buffer : List ℕ)
     → told a after back buffer ≡ lent_of (eqb (length bytes) 576) (world_of ends bytes back buffer) (begin m)
 unfolding answer_of capped_step step_of world_of
-begins ends a bytes after m t e size h back buffer =
-    lent_one (length bytes) (world_of ends bytes back buffer) (begin m) size (h (begin m) nobody back buffer ∙ rw e refl)
+begins ends a bytes line after m t e whole h back buffer =
+    lent_one (length bytes) (world_of ends bytes back buffer) (begin m) whole.long (h (begin m) nobody back buffer ∙ rw (whole.same, e) refl)
 
-pub ticks_sender_lem : (ends : Ends) (a : Answer) (bytes after m : List ℕ) (t : sender.Told)
+pub ticks_sender_lem : (ends : Ends) (a : Answer) (bytes line after m : List ℕ) (t : sender.Told)
     → t ≡ tick_of ends.sender m
-    → length bytes ≡ 576
-    → SenderSpoke ends bytes t a after
+    → IsWholeChunk bytes line 576
+    → SenderSpoke ends line t a after
     → (back buffer : List ℕ)
     → told a after back buffer ≡ lent_of (eqb (length bytes) 576) (world_of ends bytes back buffer) (sender_tick m)
 unfolding answer_of capped_step step_of world_of
-ticks_sender_lem ends a bytes after m t e size h back buffer =
-    lent_one (length bytes) (world_of ends bytes back buffer) (sender_tick m) size (h (sender_tick m) nobody back buffer ∙ rw e refl)
+ticks_sender_lem ends a bytes line after m t e whole h back buffer =
+    lent_one (length bytes) (world_of ends bytes back buffer) (sender_tick m) whole.long (h (sender_tick m) nobody back buffer ∙ rw (whole.same, e) refl)
 
-module _ (ends : Ends) (a : Answer) (bytes after : List ℕ) (t : receiver.Told) where
+module _ (ends : Ends) (a : Answer) (bytes line after : List ℕ) (t : receiver.Told) where
   -- the receiver has told t, lent the line back
   abbrev Calls : Call → Type 0
   Calls c =
-      length bytes ≡ 576 → ReceiverSpoke ends bytes t a after → (forward buffer : List ℕ)
+      IsWholeChunk bytes line 576 → ReceiverSpoke ends line t a after → (forward buffer : List ℕ)
       → told a forward after buffer ≡ lent_of (eqb (length bytes) 576) (world_of ends forward bytes buffer) c
 
   pub ticks_receiver_lem : t ≡ ticking.tick_of ends.receiver → Calls receiver_tick
   unfolding answer_of capped_step step_of world_of
-  ticks_receiver_lem e size h forward buffer =
-      lent_one (length bytes) (world_of ends forward bytes buffer) receiver_tick size (h receiver_tick nobody forward buffer ∙ rw e refl)
+  ticks_receiver_lem e whole h forward buffer =
+      lent_one (length bytes) (world_of ends forward bytes buffer) receiver_tick whole.long (h receiver_tick nobody forward buffer ∙ rw (whole.same, e) refl)
 
   pub holds_receiver_lem : t ≡ hold_of ends.receiver → Calls hold
   unfolding answer_of capped_step step_of world_of
-  holds_receiver_lem e size h forward buffer =
-      lent_one (length bytes) (world_of ends forward bytes buffer) hold size (h hold nobody forward buffer ∙ rw e refl)
+  holds_receiver_lem e whole h forward buffer =
+      lent_one (length bytes) (world_of ends forward bytes buffer) hold whole.long (h hold nobody forward buffer ∙ rw (whole.same, e) refl)
 
   pub resumes_receiver : t ≡ resume_of ends.receiver → Calls resume
   unfolding answer_of capped_step step_of world_of
-  resumes_receiver e size h forward buffer =
-      lent_one (length bytes) (world_of ends forward bytes buffer) resume size (h resume nobody forward buffer ∙ rw e refl)
-
-pub ruleset begins_and_ticks =
-    (no_forward, no_back, begins, ticks_sender_lem, ticks_receiver_lem, holds_receiver_lem, resumes_receiver)
+  resumes_receiver e whole h forward buffer =
+      lent_one (length bytes) (world_of ends forward bytes buffer) resume whole.long (h resume nobody forward buffer ∙ rw (whole.same, e) refl)
 
 -- ---- a frame given to an end
 
@@ -306,7 +307,7 @@ lost ring bytes = go (eqb ring.count 0) refl
     go : (b : Bool) → eqb ring.count 0 ≡ b → frames_in (rest_of ring) bytes ≡ take 64 (dropped (frames_in ring bytes))
     go true t =
         let none = eqb-true ring.count 0 t in
-        rw (← rest_empty ring none) (rw (frames_none ring bytes none) refl)
+        rw (← rest_empty ring t) (rw (frames_none ring bytes none) refl)
     go false t =
         rw (rest_frames ring bytes (eqb-false ring.count 0 t)) (sym (all_frames (rest_of ring) bytes))
 
@@ -427,10 +428,3 @@ module _ (ends : Ends) (given : Answer) (takes : Bool) (forward back : List ℕ)
       ≡ lent_of (eqb (length forward) 576 && eqb (length back) 576) (world_of ends forward back buffer) (pick takes hear_back repeat_back)
   unfolding pick
   repeats_back left t e buffer = rw t (lent_both (length forward) (length back) _ _ lf lb (e buffer))
-
--- a line that is not empty
-pub not_empty : {empty : Bool} (n : ℕ) → empty ≡ eqb n 0 → empty ≡ false → eqb n 0 ≡ false
-not_empty n e t = sym e ∙ t
-
-pub ruleset hearings =
-    (neither_forward, neither_back, back_empty, forward_empty, hears_forward, repeats_forward, hears_back, repeats_back)

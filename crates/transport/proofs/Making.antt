@@ -2,49 +2,37 @@
 -- Assumes nothing.
 use Prim.Native.Nat.{ℕ}
 use mathlib.Core.List.{List}
-use mathlib.Core.Path.{◌≡◌, refl, subst, ◌∙◌}
+use mathlib.Core.Path.{◌≡◌, refl, subst}
 use native.Mathlib.Omega.{arith}
 use Rattle.frame.specs.Result.{Result, accepted, refused}
 use Rattle.line.specs.Ring.{frames_from, frames_in, empty_of}
 use Rattle.line.specs.declared.Ring.{Ring}
 use Rattle.receiver.specs.Make as receiver-making
-use Rattle.receiver.specs.Told as receiver
-use Rattle.receiver.specs.declared.Made as receiver-enum
-use Rattle.receiver.specs.declared.Made.TheVariants as receiver_made_lem
 use Rattle.receiver.specs.declared.Receiver.{Receiver}
 use Rattle.sender.specs.Make as sender-making
-use Rattle.sender.specs.Told as sender
-use Rattle.sender.specs.declared.Made as sender-enum
-use Rattle.sender.specs.declared.Made.TheVariants as sender_made_lem
 use Rattle.sender.specs.declared.Sender.{Sender}
 use Rattle.transport.specs.Answer.{world_of}
 use Rattle.transport.specs.Make.{joined, make_of}
 use Rattle.transport.specs.World.{start_of}
 use Rattle.transport.specs.declared.Ends.{Ends}
 
-module _ (gap timeout limit patience window capacity : ℕ) (made : sender-enum.Made) (answered : receiver-enum.Made)
-    (e : sender.told_made made ≡ sender-making.make_of gap timeout limit)
-    (d : receiver.told_made answered ≡ receiver-making.make_of patience window capacity)
-  where
-    both : joined (sender.told_made made) (receiver.told_made answered) ≡ make_of gap timeout limit patience window capacity
-    unfolding make_of
-    both = rw (e, d) refl
+module _ (gap timeout limit patience window capacity : ℕ) where
+  pub no_sender_lem : (number : ℕ) → refused number ≡ sender-making.make_of gap timeout limit
+      → refused number ≡ make_of gap timeout limit patience window capacity
+  unfolding joined make_of
+  no_sender_lem number e = rw (← e) refl
 
-    pub no_sender_lem : (number : ℕ) → made ≡ sender_made_lem.Refused number → refused number ≡ make_of gap timeout limit patience window capacity
-    unfolding joined
-    no_sender_lem number k = rw k refl ∙ both
+  pub no_receiver_lem : (s : Sender) (number : ℕ) → accepted s ≡ sender-making.make_of gap timeout limit
+      → refused number ≡ receiver-making.make_of patience window capacity
+      → refused number ≡ make_of gap timeout limit patience window capacity
+  unfolding joined make_of
+  no_receiver_lem s number e d = rw (← e, ← d) refl
 
-    pub no_receiver_lem : (s : Sender) (number : ℕ) → made ≡ sender_made_lem.End s → answered ≡ receiver_made_lem.Refused number
-        → refused number ≡ make_of gap timeout limit patience window capacity
-    unfolding joined
-    no_receiver_lem s number k n = rw (k, n) refl ∙ both
-
-    pub both_made : (s : Sender) (r : Receiver) (empty : Ring) → made ≡ sender_made_lem.End s → answered ≡ receiver_made_lem.End r → empty ≡ empty_of
-        → accepted (record { sender = s; receiver = r; forward = empty; back = empty }) ≡ make_of gap timeout limit patience window capacity
-    unfolding joined
-    both_made s r empty k n h = rw (k, n, h) refl ∙ both
-
-pub ruleset makings = (no_sender_lem, no_receiver_lem, both_made)
+  pub both_made : (s : Sender) (r : Receiver) (empty : Ring) → accepted s ≡ sender-making.make_of gap timeout limit
+      → accepted r ≡ receiver-making.make_of patience window capacity → empty ≡ empty_of
+      → accepted (record { sender = s; receiver = r; forward = empty; back = empty }) ≡ make_of gap timeout limit patience window capacity
+  unfolding joined make_of
+  both_made s r empty e d h = rw (← e, ← d, h) refl
 
 -- what making both ends accepts: each end as its own making answers it, at an empty line
 pub record Made (gap timeout limit patience window capacity : ℕ) (ends : Ends) : Type 0 where

@@ -1,11 +1,12 @@
 -- What is told of an answer leaves nothing of it open but where a ring begins in its bytes: the ends and what was said come
--- back from it, and so do the ends that making answers.
+-- back from it. (Of what making answers, `result_injective` of frame says it.)
 -- Assumes nothing.
 use mathlib.Core.Bool.{Bool, true, false}
 use mathlib.Core.List.{List, [], ◌∷◌}
 use mathlib.Core.Path.{◌≡◌, refl, ap}
 use Prim.Native.Nat.{ℕ}
-use Rattle.frame.specs.Result.{Result, accepted, refused}
+use Rattle.std.specs.Prelude.{is_some}
+use Rattle.frame.specs.Frames.{frame_or_blank}
 use Rattle.frame.specs.declared.Frame.{Frame}
 use Rattle.receiver.proofs.Told as receiver
 use Rattle.receiver.specs.Told as receiver_told
@@ -14,12 +15,8 @@ use Rattle.sender.proofs.Told as sender
 use Rattle.sender.specs.Told as sender_told
 use Rattle.sender.specs.declared.Answer as sender-answer
 use Rattle.transport.specs.Answer.{world_of, Told, told}
-use Rattle.transport.specs.Make.{told_made}
 use Rattle.transport.specs.Step.{emission}
 use Rattle.transport.specs.declared.Answer.{Answer}
-use Rattle.transport.specs.declared.Ends.{Ends}
-use Rattle.transport.specs.declared.Made.{Made}
-use Rattle.transport.specs.declared.Made.TheVariants.{Ready, Refused}
 use Rattle.transport.specs.declared.Said.{Said}
 
 -- ---- what was said
@@ -35,33 +32,23 @@ emission_some false f = refl
 abbrev pub untold_said : Told → Said
 untold_said t =
     record {
-      emits = some t.emitted;
-      frame = t.frame;
+      frame = sender.untold_frame (some t.emitted) t.frame;
       sender = sender.untold_outcome t.sender;
-      receiver = receiver.untold_outcome t.receiver;
-      bytes = t.bytes;
+      receiver = receiver.untold_outcome t.receiver t.bytes;
     }
 
 pub said_injective : (a : Answer) (forward back buffer : List ℕ) → untold_said (told a forward back buffer) ≡ a.said
 unfolding told
 said_injective a forward back buffer =
     let x = a.said in
-    let s : sender.untold_outcome (sender_told.told_outcome x.sender) ≡ x.sender = ap (λ (y : sender-answer.Answer). y.outcome) (sender.told_injective (record { next = a.next.sender; emits = x.emits; frame = x.frame; outcome = x.sender })) in
-    let r : receiver.untold_outcome (receiver_told.told_outcome x.receiver) ≡ x.receiver = ap (λ (y : receiver-answer.Answer). y.outcome) (receiver.told_injective (record { next = a.next.receiver; emits = x.emits; frame = x.frame; outcome = x.receiver; bytes = x.bytes })) in
-    rw (emission_some x.emits x.frame, s, r) refl
+    let s : sender.untold (sender_told.told (record { next = a.next.sender; frame = x.frame; outcome = x.sender })) ≡ record { next = a.next.sender; frame = x.frame; outcome = x.sender } = sender.told_injective (record { next = a.next.sender; frame = x.frame; outcome = x.sender }) in
+    let f : sender.untold_frame (is_some x.frame) (frame_or_blank x.frame) ≡ x.frame = ap (λ (y : sender-answer.Answer). y.frame) s in
+    let o : sender.untold_outcome (sender_told.told_outcome x.sender) ≡ x.sender = ap (λ (y : sender-answer.Answer). y.outcome) s in
+    let r : receiver.untold_outcome (receiver_told.told_outcome x.receiver) (receiver_told.told_bytes x.receiver) ≡ x.receiver = ap (λ (y : receiver-answer.Answer). y.outcome) (receiver.told_injective (record { next = a.next.receiver; frame = x.frame; outcome = x.receiver })) in
+    rw (emission_some (is_some x.frame) (frame_or_blank x.frame), f, o, r) refl
 
 -- ---- the ends; each line is told as the list that its ring holds
 
 pub ends_told : (a : Answer) (forward back buffer : List ℕ) → (told a forward back buffer).world ≡ world_of a.next forward back buffer
 unfolding told
 ends_told a forward back buffer = refl
-
--- ---- making
-
-abbrev pub untold_made : Result Ends → Made
-untold_made (accepted ends) = Ready ends
-untold_made (refused number) = Refused number
-
-pub made_injective : (m : Made) → untold_made (told_made m) ≡ m
-made_injective (Ready ends) = refl
-made_injective (Refused number) = refl

@@ -1,7 +1,7 @@
 -- What the transport's calls answer, at a line of 64 that is kept in lent bytes.
-use Rattle.std.specs.Prelude.{ℕ, Bool, List, [], eqb, length}
+use Rattle.std.specs.Prelude.{ℕ, Bool, List, [], eqb, length, is_some}
 use Rattle.frame.specs.Choice.{pick}
-use Rattle.frame.specs.Frames.{blank_of}
+use Rattle.frame.specs.Frames.{blank_of, frame_or_blank}
 use Rattle.frame.specs.declared.Frame.{Frame}
 use Rattle.line.specs.Ring.{frames_in}
 use Rattle.receiver.specs.Told as receiver
@@ -38,11 +38,11 @@ unfoldable pub told : Answer → List ℕ → List ℕ → List ℕ → Told
 told a forward back buffer =
     record {
       world = world_of a.next forward back buffer;
-      emitted = emission a.said.emits a.said.frame;
-      frame = a.said.frame;
+      emitted = emission (is_some a.said.frame) (frame_or_blank a.said.frame);
+      frame = frame_or_blank a.said.frame;
       sender = sender.told_outcome a.said.sender;
       receiver = receiver.told_outcome a.said.receiver;
-      bytes = a.said.bytes;
+      bytes = receiver.told_bytes a.said.receiver;
     }
 
 -- what is told of a step

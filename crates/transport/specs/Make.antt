@@ -7,13 +7,6 @@ use Rattle.receiver.specs.declared.Receiver.{Receiver}
 use Rattle.sender.specs.Make as sender
 use Rattle.sender.specs.declared.Sender.{Sender}
 use Rattle.transport.specs.declared.Ends.{Ends}
-use Rattle.transport.specs.declared.Made.{Made}
-use Rattle.transport.specs.declared.Made.TheVariants.{Ready, Refused}
-
--- document 01's value for each case of the answer
-abbrev pub told_made : Made → Result Ends
-told_made (Ready ends) = accepted ends
-told_made (Refused number) = refused number
 
 -- both ends, at an empty line; where making one of them is refused, that refusal, the sender's first
 unfoldable pub joined : Result Sender → Result Receiver → Result Ends

@@ -17,11 +17,9 @@ ghost use Rattle.transport.specs.World.{
   lose_back,
 };
 
-use crate::{Answer, Ends};
+use crate::{Answer, Ends, LINE};
 
-// A line's 64 places of nine bytes.
-const LINE: usize = 576;
-
+// Each call is written out, also where two differ in the call alone: what it calls and what it promises is all that it has.
 impl Ends {
     // Begins a message.
     pub fn begin(self, message: &[u8], forward: &mut [u8]) -> Answer
@@ -31,11 +29,10 @@ impl Ends {
             (world_of self forward.old back buffer)
             (begin message.now) }
     {
-        if forward.len() != LINE {
+        let Some(forward) = forward.as_mut_array::<LINE>() else {
             return self.unheard();
-        }
-        let s = self.sender;
-        let a = s.begin(message);
+        };
+        let a = self.sender.begin(message);
         self.sender_spoke(a, forward)
     }
 
@@ -47,11 +44,10 @@ impl Ends {
             (world_of self forward.old back buffer)
             (sender_tick message.now) }
     {
-        if forward.len() != LINE {
+        let Some(forward) = forward.as_mut_array::<LINE>() else {
             return self.unheard();
-        }
-        let s = self.sender;
-        let a = s.tick(message);
+        };
+        let a = self.sender.tick(message);
         self.sender_spoke(a, forward)
     }
 
@@ -63,11 +59,10 @@ impl Ends {
             (world_of self forward back.old buffer)
             receiver_tick }
     {
-        if back.len() != LINE {
+        let Some(back) = back.as_mut_array::<LINE>() else {
             return self.unheard();
-        }
-        let r = self.receiver;
-        let a = r.tick();
+        };
+        let a = self.receiver.tick();
         self.receiver_spoke(a, back)
     }
 
@@ -79,11 +74,10 @@ impl Ends {
             (world_of self forward back.old buffer)
             hold }
     {
-        if back.len() != LINE {
+        let Some(back) = back.as_mut_array::<LINE>() else {
             return self.unheard();
-        }
-        let r = self.receiver;
-        let a = r.hold();
+        };
+        let a = self.receiver.hold();
         self.receiver_spoke(a, back)
     }
 
@@ -95,16 +89,15 @@ impl Ends {
             (world_of self forward back.old buffer)
             resume }
     {
-        if back.len() != LINE {
+        let Some(back) = back.as_mut_array::<LINE>() else {
             return self.unheard();
-        }
-        let r = self.receiver;
-        let a = r.resume();
+        };
+        let a = self.receiver.resume();
         self.receiver_spoke(a, back)
     }
 
     // The first frame of forward is heard, if there is one: taken away where `takes` is true (hear), else kept
-    // (repeat).
+    // (repeat). One function for both, since its promise is.
     pub fn hear_forward(
         self,
         takes: bool,
@@ -117,29 +110,28 @@ impl Ends {
             (world_of self forward.now back.old buffer.old)
             (pick takes (hear_forward buffer.old) (repeat_forward buffer.old)) }
     {
-        if forward.len() != LINE {
+        let Some(forward) = forward.as_array::<LINE>() else {
             return self.unheard();
-        }
-        if back.len() != LINE {
+        };
+        let Some(back) = back.as_mut_array::<LINE>() else {
             return self.unheard();
-        }
-        let line = self.forward;
-        if line.is_empty() {
+        };
+        if self.forward.is_empty() {
             return self.unheard();
         }
         let given = self.give_forward(buffer, forward, back);
         if takes {
-            let ends = given.next;
-            let said = given.said;
-            let next = ends.without_forward();
-            Answer { next, said }
+            Answer {
+                next: given.next.without_forward(),
+                ..given
+            }
         } else {
             given
         }
     }
 
     // The first frame of back is heard, if there is one: taken away where `takes` is true (hear), else kept
-    // (repeat).
+    // (repeat). One function for both, as `hear_forward`.
     pub fn hear_back(self, takes: bool, forward: &mut [u8], back: &[u8]) -> Answer
         ensures { (buffer : List ℕ) →
             told result forward.new back.now buffer
@@ -147,22 +139,21 @@ impl Ends {
             (world_of self forward.old back.now buffer)
             (pick takes hear_back repeat_back) }
     {
-        if forward.len() != LINE {
+        let Some(forward) = forward.as_mut_array::<LINE>() else {
             return self.unheard();
-        }
-        if back.len() != LINE {
+        };
+        let Some(back) = back.as_array::<LINE>() else {
             return self.unheard();
-        }
-        let line = self.back;
-        if line.is_empty() {
+        };
+        if self.back.is_empty() {
             return self.unheard();
         }
         let given = self.give_back(forward, back);
         if takes {
-            let ends = given.next;
-            let said = given.said;
-            let next = ends.without_back();
-            Answer { next, said }
+            Answer {
+                next: given.next.without_back(),
+                ..given
+            }
         } else {
             given
         }

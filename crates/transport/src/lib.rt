@@ -11,6 +11,9 @@ use line::Ring;
 use receiver::Receiver;
 use sender::Sender;
 
+// A line's 64 places of nine bytes: the number that this crate's promises name, as the line's own do.
+const LINE: usize = 576;
+
 // Both ends, and both directions of the line as rings in lent bytes.
 #[derive(Clone, Copy)]
 pub struct Ends {
@@ -20,15 +23,13 @@ pub struct Ends {
     pub back: Ring,
 }
 
-// What the called end said. Where emits is false, frame is the blank frame; the outcome of an end that was not called is
-// quiet; bytes are those of a short delivery, else eight zeros.
+// What the called end said: the frame that it emitted, if it did, and what it reported; the outcome of an end that was not
+// called is quiet.
 #[derive(Clone, Copy)]
 pub struct Said {
-    pub emits: bool,
-    pub frame: Frame,
+    pub frame: Option<Frame>,
     pub sender: sender::Outcome,
     pub receiver: receiver::Outcome,
-    pub bytes: [u8; 8],
 }
 
 // What a call answers.
@@ -36,11 +37,4 @@ pub struct Said {
 pub struct Answer {
     pub next: Ends,
     pub said: Said,
-}
-
-// What making answers: the ends, or the number of the refusal.
-#[derive(Clone, Copy)]
-pub enum Made {
-    Ready(Ends),
-    Refused(u8),
 }

@@ -1,8 +1,10 @@
-// Making both ends, at an empty line.
+// Making both ends, at an empty line, of the numbers that their making takes.
 ghost use Rattle.std.specs.Prelude.{◌≡◌};
-ghost use Rattle.transport.specs.Make.{told_made, make_of};
+ghost use Rattle.frame.specs.Result.{told_result};
+ghost use Rattle.transport.specs.Make.{make_of};
 
-use crate::{Ends, Made};
+use crate::Ends;
+use frame::Refusal;
 use line::Ring;
 use receiver::Receiver;
 use sender::Sender;
@@ -16,26 +18,17 @@ impl Ends {
         patience: u16,
         window: u16,
         capacity: u16,
-    ) -> Made
-        ensures { told_made result ≡ make_of gap timeout limit patience window capacity }
+    ) -> Result<Ends, Refusal>
+        ensures { told_result result ≡ make_of gap timeout limit patience window capacity }
     {
-        let made = Sender::make(gap, timeout, limit);
-        let answered = Receiver::make(patience, window, capacity);
-        match made {
-            sender::Made::Refused(number) => Made::Refused(number),
-            sender::Made::End(sender) => match answered {
-                receiver::Made::Refused(number) => Made::Refused(number),
-                receiver::Made::End(receiver) => {
-                    let empty = Ring::empty();
-                    let ends = Ends {
-                        sender,
-                        receiver,
-                        forward: empty,
-                        back: empty,
-                    };
-                    Made::Ready(ends)
-                }
-            },
-        }
+        let sender = Sender::make(gap, timeout, limit)?;
+        let receiver = Receiver::make(patience, window, capacity)?;
+        let empty = Ring::empty();
+        Ok(Ends {
+            sender,
+            receiver,
+            forward: empty,
+            back: empty,
+        })
     }
 }

@@ -3,23 +3,24 @@
 -- Assumes nothing.
 use Prim.Native.Nat.{ℕ, zero, suc, ◌<◌, ◌≤◌}
 use mathlib.Core.Path.{◌≡◌, refl, sym, ap, ◌∙◌}
-use mathlib.Core.Bool.{◌&&◌, and-eq-true_iff}
+use mathlib.Core.Bool.{Bool, true, false, ◌&&◌, and-eq-true_iff}
 use mathlib.Core.List.{List, [], ◌∷◌}
 use native.Mathlib.Omega.{arith}
 use borrow.Author.Tests.{leb-true, eqb-true}
 use lib.Dec.{eqb, leb}
 use lib.ListN.{length, get_or, take}
 use Rattle.frame.proofs.Choice.{pick_accepted}
+use Rattle.frame.proofs.Told.{refusal_at, number_injective}
 use Rattle.frame.specs.Choice.{pick}
-use Rattle.frame.specs.Result.{Result, accepted, refused}
+use Rattle.frame.specs.Result.{accepted}
+use Rattle.std.specs.Prelude.{Some, None, is_some}
+use Rattle.std.specs.declared.option.Option.{Option}
 use Rattle.version.specs.List.{version_of, major_of, minor_of, temporary_of}
-use Rattle.version.specs.Message.{told_reading, verdict_of, named, write_of, message_of, read_of}
+use Rattle.version.specs.Message.{verdict_of, named, write_of, message_of, read_of}
 use Rattle.version.specs.Told as says
-use Rattle.version.specs.Told.{Told, told_outcome, told}
+use Rattle.version.specs.Told.{Told, told_outcome, bytes_or_zeros, told}
 use Rattle.version.specs.declared.Answer.{Answer}
 use Rattle.version.specs.declared.Message.{Message}
-use Rattle.version.specs.declared.MessageReading.{MessageReading}
-use Rattle.version.specs.declared.MessageReading.TheVariants as readings
 use Rattle.version.specs.declared.Outcome as outcome-enum
 use Rattle.version.specs.declared.Outcome.TheVariants as outcome-variants
 use Rattle.version.specs.declared.Verdict.{Verdict}
@@ -29,33 +30,40 @@ use Rattle.version.specs.declared.Verdict.TheVariants.{Continue, Success, Failur
 
 abbrev pub untold_outcome : says.Outcome → outcome-enum.Outcome
 untold_outcome says.quiet = outcome-variants.Quiet
-untold_outcome (says.refused number) = outcome-variants.Refused number
+untold_outcome (says.refused number) = outcome-variants.Refused (refusal_at number)
 untold_outcome (says.agreed version) = outcome-variants.Agreed version
 untold_outcome says.failed = outcome-variants.Failed
 untold_outcome says.left = outcome-variants.Left
 
 outcome_undone : (o : outcome-enum.Outcome) → untold_outcome (told_outcome o) ≡ o
 outcome_undone outcome-variants.Quiet = refl
-outcome_undone (outcome-variants.Refused number) = refl
+outcome_undone (outcome-variants.Refused refusal) = ap outcome-variants.Refused (number_injective refusal)
 outcome_undone (outcome-variants.Agreed version) = refl
 outcome_undone outcome-variants.Failed = refl
 outcome_undone outcome-variants.Left = refl
 
+abbrev pub untold_message : Bool → List ℕ → Option (List ℕ)
+untold_message true bytes = Some bytes
+untold_message false bytes = None
+
+message_undone : (m : Option (List ℕ)) → untold_message (is_some m) (bytes_or_zeros m) ≡ m
+message_undone (Some bytes) = refl
+message_undone None = refl
+
 abbrev pub untold : Told → Answer
-untold t = record { next = t.next; emits = t.emits; bytes = t.bytes; outcome = untold_outcome t.outcome }
+untold t =
+    record {
+      next = t.next;
+      message = untold_message t.emits t.bytes;
+      outcome = untold_outcome t.outcome;
+    }
 
 pub told_undone : (a : Answer) → untold (told a) ≡ a
 told_undone a =
-    ap (λ (o : outcome-enum.Outcome). record { next = a.next; emits = a.emits; bytes = a.bytes; outcome = o })
+    ap (λ (m : Option (List ℕ)). record { next = a.next; message = m; outcome = untold_outcome (told_outcome a.outcome) })
+    (message_undone a.message)
+    ∙ ap (λ (o : outcome-enum.Outcome). record { next = a.next; message = a.message; outcome = o })
     (outcome_undone a.outcome)
-
-abbrev pub untold_reading : Result Message → MessageReading
-untold_reading (accepted m) = readings.Message m
-untold_reading (refused number) = readings.Refused number
-
-pub reading_undone : (r : MessageReading) → untold_reading (told_reading r) ≡ r
-reading_undone (readings.Message m) = refl
-reading_undone (readings.Refused number) = refl
 
 -- ---- a version and its three bytes
 

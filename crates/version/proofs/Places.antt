@@ -17,7 +17,9 @@ use Rattle.frame.proofs.Choice.{pick_accepted, both_left, both_right}
 use Rattle.frame.specs.Choice.{pick}
 use Rattle.frame.specs.Count.{within}
 use Rattle.frame.specs.Result.{accepted}
-use Rattle.version.specs.List.{at, versions_in, rising, three_bytes, placed, standing, is_list, is_lent, list_of, Place, nowhere, here, or_else, place_of, place_below}
+use Rattle.std.specs.Prelude.{Some, None}
+use Rattle.std.specs.declared.option.Option.{Option}
+use Rattle.version.specs.List.{at, versions_in, rising, three_bytes, placed, standing, is_list, is_lent, list_of, or_else, place_of, place_below}
 use Rattle.version.specs.Talk.{fresh, make_of}
 use Rattle.version.specs.declared.Side.{Side}
 use Rattle.version.specs.declared.Talker.{Talker}
@@ -145,13 +147,13 @@ pub record Found (s : List ℕ) (version n p : ℕ) : Type 0 where
   pub is : get_or s k 0 ≡ version
 
 -- nowhere is no place
-no_place : {p : ℕ} → nowhere ≡ here p → ⊥
+no_place : {p : ℕ} → None ≡ Some p → ⊥
 no_place h = let z : ◌≡◌ {A = ℕ} 0 1 = cc in omega arith
 
 module _ (v : ℕ) (s : List ℕ) (version n : ℕ) where
   found_first : (b : Bool) (p : ℕ) → eqb v version ≡ b
-      → (place_of s version (n + 1) ≡ here p → Found s version (n + 1) p)
-      → pick b (here n) (place_of s version (n + 1)) ≡ here p → Found (v ∷ s) version n p
+      → (place_of s version (n + 1) ≡ Some p → Found s version (n + 1) p)
+      → pick b (Some n) (place_of s version (n + 1)) ≡ Some p → Found (v ∷ s) version n p
   unfolding pick
   found_first true p t later e =
       let same : n ≡ p = cc in
@@ -161,34 +163,34 @@ module _ (v : ℕ) (s : List ℕ) (version n : ℕ) where
       record { k = suc r.k; place = omega (arith, r.place); inside = omega (arith, r.inside); is = r.is }
 
   missing_first : (b : Bool) → eqb v version ≡ b
-      → (place_of s version (n + 1) ≡ nowhere → (i : ℕ) → i < length s → get_or s i 0 ≡ version → ⊥)
-      → pick b (here n) (place_of s version (n + 1)) ≡ nowhere → (i : ℕ) → i < suc (length s)
+      → (place_of s version (n + 1) ≡ None → (i : ℕ) → i < length s → get_or s i 0 ≡ version → ⊥)
+      → pick b (Some n) (place_of s version (n + 1)) ≡ None → (i : ℕ) → i < suc (length s)
       → get_or (v ∷ s) i 0 ≡ version → ⊥
   unfolding pick
   missing_first true t later e i l same = no_place (sym e)
   missing_first false t later e zero l same = eqb-false v version t same
   missing_first false t later e (suc i) l same = later e i (omega arith) same
 
-found : (s : List ℕ) (version n p : ℕ) → place_of s version n ≡ here p → Found s version n p
+found : (s : List ℕ) (version n p : ℕ) → place_of s version n ≡ Some p → Found s version n p
 unfolding place_of
 found [] version n p h = absurd (no_place h)
 found (v ∷ s) version n p h = found_first v s version n (eqb v version) p refl (found s version (n + 1) p) h
 
-missing : (s : List ℕ) (version n : ℕ) → place_of s version n ≡ nowhere → (i : ℕ) → i < length s
+missing : (s : List ℕ) (version n : ℕ) → place_of s version n ≡ None → (i : ℕ) → i < length s
     → get_or s i 0 ≡ version → ⊥
 unfolding place_of
 missing [] version n h i l e = omega arith
 missing (v ∷ s) version n h i l e = missing_first v s version n (eqb v version) refl (missing s version (n + 1)) h i l e
 
 -- "in the own list": a place that is found holds the version, and where none is found no place does
-pub place_of_holds : (s : List ℕ) (version p : ℕ) → place_of s version 0 ≡ here p
+pub place_of_holds : (s : List ℕ) (version p : ℕ) → place_of s version 0 ≡ Some p
     → (p < length s) × (get_or s p 0 ≡ version)
 place_of_holds s version p h =
     let r = found s version 0 p h in
     let same : r.k ≡ p = omega (arith, r.place) in
     (omega (arith, r.inside), ap (λ (i : ℕ). get_or s i 0) (sym same) ∙ r.is)
 
-pub place_of_none : (s : List ℕ) (version : ℕ) → place_of s version 0 ≡ nowhere
+pub place_of_none : (s : List ℕ) (version : ℕ) → place_of s version 0 ≡ None
     → (i : ℕ) → i < length s → get_or s i 0 ≡ version → ⊥
 place_of_none s version h = missing s version 0 h
 
@@ -203,15 +205,15 @@ pub record Below (s : List ℕ) (version n p : ℕ) : Type 0 where
   pub last : (i : ℕ) → k < i → i < length s → version ≤ get_or s i 0
 
 module _ (v : ℕ) (s : List ℕ) (version n : ℕ) where
-  none_first : (b : Bool) (q : Place) → ltb v version ≡ b
-      → (q ≡ nowhere → (i : ℕ) → i < length s → version ≤ get_or s i 0)
-      → or_else q (pick b (here n) nowhere) ≡ nowhere
+  none_first : (b : Bool) (q : Option ℕ) → ltb v version ≡ b
+      → (q ≡ None → (i : ℕ) → i < length s → version ≤ get_or s i 0)
+      → or_else q (pick b (Some n) None) ≡ None
       → (i : ℕ) → i < suc (length s) → version ≤ get_or (v ∷ s) i 0
   unfolding pick
-  none_first true nowhere t later e i l = absurd (no_place (sym e))
-  none_first b (here p) t later e i l = absurd (no_place (sym e))
-  none_first false nowhere t later e zero l = ltb-false v version t
-  none_first false nowhere t later e (suc i) l = later refl i (omega arith)
+  none_first true None t later e i l = absurd (no_place (sym e))
+  none_first b (Some p) t later e i l = absurd (no_place (sym e))
+  none_first false None t later e zero l = ltb-false v version t
+  none_first false None t later e (suc i) l = later refl i (omega arith)
 
   -- what holds after a place of the rest holds after the next place of the whole
   after : (k : ℕ) → ((i : ℕ) → k < i → i < length s → version ≤ get_or s i 0)
@@ -234,13 +236,13 @@ module _ (v : ℕ) (s : List ℕ) (version n : ℕ) where
         last = after r.k r.last;
       }
 
-  below_first : (b : Bool) (q : Place) (p : ℕ) → ltb v version ≡ b
-      → (q ≡ nowhere → (i : ℕ) → i < length s → version ≤ get_or s i 0)
-      → (q ≡ here p → Below s version (n + 1) p)
-      → or_else q (pick b (here n) nowhere) ≡ here p
+  below_first : (b : Bool) (q : Option ℕ) (p : ℕ) → ltb v version ≡ b
+      → (q ≡ None → (i : ℕ) → i < length s → version ≤ get_or s i 0)
+      → (q ≡ Some p → Below s version (n + 1) p)
+      → or_else q (pick b (Some n) None) ≡ Some p
       → Below (v ∷ s) version n p
   unfolding pick
-  below_first true nowhere p t none later e =
+  below_first true None p t none later e =
       let same : n ≡ p = cc in
       record {
         k = 0;
@@ -249,17 +251,17 @@ module _ (v : ℕ) (s : List ℕ) (version n : ℕ) where
         less = ltb-true v version t;
         last = after_first (none refl);
       }
-  below_first false nowhere p t none later e = absurd (no_place e)
-  below_first b (here q) p t none later e = below_next (later e)
+  below_first false None p t none later e = absurd (no_place e)
+  below_first b (Some q) p t none later e = below_next (later e)
 
-none_below : (s : List ℕ) (version n : ℕ) → place_below s version n ≡ nowhere → (i : ℕ)
+none_below : (s : List ℕ) (version n : ℕ) → place_below s version n ≡ None → (i : ℕ)
     → i < length s → version ≤ get_or s i 0
 unfolding place_below
 none_below [] version n h i l = absurd (omega arith)
 none_below (v ∷ s) version n h i l =
     none_first v s version n (ltb v version) (place_below s version (n + 1)) refl (none_below s version (n + 1)) h i l
 
-below : (s : List ℕ) (version n p : ℕ) → place_below s version n ≡ here p → Below s version n p
+below : (s : List ℕ) (version n p : ℕ) → place_below s version n ≡ Some p → Below s version n p
 unfolding place_below
 below [] version n p h = absurd (no_place h)
 below (v ∷ s) version n p h =
@@ -279,7 +281,7 @@ module _ (s : List ℕ) (up : rising s ≡ true) where
       ⊎_elim (λ same. omega (arith, ap (λ (x : ℕ). get_or s x 0) same)) (λ less. omega (arith, rising_below s up i k less m))
       (eq-or-lt_of_le {n = i} {m = k} (omega arith))
 
-  pub place_below_highest : (version p : ℕ) → place_below s version 0 ≡ here p → Highest s version p
+  pub place_below_highest : (version p : ℕ) → place_below s version 0 ≡ Some p → Highest s version p
   place_below_highest version p h =
       let r = below s version 0 p h in
       let same : r.k ≡ p = omega (arith, r.place) in
@@ -290,6 +292,6 @@ module _ (s : List ℕ) (up : rising s ≡ true) where
         most = λ i l less. most_by i r.k l r.inside (λ a. let far = r.last i a l in omega arith);
       })
 
-pub place_below_none : (s : List ℕ) (version : ℕ) → place_below s version 0 ≡ nowhere
+pub place_below_none : (s : List ℕ) (version : ℕ) → place_below s version 0 ≡ None
     → (i : ℕ) → i < length s → version ≤ get_or s i 0
 place_below_none s version h = none_below s version 0 h

@@ -18,7 +18,9 @@ use Rattle.version.proofs.Cells.{Cell, rests, negotiates, starts, declines, goes
 use Rattle.version.proofs.Inverse.{read_written}
 use Rattle.version.proofs.Places.{made_is, list_is, three_bytes_lem, place_of_holds, place_below_highest}
 use Rattle.version.specs.Calls.{Call, connect, tick, hear, stop, greet, functions_heard, answer_of}
-use Rattle.version.specs.List.{version_of, standing, Place, nowhere, here, find, find_below}
+use Rattle.std.specs.Prelude.{Some, None}
+use Rattle.std.specs.declared.option.Option.{Option}
+use Rattle.version.specs.List.{version_of, standing, find, find_below}
 use Rattle.version.specs.Message.{read_of}
 use Rattle.version.specs.Reachable.{Reachable, made, called, Timing, StateWithin, PeriodWithin, AgeWithin, Within, Exact, EveryReachable}
 use Rattle.version.specs.Table.{Trigger, connected, period_due, success_other, success_below2, success2, failure_heard, continue_same, continue_lower, continue_higher, continue_none, greeted, stopped, limit_due, Entry, vehicle_s1}
@@ -84,9 +86,9 @@ module _ (t : Talker) (version : ℕ) where
       (λ more. let m : version_of 2 0 0 ≤ version = ltb-false _ _ more in omega arith))
       (λ other. tt)
 
-  higher_agrees : (p : Place) → Agrees t (higher_trigger p)
-  higher_agrees nowhere = tt
-  higher_agrees (here n) = tt
+  higher_agrees : (p : Option ℕ) → Agrees t (higher_trigger p)
+  higher_agrees None = tt
+  higher_agrees (Some n) = tt
 
   else_agrees : Agrees t (else_trigger t version)
   unfolding else_trigger
@@ -94,9 +96,9 @@ module _ (t : Talker) (version : ℕ) where
       pick_elim (Agrees t) (ltb (own_version t) version) (λ less. tt)
       (λ more. higher_agrees (find_below t.versions version))
 
-  continue_agrees : (p : Place) → Agrees t (continue_at t version p)
-  continue_agrees nowhere = else_agrees
-  continue_agrees (here n) = tt
+  continue_agrees : (p : Option ℕ) → Agrees t (continue_at t version p)
+  continue_agrees None = else_agrees
+  continue_agrees (Some n) = tt
 
   heard_agrees : (verdict : Verdict) → Agrees t (heard_trigger t version verdict)
   unfolding heard_trigger continue_trigger
@@ -135,10 +137,10 @@ module _ (t : Talker) (h : Within t) where
       (enters s t.verdict t.place period age timing h.place q a w)
 
   -- a place that is found, or the one where Ns is
-  place_in : (p : Place) → ((n : ℕ) → p ≡ here n → n < t.versions.count)
+  place_in : (p : Option ℕ) → ((n : ℕ) → p ≡ Some n → n < t.versions.count)
       → place_or p t.place < t.versions.count
-  place_in nowhere f = h.place
-  place_in (here n) f = f n refl
+  place_in None f = h.place
+  place_in (Some n) f = f n refl
 
   found_in : (version : ℕ) → place_or (find t.versions version) t.place < t.versions.count
   found_in version =

@@ -1,14 +1,11 @@
 -- Versions and the list of them. 001, 7.2.1, table 3: a version has a major, a minor and a
 -- temporary number, and versions compare as their numbers do (版本的比较即数字的大小比较).
-use Rattle.std.specs.Prelude.{ℕ, ◌+◌, ◌-◌, ◌*◌, ◌/◌, ◌%◌, Bool, true, ◌&&◌, List, [], ◌∷◌, ◌++◌, eqb, ltb, length, get_or, take, replicate}
+use Rattle.std.specs.Prelude.{ℕ, ◌+◌, ◌-◌, ◌*◌, ◌/◌, ◌%◌, Bool, true, ◌&&◌, List, [], ◌∷◌, ◌++◌, eqb, ltb, length, get_or, take, replicate, Some, None}
+use Rattle.std.specs.declared.option.Option.{Option}
 use Rattle.frame.specs.Choice.{pick}
 use Rattle.frame.specs.Count.{within}
 use Rattle.frame.specs.Result.{Result, accepted, refused}
-use Rattle.version.specs.declared.ListOutcome.TheVariants.{Accepted, Refused}
-use Rattle.version.specs.declared.Listed.{Listed}
 use Rattle.version.specs.declared.Versions.{Versions}
-use Rattle.version.specs.declared.list.Found.{Found}
-use Rattle.version.specs.declared.list.Found.TheVariants.{Nowhere, Here}
 
 -- a version as a number, major first
 abbrev pub version_of : ℕ → ℕ → ℕ → ℕ
@@ -72,12 +69,6 @@ list_from bytes versions = pick (is_lent bytes versions) (accepted (placed versi
 unfoldable pub list_of : List ℕ → Result Versions
 list_of bytes = list_from bytes (versions_in bytes)
 
--- what listing answers, whole: the list stands beside the outcome; where it is refused the list is the
--- one of no versions
-abbrev pub listed_of : Result Versions → Listed
-listed_of (accepted v) = record { versions = v; outcome = Accepted }
-listed_of (refused number) = record { versions = placed []; outcome = Refused number }
-
 -- the version at a place of the list
 abbrev pub at : Versions → ℕ → ℕ
 at v place = get_or v.numbers place 0
@@ -86,36 +77,26 @@ at v place = get_or v.numbers place 0
 abbrev pub highest : Versions → ℕ
 highest v = v.count - 1
 
--- a place in the list, if there is one
-pub data Place : Type 0 where
-  nowhere : Place
-  here : ℕ → Place
-
--- document 01's value for each case of a search's answer
-abbrev pub told_found : Found → Place
-told_found Nowhere = nowhere
-told_found (Here n) = here n
-
--- the first place, counted from n, that holds this version
-unfoldable pub place_of : List ℕ → ℕ → ℕ → Place
-place_of [] version n = nowhere
-place_of (v ∷ more) version n = pick (eqb v version) (here n) (place_of more version (n + 1))
+-- the first place, counted from n, that holds this version, if one does
+unfoldable pub place_of : List ℕ → ℕ → ℕ → Option ℕ
+place_of [] version n = None
+place_of (v ∷ more) version n = pick (eqb v version) (Some n) (place_of more version (n + 1))
 
 -- the first place if there is one, else the second
-abbrev pub or_else : Place → Place → Place
-or_else nowhere p = p
-or_else (here n) p = here n
+abbrev pub or_else : Option ℕ → Option ℕ → Option ℕ
+or_else None p = p
+or_else (Some n) p = Some n
 
 -- the last place, counted from n, that holds a version below this one; in a rising list, the
 -- highest of them
-unfoldable pub place_below : List ℕ → ℕ → ℕ → Place
-place_below [] version n = nowhere
+unfoldable pub place_below : List ℕ → ℕ → ℕ → Option ℕ
+place_below [] version n = None
 place_below (v ∷ more) version n =
-    or_else (place_below more version (n + 1)) (pick (ltb v version) (here n) nowhere)
+    or_else (place_below more version (n + 1)) (pick (ltb v version) (Some n) None)
 
 -- in a kept list: the place of this version, and that of the highest version below it
-abbrev pub find : Versions → ℕ → Place
+abbrev pub find : Versions → ℕ → Option ℕ
 find v version = place_of (standing v) version 0
 
-abbrev pub find_below : Versions → ℕ → Place
+abbrev pub find_below : Versions → ℕ → Option ℕ
 find_below v version = place_below (standing v) version 0

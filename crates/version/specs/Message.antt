@@ -5,8 +5,6 @@ use Rattle.frame.specs.Choice.{pick}
 use Rattle.frame.specs.Result.{Result, accepted, refused}
 use Rattle.version.specs.List.{version_of, major_of, minor_of, temporary_of}
 use Rattle.version.specs.declared.Message.{Message}
-use Rattle.version.specs.declared.MessageReading.{MessageReading}
-use Rattle.version.specs.declared.MessageReading.TheVariants as readings
 use Rattle.version.specs.declared.Verdict.{Verdict}
 use Rattle.version.specs.declared.Verdict.TheVariants.{Continue, Success, Failure}
 
@@ -18,6 +16,10 @@ verdict_byte Failure = 2
 
 unfoldable pub verdict_of : ℕ → Verdict
 verdict_of byte = pick (eqb byte 0) Continue (pick (eqb byte 1) Success Failure)
+
+-- any other byte is no result and refused 10
+unfoldable pub verdict_read : ℕ → Result Verdict
+verdict_read byte = pick (leb byte 2) (accepted (verdict_of byte)) (refused 10)
 
 -- Around the transport, version talk: a failure has 0xFF in all three bytes of the version. (001 puts
 -- a fourth 0xFF there, and the field has no room for it.)
@@ -35,11 +37,6 @@ bytes_of verdict version control =
 
 unfoldable pub write_of : Message → List ℕ
 write_of m = bytes_of m.verdict (named m.verdict m.version) m.control
-
--- document 01's value for each case of reading's answer: the message, or a refusal's number
-abbrev pub told_reading : MessageReading → Result Message
-told_reading (readings.Message m) = accepted m
-told_reading (readings.Refused number) = refused number
 
 -- what the bytes say: result, version and control-pilot byte
 abbrev pub message_of : List ℕ → Message

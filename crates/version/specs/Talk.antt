@@ -1,14 +1,13 @@
 -- The calls of a talker: which trigger a call is, and what the table's entry does.
-use Rattle.std.specs.Prelude.{ℕ, Bool, true, false, List, [], eqb, leb, ltb}
+use Rattle.std.specs.Prelude.{ℕ, Bool, true, false, List, eqb, leb, ltb, Some, None}
+use Rattle.std.specs.declared.option.Option.{Option}
 use Rattle.frame.specs.Choice.{pick}
 use Rattle.frame.specs.Count.{increment_of}
 use Rattle.frame.specs.Result.{Result, accepted, refused}
-use Rattle.version.specs.List.{version_of, placed, is_list, highest, Place, nowhere, here, find, find_below}
+use Rattle.version.specs.List.{version_of, is_list, highest, find, find_below}
 use Rattle.version.specs.Message.{read_of}
 use Rattle.version.specs.Table.{Trigger, connected, period_due, success_other, success_below2, success2, failure_heard, continue_same, continue_lower, continue_higher, continue_none, greeted, stopped, limit_due, Entry, nothing, opens, repeats, resumes, settles_below2, settles, fails, accepts, stays, lowers, leaves, cell_of}
 use Rattle.version.specs.Told.{Told, quiet, agreed, failed, left, silently, refusing, saying, moved, unsaid, own_version}
-use Rattle.version.specs.declared.ListOutcome.TheVariants.{Accepted, Refused}
-use Rattle.version.specs.declared.Made.{Made}
 use Rattle.version.specs.declared.Message.{Message}
 use Rattle.version.specs.declared.Side.{Side}
 use Rattle.version.specs.declared.Side.TheVariants.{Charger, Vehicle}
@@ -39,16 +38,10 @@ fresh side versions control =
 unfoldable pub make_of : Side → Versions → ℕ → Result Talker
 make_of side versions control = pick (is_list versions) (accepted (fresh side versions control)) (refused 11)
 
--- what making answers, whole: the talker stands beside the outcome; where it is refused the talker is
--- a charger with no versions and control-pilot byte 0
-abbrev pub made_of : Result Talker → Made
-made_of (accepted t) = record { talker = t; outcome = Accepted }
-made_of (refused number) = record { talker = fresh Charger (placed []) 0; outcome = Refused number }
-
 -- a place that was found, else the place where Ns is
-abbrev pub place_or : Place → ℕ → ℕ
-place_or nowhere place = place
-place_or (here n) place = n
+abbrev pub place_or : Option ℕ → ℕ → ℕ
+place_or None place = place
+place_or (Some n) place = n
 
 -- the vehicle's S3 keeps T1 running (持续发送“协商成功”); the charger's closes it
 abbrev pub keeps_timing : Side → Bool
@@ -143,9 +136,9 @@ unfoldable pub success_trigger : Talker → ℕ → Trigger
 success_trigger t version = pick (eqb version (own_version t)) (agreed_trigger version) success_other
 
 -- a version below the one heard: there is one, or none
-abbrev pub higher_trigger : Place → Trigger
-higher_trigger nowhere = continue_none
-higher_trigger (here n) = continue_higher
+abbrev pub higher_trigger : Option ℕ → Trigger
+higher_trigger None = continue_none
+higher_trigger (Some n) = continue_higher
 
 -- Around the transport ("a heard continue"): a version from anywhere in the own list is the same. Any
 -- other is held against the version at Ns, which is the lower one or else the higher.
@@ -153,9 +146,9 @@ unfoldable pub else_trigger : Talker → ℕ → Trigger
 else_trigger t version =
     pick (ltb (own_version t) version) continue_lower (higher_trigger (find_below t.versions version))
 
-abbrev pub continue_at : Talker → ℕ → Place → Trigger
-continue_at t version nowhere = else_trigger t version
-continue_at t version (here n) = continue_same
+abbrev pub continue_at : Talker → ℕ → Option ℕ → Trigger
+continue_at t version None = else_trigger t version
+continue_at t version (Some n) = continue_same
 
 unfoldable pub continue_trigger : Talker → ℕ → Trigger
 continue_trigger t version = continue_at t version (find t.versions version)

@@ -1,5 +1,7 @@
 -- What a talker's calls answer, in document 01's words and numbers.
-use Rattle.std.specs.Prelude.{ℕ, Bool, true, false, List, [], ◌∷◌}
+use Rattle.std.specs.Prelude.{ℕ, Bool, true, false, List, [], ◌∷◌, is_some, Some, None}
+use Rattle.std.specs.declared.option.Option.{Option}
+use Rattle.frame.specs.Result.{number_of}
 use Rattle.version.specs.List.{at}
 use Rattle.version.specs.Message.{write_of}
 use Rattle.version.specs.declared.Answer.{Answer}
@@ -21,10 +23,18 @@ pub data Outcome : Type 0 where
 -- document 01's values for each case of the outcome
 abbrev pub told_outcome : outcome-enum.Outcome → Outcome
 told_outcome outcome-variants.Quiet = quiet
-told_outcome (outcome-variants.Refused number) = refused number
+told_outcome (outcome-variants.Refused refusal) = refused (number_of refusal)
 told_outcome (outcome-variants.Agreed version) = agreed version
 told_outcome outcome-variants.Failed = failed
 told_outcome outcome-variants.Left = left
+
+abbrev pub no_bytes : List ℕ
+no_bytes = 0 ∷ 0 ∷ 0 ∷ 0 ∷ 0 ∷ 0 ∷ 0 ∷ 0 ∷ []
+
+-- the bytes that go out, eight zeros where none do
+abbrev pub bytes_or_zeros : Option (List ℕ) → List ℕ
+bytes_or_zeros None = no_bytes
+bytes_or_zeros (Some bytes) = bytes
 
 -- a call's whole answer: the next state, whether a message goes out, its bytes (eight zeros where
 -- none does), what is reported
@@ -38,13 +48,10 @@ abbrev pub told : Answer → Told
 told a =
     record {
       next = a.next;
-      emits = a.emits;
-      bytes = a.bytes;
+      emits = is_some a.message;
+      bytes = bytes_or_zeros a.message;
       outcome = told_outcome a.outcome;
     }
-
-abbrev pub no_bytes : List ℕ
-no_bytes = 0 ∷ 0 ∷ 0 ∷ 0 ∷ 0 ∷ 0 ∷ 0 ∷ 0 ∷ []
 
 -- the next state and no message, with what is reported
 abbrev pub unsaid : Talker → Outcome → Told

@@ -1,6 +1,8 @@
 // What each entry of the tables does to a talker.
+#![tactic(auto, unfolding(crate::specs::Talk::doing))]
+
 ghost use Rattle.std.specs.Prelude.{◌≡◌};
-ghost use Rattle.version.specs.List.{told_found};
+ghost use Rattle.frame.specs.Result.{number_of};
 ghost use Rattle.version.specs.Table.{told_trigger, told_entry};
 ghost use Rattle.version.specs.Told.{
   told_outcome,
@@ -14,8 +16,6 @@ ghost use Rattle.version.specs.Told.{
   saying,
 };
 ghost use Rattle.version.specs.Talk.{
-  place_or,
-  keeps_timing,
   pointed,
   opening,
   repeating,
@@ -29,221 +29,173 @@ ghost use Rattle.version.specs.Talk.{
   triggered,
 };
 
-use crate::list::{Found, at, find, find_below};
-use crate::table::{Entry, Trigger, cell};
+use crate::table::{Entry, Trigger};
 use crate::wire::write;
-use crate::{Answer, Message, Outcome, Side, State, Talker, Verdict};
+use crate::{Answer, Message, Outcome, State, Talker, Verdict};
+use frame::Refusal;
 
-// The talker in a state, with a result, a place and its timers.
-pub(crate) fn moved(
-    t: Talker,
-    state: State,
-    verdict: Verdict,
-    place: u32,
-    period: u16,
-    age: u16,
-    timing: bool,
-) -> Talker
-    ensures { result ≡ moved t state verdict place period age timing }
-{
-    let side = t.side;
-    let versions = t.versions;
-    Talker {
-        side,
-        versions,
-        control: t.control,
-        state,
-        place,
-        verdict,
-        period,
-        age,
-        timing,
-    }
-}
-
-// The talker in S1, with a result and at a place, its timers as they are.
-fn pointed(t: Talker, verdict: Verdict, place: u32) -> Talker
-    ensures { result ≡ pointed t verdict place }
-{
-    moved(t, State::S1, verdict, place, t.period, t.age, false)
-}
-
-// No message goes out, with what is reported.
-fn unsaid(t: Talker, outcome: Outcome) -> Answer
-    ensures { told result ≡ unsaid t (told_outcome outcome) }
-{
-    let bytes = [0, 0, 0, 0, 0, 0, 0, 0];
-    Answer {
-        next: t,
-        emits: false,
-        bytes,
-        outcome,
-    }
-}
-
-// The next state, and nothing else.
-pub(crate) fn silently(t: Talker) -> Answer
-    ensures { told result ≡ silently t }
-{
-    unsaid(t, Outcome::Quiet)
-}
-
-pub(crate) fn refusing(t: Talker, number: u8) -> Answer
-    ensures { told result ≡ refusing t number }
-{
-    unsaid(t, Outcome::Refused(number))
-}
-
-// The version at Ns.
-pub(crate) fn own_version(t: Talker) -> u32
-    ensures { result ≡ own_version t }
-{
-    let versions = t.versions;
-    at(versions, t.place)
-}
-
-// The talker's own message: its result and its version at Ns.
-fn own_message(t: Talker) -> [u8; 8]
-    ensures { result ≡ own_message t }
-{
-    let version = own_version(t);
-    let verdict = t.verdict;
-    write(Message {
-        verdict,
-        version,
-        control: t.control,
-    })
-}
-
-// The own message goes out, with what is reported.
-fn saying(t: Talker, outcome: Outcome) -> Answer
-    ensures { told result ≡ saying t (told_outcome outcome) }
-{
-    let bytes = own_message(t);
-    Answer {
-        next: t,
-        emits: true,
-        bytes,
-        outcome,
-    }
-}
-
-fn opening(t: Talker) -> Answer
-    ensures { told result ≡ opening t }
-{
-    let next = moved(t, State::S1, Verdict::Continue, t.place, 0, 0, false);
-    saying(next, Outcome::Quiet)
-}
-
-fn repeating(t: Talker) -> Answer
-    ensures { told result ≡ repeating t }
-{
-    let state = t.state;
-    let verdict = t.verdict;
-    let next = moved(t, state, verdict, t.place, 0, t.age, t.timing);
-    saying(next, Outcome::Quiet)
-}
-
-// The result becomes continue.
-fn resuming(t: Talker) -> Answer
-    ensures { told result ≡ resuming t }
-{
-    silently(pointed(t, Verdict::Continue, t.place))
-}
-
-// Into S2 or S3, with the version at Ns.
-fn settling(t: Talker, state: State, timing: bool) -> Answer
-    ensures { told result ≡ settling t state timing }
-{
-    let version = own_version(t);
-    let next = moved(t, state, Verdict::Success, t.place, 0, 0, timing);
-    saying(next, Outcome::Agreed(version))
-}
-
-// The vehicle's S3 keeps T1 running.
-fn keeps_timing(side: Side) -> bool
-    ensures { result ≡ keeps_timing side }
-{
-    match side {
-        Side::Charger => false,
-        Side::Vehicle => true,
-    }
-}
-
-fn failing(t: Talker) -> Answer
-    ensures { told result ≡ failing t }
-{
-    let next = moved(t, State::S4, Verdict::Failure, t.place, 0, 0, false);
-    saying(next, Outcome::Failed)
-}
-
-// A place that was found, else the other.
-fn place_or(found: Found, place: u32) -> u32
-    ensures { result ≡ place_or (told_found found) place }
-{
-    match found {
-        Found::Nowhere => place,
-        Found::Here(n) => n,
-    }
-}
-
-// The result becomes success, and Ns points at the version heard.
-fn accepting(t: Talker, version: u32) -> Answer
-    ensures { told result ≡ accepting t version }
-{
-    let versions = t.versions;
-    let found = find(versions, version);
-    let place = place_or(found, t.place);
-    silently(pointed(t, Verdict::Success, place))
-}
-
-// Ns points at the highest version below the one heard.
-fn lowering(t: Talker, version: u32) -> Answer
-    ensures { told result ≡ lowering t version }
-{
-    let versions = t.versions;
-    let verdict = t.verdict;
-    let found = find_below(versions, version);
-    let place = place_or(found, t.place);
-    silently(pointed(t, verdict, place))
-}
-
-fn leaving(t: Talker) -> Answer
-    ensures { told result ≡ leaving t }
-{
-    let verdict = t.verdict;
-    let next = moved(t, State::S5, verdict, t.place, 0, 0, false);
-    unsaid(next, Outcome::Left)
-}
-
-// An entry, with the version heard.
-fn doing(t: Talker, version: u32, entry: Entry) -> Answer
-    ensures { told result ≡ doing t version (told_entry entry) }
-{
-    match entry {
-        Entry::Nothing => silently(t),
-        Entry::Opens => opening(t),
-        Entry::Repeats => repeating(t),
-        Entry::Resumes => resuming(t),
-        Entry::SettlesBelow2 => settling(t, State::S2, false),
-        Entry::Settles => {
-            let side = t.side;
-            settling(t, State::S3, keeps_timing(side))
+impl Talker {
+    // In S1, with a result and at a place, the timers as they are.
+    fn pointed(self, verdict: Verdict, place: u32) -> Talker
+        ensures { result ≡ pointed self verdict place }
+    {
+        Talker {
+            state: State::S1,
+            verdict,
+            place,
+            timing: false,
+            ..self
         }
-        Entry::Fails => failing(t),
-        Entry::Accepts => accepting(t, version),
-        Entry::Stays => silently(t),
-        Entry::Lowers => lowering(t, version),
-        Entry::Leaves => leaving(t),
     }
-}
 
-// A trigger, looked up in the talker's table.
-pub(crate) fn triggered(t: Talker, version: u32, trigger: Trigger) -> Answer
-    ensures { told result ≡ triggered t version (told_trigger trigger) }
-{
-    let side = t.side;
-    let state = t.state;
-    let entry = cell(side, state, trigger);
-    doing(t, version, entry)
+    // In a state, with a result, T1 and Tout0 at 0; timing says whether T1 runs on in S3.
+    pub(crate) fn entering(self, state: State, verdict: Verdict, timing: bool) -> Talker
+        ensures { result ≡ moved self state verdict self.place 0 0 timing }
+    {
+        Talker {
+            state,
+            verdict,
+            period: 0,
+            age: 0,
+            timing,
+            ..self
+        }
+    }
+
+    // No message goes out, with what is reported.
+    fn unsaid(self, outcome: Outcome) -> Answer
+        ensures { told result ≡ unsaid self (told_outcome outcome) }
+    {
+        Answer {
+            next: self,
+            message: None,
+            outcome,
+        }
+    }
+
+    // The next state, and nothing else.
+    pub(crate) fn silently(self) -> Answer
+        ensures { told result ≡ silently self }
+    {
+        self.unsaid(Outcome::Quiet)
+    }
+
+    pub(crate) fn refusing(self, refusal: Refusal) -> Answer
+        ensures { told result ≡ refusing self (number_of refusal) }
+    {
+        self.unsaid(Outcome::Refused(refusal))
+    }
+
+    // The version at Ns.
+    pub(crate) fn own_version(self) -> u32
+        ensures { result ≡ own_version self }
+    {
+        self.versions.at(self.place)
+    }
+
+    // The talker's own message: its result and its version at Ns.
+    fn own_message(self) -> [u8; 8]
+        ensures { result ≡ own_message self }
+    {
+        write(Message {
+            verdict: self.verdict,
+            version: self.own_version(),
+            control: self.control,
+        })
+    }
+
+    // The own message goes out, with what is reported.
+    fn saying(self, outcome: Outcome) -> Answer
+        ensures { told result ≡ saying self (told_outcome outcome) }
+    {
+        Answer {
+            next: self,
+            message: Some(self.own_message()),
+            outcome,
+        }
+    }
+
+    fn opening(self) -> Answer
+        ensures { told result ≡ opening self }
+    {
+        self.entering(State::S1, Verdict::Continue, false)
+            .saying(Outcome::Quiet)
+    }
+
+    fn repeating(self) -> Answer
+        ensures { told result ≡ repeating self }
+    {
+        let next = Talker { period: 0, ..self };
+        next.saying(Outcome::Quiet)
+    }
+
+    // The result becomes continue.
+    fn resuming(self) -> Answer
+        ensures { told result ≡ resuming self }
+    {
+        self.pointed(Verdict::Continue, self.place).silently()
+    }
+
+    // Into S2 or S3, with the version at Ns.
+    fn settling(self, state: State, timing: bool) -> Answer
+        ensures { told result ≡ settling self state timing }
+    {
+        self.entering(state, Verdict::Success, timing)
+            .saying(Outcome::Agreed(self.own_version()))
+    }
+
+    fn failing(self) -> Answer
+        ensures { told result ≡ failing self }
+    {
+        self.entering(State::S4, Verdict::Failure, false)
+            .saying(Outcome::Failed)
+    }
+
+    // The result becomes success, and Ns points at the version heard.
+    fn accepting(self, version: u32) -> Answer
+        ensures { told result ≡ accepting self version }
+    {
+        let place = self.versions.find(version).unwrap_or(self.place);
+        self.pointed(Verdict::Success, place).silently()
+    }
+
+    // Ns points at the highest version below the one heard.
+    fn lowering(self, version: u32) -> Answer
+        ensures { told result ≡ lowering self version }
+    {
+        let place = self.versions.find_below(version).unwrap_or(self.place);
+        self.pointed(self.verdict, place).silently()
+    }
+
+    fn leaving(self) -> Answer
+        ensures { told result ≡ leaving self }
+    {
+        self.entering(State::S5, self.verdict, false)
+            .unsaid(Outcome::Left)
+    }
+
+    // An entry, with the version heard.
+    fn doing(self, version: u32, entry: Entry) -> Answer
+        ensures { told result ≡ doing self version (told_entry entry) }
+    {
+        match entry {
+            Entry::Nothing | Entry::Stays => self.silently(),
+            Entry::Opens => self.opening(),
+            Entry::Repeats => self.repeating(),
+            Entry::Resumes => self.resuming(),
+            Entry::SettlesBelow2 => self.settling(State::S2, false),
+            Entry::Settles => self.settling(State::S3, self.side.keeps_timing()),
+            Entry::Fails => self.failing(),
+            Entry::Accepts => self.accepting(version),
+            Entry::Lowers => self.lowering(version),
+            Entry::Leaves => self.leaving(),
+        }
+    }
+
+    // A trigger, looked up in the talker's table.
+    pub(crate) fn triggered(self, version: u32, trigger: Trigger) -> Answer
+        ensures { told result ≡ triggered self version (told_trigger trigger) }
+    {
+        self.doing(version, self.side.cell(self.state, trigger))
+    }
 }

@@ -1,5 +1,5 @@
 // Table 8 of 001, the charger's: a row for each state, a cell for each trigger. S2 to S5 have no
-// transition.
+// transition. S1's rows of both tables differ in one cell; each stands whole, as its table has it.
 ghost use Rattle.std.specs.Prelude.{◌≡◌};
 ghost use Rattle.version.specs.Table.{told_trigger, told_entry, charger_s0, charger_s1, charger_cell};
 
@@ -11,18 +11,7 @@ fn charger_s0(trigger: Trigger) -> Entry
 {
     match trigger {
         Trigger::Connected => Entry::Opens,
-        Trigger::PeriodDue => Entry::Nothing,
-        Trigger::SuccessOther => Entry::Nothing,
-        Trigger::SuccessBelow2 => Entry::Nothing,
-        Trigger::Success2 => Entry::Nothing,
-        Trigger::FailureHeard => Entry::Nothing,
-        Trigger::ContinueSame => Entry::Nothing,
-        Trigger::ContinueLower => Entry::Nothing,
-        Trigger::ContinueHigher => Entry::Nothing,
-        Trigger::ContinueNone => Entry::Nothing,
-        Trigger::Greeted => Entry::Nothing,
-        Trigger::Stopped => Entry::Nothing,
-        Trigger::LimitDue => Entry::Nothing,
+        _ => Entry::Nothing,
     }
 }
 
@@ -52,9 +41,6 @@ pub(crate) fn charger_cell(state: State, trigger: Trigger) -> Entry
     match state {
         State::S0 => charger_s0(trigger),
         State::S1 => charger_s1(trigger),
-        State::S2 => Entry::Nothing,
-        State::S3 => Entry::Nothing,
-        State::S4 => Entry::Nothing,
-        State::S5 => Entry::Nothing,
+        State::S2 | State::S3 | State::S4 | State::S5 => Entry::Nothing,
     }
 }

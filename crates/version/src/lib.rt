@@ -10,37 +10,24 @@ pub mod talk;
 mod vehicle;
 pub mod wire;
 
+use frame::Refusal;
+
 // The versions that an end supports, as numbers (major, minor and temporary version as the digits
 // of base 256), rising. The first count of them stand; listing puts 0 after them, and a talker that
-// was made looks at none of those. The count is as wide as a number, so that a list has no gap and
-// is copied as it lies.
+// was made looks at none of those. The C interface has the same count and numbers. The count is as
+// wide as a number, so that a list has no gap and is copied as it lies.
 #[derive(Clone, Copy)]
 pub struct Versions {
     pub count: u32,
     pub numbers: [u32; 8],
 }
 
-// Whether versions are a list that an end can have; if not, the number of the refusal.
-#[derive(Clone, Copy)]
-pub enum ListOutcome {
-    Accepted,
-    Refused(u8),
-}
-
-// What listing versions answers. Where they are refused, versions are none: count 0 and eight
-// zeros.
-#[derive(Clone, Copy)]
-pub struct Listed {
-    pub versions: Versions,
-    pub outcome: ListOutcome,
-}
-
 // The result field of a version message.
 #[derive(Clone, Copy)]
 pub enum Verdict {
-    Continue,
-    Success,
-    Failure,
+    Continue = 0,
+    Success = 1,
+    Failure = 2,
 }
 
 // What a version message says: the result, the version, and the control-pilot byte, which nobody
@@ -52,14 +39,7 @@ pub struct Message {
     pub control: u8,
 }
 
-// What reading a message answers: the message, or the number of the refusal.
-#[derive(Clone, Copy)]
-pub enum MessageReading {
-    Message(Message),
-    Refused(u8),
-}
-
-// Which table a talker follows.
+// Which table a talker follows. (A group's sender is an enum of its own: the two have no function in common.)
 #[derive(Clone, Copy)]
 pub enum Side {
     Charger,
@@ -79,7 +59,7 @@ pub enum State {
 
 // A talker: its side, what it supports and its control-pilot byte; its state, the place Ns in the
 // list, the result that its messages carry, and the ticks of T1 (period) and Tout0 (age). In S3 the
-// vehicle's T1 runs while timing is true.
+// vehicle's T1 runs while timing is true; period and timing stand apart, as in the C interface.
 #[derive(Clone, Copy)]
 pub struct Talker {
     pub side: Side,
@@ -93,29 +73,21 @@ pub struct Talker {
     pub timing: bool,
 }
 
-// What making a talker answers. Where it is refused, the talker is a charger with no versions.
-#[derive(Clone, Copy)]
-pub struct Made {
-    pub talker: Talker,
-    pub outcome: ListOutcome,
-}
-
-// What a call reports: nothing, a refusal by its number, the version agreed on, that the talk
-// failed, or that it was left.
+// What a call reports: nothing, a refusal, the version agreed on, that the talk failed, or that it
+// was left.
 #[derive(Clone, Copy)]
 pub enum Outcome {
     Quiet,
-    Refused(u8),
+    Refused(Refusal),
     Agreed(u32),
     Failed,
     Left,
 }
 
-// What a call answers. Where emits is false, bytes are eight zeros.
+// What a call answers: the next state, the message that goes out, if one does, and what is reported.
 #[derive(Clone, Copy)]
 pub struct Answer {
     pub next: Talker,
-    pub emits: bool,
-    pub bytes: [u8; 8],
+    pub message: Option<[u8; 8]>,
     pub outcome: Outcome,
 }

@@ -1,11 +1,12 @@
-// The calls of a talker.
+// The calls of a talker. It is made of what `make_of` takes.
+#![tactic(auto, unfolding(crate::specs::Talk::connect_of, crate::specs::Talk::stop_of, crate::specs::Talk::greet_of, crate::specs::Talk::functions_state, crate::specs::Talk::functions_heard_of, crate::specs::Talk::tick_talking, crate::specs::Talk::tick_settled, crate::specs::Talk::tick_state, crate::specs::Talk::tick_of, crate::specs::Talk::success_trigger, crate::specs::Talk::else_trigger, crate::specs::Talk::continue_trigger, crate::specs::Talk::heard_trigger, crate::specs::Talk::hear_judged, crate::specs::Talk::hear_of, crate::specs::Talk::make_of, frame::specs::Choice::pick))]
+
 ghost use Rattle.std.specs.Prelude.{◌≡◌};
+ghost use Rattle.frame.specs.Result.{told_result};
 ghost use Rattle.version.specs.Table.{told_trigger};
 ghost use Rattle.version.specs.Told.{told};
 ghost use Rattle.version.specs.Talk.{
-  fresh,
   make_of,
-  made_of,
   connect_of,
   stop_of,
   greet_of,
@@ -15,17 +16,15 @@ ghost use Rattle.version.specs.Talk.{
   continue_trigger,
   heard_trigger,
   hear_of,
-  aged,
   tick_talking,
   tick_settled,
   tick_of,
 };
 
-use crate::act::{moved, own_version, refusing, silently, triggered};
-use crate::list::{Found, find, find_below, highest, is_list, no_versions};
 use crate::table::Trigger;
 use crate::wire::read;
-use crate::{Answer, ListOutcome, Made, MessageReading, Side, State, Talker, Verdict, Versions};
+use crate::{Answer, Message, Side, State, Talker, Verdict, Versions};
+use frame::Refusal;
 use frame::count::increment;
 
 // T1 and Tout0 in ticks of 1 ms.
@@ -36,176 +35,94 @@ const LIMIT: u16 = 15000;
 // Version 2.0.0.
 const VERSION_2: u32 = 0x020000;
 
-// T1 and Tout0 at these ticks.
-fn aged(t: Talker, period: u16, age: u16) -> Talker
-    ensures { result ≡ aged t period age }
-{
-    let state = t.state;
-    let verdict = t.verdict;
-    moved(t, state, verdict, t.place, period, age, t.timing)
-}
-
-// S1: the limit goes before the period.
-fn tick_talking(t: Talker) -> Answer
-    ensures { told result ≡ tick_talking t }
-{
-    let age = increment(t.age);
-    if LIMIT <= age {
-        return triggered(t, 0, Trigger::LimitDue);
-    }
-    let period = increment(t.period);
-    if PERIOD <= period {
-        let waited = aged(t, t.period, age);
-        triggered(waited, 0, Trigger::PeriodDue)
-    } else {
-        silently(aged(t, period, age))
-    }
-}
-
-// S3: T1 alone, while it runs.
-fn tick_settled(t: Talker) -> Answer
-    ensures { told result ≡ tick_settled t }
-{
-    if t.timing {
-        let period = increment(t.period);
-        if PERIOD <= period {
-            triggered(t, 0, Trigger::PeriodDue)
-        } else {
-            silently(aged(t, period, t.age))
-        }
-    } else {
-        silently(t)
-    }
-}
-
-// Success heard: the own version at Ns, below 2.0.0 or not; or another.
-fn success_trigger(t: Talker, version: u32) -> Trigger
-    ensures { told_trigger result ≡ success_trigger t version }
-{
-    let own = own_version(t);
-    if version == own {
-        if version < VERSION_2 {
-            Trigger::SuccessBelow2
-        } else {
-            Trigger::Success2
-        }
-    } else {
-        Trigger::SuccessOther
-    }
-}
-
-// Continue heard, with a version that is not in the list.
-fn else_trigger(t: Talker, version: u32) -> Trigger
-    ensures { told_trigger result ≡ else_trigger t version }
-{
-    let own = own_version(t);
-    if own < version {
-        return Trigger::ContinueLower;
-    }
-    let versions = t.versions;
-    match find_below(versions, version) {
-        Found::Nowhere => Trigger::ContinueNone,
-        Found::Here(_) => Trigger::ContinueHigher,
-    }
-}
-
-// Continue heard.
-fn continue_trigger(t: Talker, version: u32) -> Trigger
-    ensures { told_trigger result ≡ continue_trigger t version }
-{
-    let versions = t.versions;
-    match find(versions, version) {
-        Found::Nowhere => else_trigger(t, version),
-        Found::Here(_) => Trigger::ContinueSame,
-    }
-}
-
-fn heard_trigger(t: Talker, version: u32, verdict: Verdict) -> Trigger
-    ensures { told_trigger result ≡ heard_trigger t version verdict }
-{
-    match verdict {
-        Verdict::Continue => continue_trigger(t, version),
-        Verdict::Success => success_trigger(t, version),
-        Verdict::Failure => Trigger::FailureHeard,
-    }
-}
-
-// A talker in S0, Ns at the highest version, the result continue.
-fn fresh(side: Side, versions: Versions, control: u8) -> Talker
-    ensures { result ≡ fresh side versions control }
-{
-    let place = highest(versions);
-    Talker {
-        side,
-        versions,
-        control,
-        state: State::S0,
-        place,
-        verdict: Verdict::Continue,
-        period: 0,
-        age: 0,
-        timing: false,
-    }
-}
-
 impl Talker {
-    // A talker that has not yet connected, or refusal 11: no list of versions.
-    pub fn make(side: Side, versions: Versions, control: u8) -> Made
-        ensures { result ≡ made_of (make_of side versions control) }
+    // A talker that has not yet connected, Ns at the highest version and the result continue; or
+    // refusal 11: no list of versions.
+    pub fn make(side: Side, versions: Versions, control: u8) -> Result<Talker, Refusal>
+        ensures { told_result result ≡ make_of side versions control }
     {
-        if is_list(versions) {
-            let talker = fresh(side, versions, control);
-            Made {
-                talker,
-                outcome: ListOutcome::Accepted,
-            }
-        } else {
-            let none = no_versions();
-            let talker = fresh(Side::Charger, none, 0);
-            Made {
-                talker,
-                outcome: ListOutcome::Refused(11),
-            }
+        if !versions.is_list() {
+            return Err(Refusal::Versions);
         }
+        Ok(Talker {
+            side,
+            versions,
+            control,
+            state: State::S0,
+            place: versions.highest(),
+            verdict: Verdict::Continue,
+            period: 0,
+            age: 0,
+            timing: false,
+        })
     }
 
-    // The physical connection is complete.
+    // The physical connection is complete. (One line each, here and below: every call has its trigger and its definition.)
     pub fn connect(self) -> Answer
         ensures { told result ≡ connect_of self }
     {
-        triggered(self, 0, Trigger::Connected)
+        self.triggered(0, Trigger::Connected)
     }
 
     // A fault, or the other side opens its switch.
     pub fn stop(self) -> Answer
         ensures { told result ≡ stop_of self }
     {
-        triggered(self, 0, Trigger::Stopped)
+        self.triggered(0, Trigger::Stopped)
     }
 
     // The old protocol's greeting (CHM) is heard.
     pub fn greet(self) -> Answer
         ensures { told result ≡ greet_of self }
     {
-        triggered(self, 0, Trigger::Greeted)
+        self.triggered(0, Trigger::Greeted)
     }
 
     // The charger's supported functions are heard: S3 closes its timers.
     pub fn functions_heard(self) -> Answer
         ensures { told result ≡ functions_heard_of self }
     {
-        let state = self.state;
-        match state {
-            State::S0 => silently(self),
-            State::S1 => silently(self),
-            State::S2 => silently(self),
-            State::S3 => {
-                let verdict = self.verdict;
-                let next = moved(self, state, verdict, self.place, 0, 0, false);
-                silently(next)
-            }
-            State::S4 => silently(self),
-            State::S5 => silently(self),
+        match self.state {
+            State::S3 => self.entering(self.state, self.verdict, false).silently(),
+            State::S0 | State::S1 | State::S2 | State::S4 | State::S5 => self.silently(),
+        }
+    }
+
+    // S1: the limit goes before the period.
+    fn tick_talking(self) -> Answer
+        ensures { told result ≡ tick_talking self }
+    {
+        let age = increment(self.age);
+        if LIMIT <= age {
+            return self.triggered(0, Trigger::LimitDue);
+        }
+        let period = increment(self.period);
+        if PERIOD <= period {
+            let waited = Talker { age, ..self };
+            waited.triggered(0, Trigger::PeriodDue)
+        } else {
+            let waited = Talker {
+                period,
+                age,
+                ..self
+            };
+            waited.silently()
+        }
+    }
+
+    // S3: T1 alone, while it runs.
+    fn tick_settled(self) -> Answer
+        ensures { told result ≡ tick_settled self }
+    {
+        if !self.timing {
+            return self.silently();
+        }
+        let period = increment(self.period);
+        if PERIOD <= period {
+            self.triggered(0, Trigger::PeriodDue)
+        } else {
+            let waited = Talker { period, ..self };
+            waited.silently()
         }
     }
 
@@ -213,14 +130,56 @@ impl Talker {
     pub fn tick(self) -> Answer
         ensures { told result ≡ tick_of self }
     {
-        let state = self.state;
-        match state {
-            State::S0 => silently(self),
-            State::S1 => tick_talking(self),
-            State::S2 => silently(self),
-            State::S3 => tick_settled(self),
-            State::S4 => silently(self),
-            State::S5 => silently(self),
+        match self.state {
+            State::S1 => self.tick_talking(),
+            State::S3 => self.tick_settled(),
+            State::S0 | State::S2 | State::S4 | State::S5 => self.silently(),
+        }
+    }
+
+    // Success heard: the own version at Ns, below 2.0.0 or not; or another.
+    fn success_trigger(self, version: u32) -> Trigger
+        ensures { told_trigger result ≡ success_trigger self version }
+    {
+        if version != self.own_version() {
+            Trigger::SuccessOther
+        } else if version < VERSION_2 {
+            Trigger::SuccessBelow2
+        } else {
+            Trigger::Success2
+        }
+    }
+
+    // Continue heard, with a version that is not in the list.
+    fn else_trigger(self, version: u32) -> Trigger
+        ensures { told_trigger result ≡ else_trigger self version }
+    {
+        if self.own_version() < version {
+            return Trigger::ContinueLower;
+        }
+        match self.versions.find_below(version) {
+            Some(_) => Trigger::ContinueHigher,
+            None => Trigger::ContinueNone,
+        }
+    }
+
+    // Continue heard.
+    fn continue_trigger(self, version: u32) -> Trigger
+        ensures { told_trigger result ≡ continue_trigger self version }
+    {
+        match self.versions.find(version) {
+            Some(_) => Trigger::ContinueSame,
+            None => self.else_trigger(version),
+        }
+    }
+
+    fn heard_trigger(self, m: Message) -> Trigger
+        ensures { told_trigger result ≡ heard_trigger self m.version m.verdict }
+    {
+        match m.verdict {
+            Verdict::Continue => self.continue_trigger(m.version),
+            Verdict::Success => self.success_trigger(m.version),
+            Verdict::Failure => Trigger::FailureHeard,
         }
     }
 
@@ -229,12 +188,8 @@ impl Talker {
         ensures { told result ≡ hear_of self bytes }
     {
         match read(bytes) {
-            MessageReading::Message(m) => {
-                let verdict = m.verdict;
-                let trigger = heard_trigger(self, m.version, verdict);
-                triggered(self, m.version, trigger)
-            }
-            MessageReading::Refused(number) => refusing(self, number),
+            Ok(m) => self.triggered(m.version, self.heard_trigger(m)),
+            Err(refusal) => self.refusing(refusal),
         }
     }
 }

@@ -1,5 +1,5 @@
 // Table 9 of 001, the vehicle's: a row for each state, a cell for each trigger. S2, S4 and S5 have
-// no transition.
+// no transition. S1's row stands whole beside the charger's, as its table has it.
 ghost use Rattle.std.specs.Prelude.{◌≡◌};
 ghost use Rattle.version.specs.Table.{
   told_trigger,
@@ -18,18 +18,8 @@ fn vehicle_s0(trigger: Trigger) -> Entry
 {
     match trigger {
         Trigger::Connected => Entry::Opens,
-        Trigger::PeriodDue => Entry::Nothing,
-        Trigger::SuccessOther => Entry::Nothing,
-        Trigger::SuccessBelow2 => Entry::Nothing,
-        Trigger::Success2 => Entry::Nothing,
-        Trigger::FailureHeard => Entry::Nothing,
-        Trigger::ContinueSame => Entry::Nothing,
-        Trigger::ContinueLower => Entry::Nothing,
-        Trigger::ContinueHigher => Entry::Nothing,
-        Trigger::ContinueNone => Entry::Nothing,
         Trigger::Greeted => Entry::Fails,
-        Trigger::Stopped => Entry::Nothing,
-        Trigger::LimitDue => Entry::Nothing,
+        _ => Entry::Nothing,
     }
 }
 
@@ -58,19 +48,8 @@ fn vehicle_s3(trigger: Trigger) -> Entry
     ensures { told_entry result ≡ vehicle_s3 (told_trigger trigger) }
 {
     match trigger {
-        Trigger::Connected => Entry::Nothing,
         Trigger::PeriodDue => Entry::Repeats,
-        Trigger::SuccessOther => Entry::Nothing,
-        Trigger::SuccessBelow2 => Entry::Nothing,
-        Trigger::Success2 => Entry::Nothing,
-        Trigger::FailureHeard => Entry::Nothing,
-        Trigger::ContinueSame => Entry::Nothing,
-        Trigger::ContinueLower => Entry::Nothing,
-        Trigger::ContinueHigher => Entry::Nothing,
-        Trigger::ContinueNone => Entry::Nothing,
-        Trigger::Greeted => Entry::Nothing,
-        Trigger::Stopped => Entry::Nothing,
-        Trigger::LimitDue => Entry::Nothing,
+        _ => Entry::Nothing,
     }
 }
 
@@ -80,9 +59,7 @@ pub(crate) fn vehicle_cell(state: State, trigger: Trigger) -> Entry
     match state {
         State::S0 => vehicle_s0(trigger),
         State::S1 => vehicle_s1(trigger),
-        State::S2 => Entry::Nothing,
         State::S3 => vehicle_s3(trigger),
-        State::S4 => Entry::Nothing,
-        State::S5 => Entry::Nothing,
+        State::S2 | State::S4 | State::S5 => Entry::Nothing,
     }
 }

@@ -1,9 +1,7 @@
--- `line::frame_at` meets its contract. Nine reads inside the 576 bytes are the frame of the definition.
+-- `line::frame_at` meets its contract. The nine bytes of the place are the frame of the definition.
 -- Assumes nothing.
-use borrow.Author.Rules.{rules}
-use Rattle.line.specs.Ring.{frame_at}
+use Rattle.line.proofs.Laws.{nine_read}
 use Rattle.line.proofs.frame_at.Goals as goal
 
 pub returns : goal.returns
-unfolding frame_at
-returns c = search rules
+returns c = nine_read _ _ _ c.told-places c.requires c.copy_from_slice.ensures.after

@@ -1,17 +1,16 @@
--- `pack::all_events` meets its contract. The bytes are judged one after the other.
+-- `pack::all_events` meets its contract. The chain judges every byte from the place on; the definition says the same byte by byte.
 -- Assumes nothing.
-use mathlib.Core.Path.{refl}
-use Rattle.pack.proofs.Paths.{events_on, events_stop, events_end}
+use Rattle.std.proofs.Common.{◌∙◌, rules, tests}
+use Rattle.std.proofs.lemmas.Iterator.{YieldsList-from_slice}
+use Rattle.std.proofs.lemmas.Iterator.Adapters.{YieldsList-from_skip}
+use Rattle.std.proofs.lemmas.Iterator.Search.{all_from_yields_List}
+use Rattle.pack.specs.Pack.{is_event}
+use Rattle.pack.proofs.Paths.{events_listed}
 use Rattle.pack.proofs.all_events.Goals as goal
 
-pub loop-i-init : goal.loop-i-init
-loop-i-init c = refl
-
-pub loop-i-preserved : goal.loop-i-preserved
-loop-i-preserved c = cc (events_on _ _ c.is_event.ensures c.if-is_event.true c.loop-i-test.true)
-
-pub returns-else-is_event : goal.returns-else-is_event
-returns-else-is_event c = cc (events_stop _ _ c.is_event.ensures c.if-is_event.false c.loop-i-test.true)
-
 pub returns : goal.returns
-returns c = cc (events_end _ _ c.loop-i-test.false)
+returns c =
+    all_from_yields_List is_event _ _ c.all.result c.all.ensures.ran
+    (YieldsList-from_skip c.args.from (YieldsList-from_slice c.args.pack.now cc) cc)
+    (λ x b q k. search (rules, tests))
+    ∙ events_listed _

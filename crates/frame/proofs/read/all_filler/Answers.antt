@@ -1,17 +1,16 @@
--- `frame::read::all_filler` meets its contract. The bytes are judged one after the other.
--- Assumes nothing.
-use mathlib.Core.Path.{refl}
-use Rattle.frame.proofs.Laws.{filler_on, filler_stops, filler_ends}
+-- `frame::read::all_filler` meets its contract. The chain tests every byte from the place on; the definition says the same byte by
+-- byte. Assumes nothing.
+use Rattle.std.proofs.Common.{◌∙◌, rules, tests}
+use Rattle.std.proofs.lemmas.Iterator.{YieldsList-from_slice}
+use Rattle.std.proofs.lemmas.Iterator.Adapters.{YieldsList-from_skip}
+use Rattle.std.proofs.lemmas.Iterator.Search.{all_from_yields_List}
+use Rattle.std.specs.Prelude.{eqb}
+use Rattle.frame.proofs.Laws.{filler_listed}
 use Rattle.frame.proofs.read.all_filler.Goals as goal
 
-pub loop-i-init : goal.loop-i-init
-loop-i-init c = refl
-
-pub returns-then-bytes-i : goal.returns-then-bytes-i
-returns-then-bytes-i c = cc (filler_stops _ _ c.loop-i-test.true c.if-bytes-i.true)
-
-pub loop-i-preserved : goal.loop-i-preserved
-loop-i-preserved c = cc (filler_on _ _ c.loop-i-test.true c.if-bytes-i.false)
-
 pub returns : goal.returns
-returns c = cc (filler_ends _ _ c.loop-i-test.false)
+returns c =
+    all_from_yields_List (λ b. eqb b 255) _ _ c.all.result c.all.ensures.ran
+    (YieldsList-from_skip c.args.from (YieldsList-from_slice c.args.bytes.now cc) cc)
+    (λ x b q k. search (rules, tests))
+    ∙ filler_listed _

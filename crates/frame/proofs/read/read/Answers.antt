@@ -4,14 +4,11 @@
 use Rattle.frame.proofs.Laws.{reads}
 use Rattle.frame.proofs.read.read.Goals as goal
 
-pub returns-then-all_filler : goal.returns-then-all_filler
-returns-then-all_filler c = search reads
+pub returns-then-clean-has_part : goal.returns-then-clean-has_part
+returns-then-clean-has_part c = search reads
 
-pub returns-then-has_part : goal.returns-then-has_part
-returns-then-has_part c = search reads
-
-pub returns-else-has_part : goal.returns-else-has_part
-returns-else-has_part c = search reads
+pub returns-else-clean-has_part : goal.returns-else-clean-has_part
+returns-else-clean-has_part c = search reads
 
 pub returns-in_default : goal.returns-in_default
 returns-in_default c = search reads

@@ -1,17 +1,16 @@
--- `groups::table::word_in` meets its contract. The words are looked at one after the other.
+-- `groups::table::word_in` meets its contract.
 -- Assumes nothing.
-use mathlib.Core.Path.{refl, ◌∙◌, sym}
-use Rattle.groups.proofs.Words.{word_here, word_on, word_ends}
+use Rattle.std.proofs.Common.{◌%◌, ◌∙◌, sym, eqb, rules, tests}
+use Rattle.std.proofs.lemmas.Iterator.{YieldsList-from_slice}
+use Rattle.std.proofs.lemmas.Iterator.Adapters.{option_map_id}
+use Rattle.std.proofs.lemmas.Iterator.Consumers.{YieldsList-from_copied}
+use Rattle.std.proofs.lemmas.Iterator.Search.{find_from_yields_List}
+use Rattle.groups.specs.Words.{word_in}
 use Rattle.groups.proofs.table.word_in.Goals as goal
 
-pub loop-i-init : goal.loop-i-init
-loop-i-init c = refl
-
-pub returns-then-word-key : goal.returns-then-word-key
-returns-then-word-key c = word_here _ _ _ c.loop-i-test.true c.if-word-key.true ∙ sym c.loop-i.invariant
-
-pub loop-i-preserved : goal.loop-i-preserved
-loop-i-preserved c = c.loop-i.invariant ∙ word_on _ _ _ c.loop-i-test.true c.if-word-key.false
-
 pub returns : goal.returns
-returns c = word_ends _ _ _ c.loop-i-test.false ∙ sym c.loop-i.invariant
+unfolding word_in
+returns c =
+    sym (option_map_id _)
+    ∙ find_from_yields_List (λ w. eqb (w % 256) c.args.key) _ _ c.find.result c.find.ensures.ran
+    (YieldsList-from_copied (YieldsList-from_slice c.args.table.now cc)) (λ x b q k. search (rules, tests))

@@ -1,13 +1,13 @@
 -- `line::Ring::join` meets its contract. By the lent length and the count.
 -- Assumes nothing.
-use Rattle.line.proofs.Laws.{joins}
+use Rattle.line.proofs.Laws.{join_nowhere, join_full, join_room}
 use Rattle.line.proofs.Ring.join.Goals as goal
 
-pub returns-then-bytes-ne-SIZE : goal.returns-then-bytes-ne-SIZE
-returns-then-bytes-ne-SIZE c = search joins
+pub returns-in_default : goal.returns-in_default
+returns-in_default c = join_nowhere _ _ _ c.in_default.ensures.cases
 
-pub returns-then-count-ge64 : goal.returns-then-count-ge64
-returns-then-count-ge64 c = search joins
+pub returns-then-self-ge64 : goal.returns-then-self-ge64
+returns-then-self-ge64 c = join_full _ _ _ _ c.in-Some.ensures.cases c.if-self-ge64.true
 
 pub returns : goal.returns
-returns c = search joins
+returns c = join_room _ _ _ _ _ c.in-Some.ensures.cases c.if-self-ge64.false c.store.ensures

@@ -1,13 +1,11 @@
--- `line::Ring::rest` meets its contract. By the count: none, more than there are places, or some.
+-- `line::Ring::rest` meets its contract. By the count: none or some.
 -- Assumes nothing.
-use Rattle.line.proofs.Laws.{rests}
+use mathlib.Core.Path.{sym}
+use Rattle.line.proofs.Laws.{rest_empty, rest_some}
 use Rattle.line.proofs.Ring.rest.Goals as goal
 
-pub returns-then-count-eq0 : goal.returns-then-count-eq0
-returns-then-count-eq0 c = search rests
-
-pub returns-then-count-ge64 : goal.returns-then-count-ge64
-returns-then-count-ge64 c = search rests
+pub returns-then-is_empty : goal.returns-then-is_empty
+returns-then-is_empty c = rest_empty _ (sym c.if-is_empty.ensures)
 
 pub returns : goal.returns
-returns c = search rests
+returns c = rest_some _ _ (sym c.if-is_empty.ensures) c.min.ensures

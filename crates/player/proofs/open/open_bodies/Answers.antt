@@ -1,8 +1,11 @@
-use Rattle.player.proofs.Calls.{makings}
+use Rattle.std.proofs.lemmas.Result.{err_from_is_err_and}
+use Rattle.player.proofs.Calls.{no_ends, with_ends}
 use Rattle.player.proofs.open.open_bodies.Goals as goal
 
-pub returns-in-Refused : goal.returns-in-Refused
-returns-in-Refused c = search makings
+pub returns-in_err-ends : goal.returns-in_err-ends
+returns-in_err-ends c =
+    let p = err_from_is_err_and c.from_residual.result c.from_residual.ensures.1 in
+    rw (p.1, p.2) (no_ends _ _ _ c.in_err-ends.ensures)
 
-pub returns-in-Ready : goal.returns-in-Ready
-returns-in-Ready c = search makings
+pub returns : goal.returns
+returns c = with_ends _ _ _ _ _ c.in_ok-ends.ensures c.part-message.ensures c.try_begin.ensures

@@ -1,14 +1,8 @@
-use Rattle.player.proofs.Calls.{outcomes}
+use Rattle.player.proofs.Calls.{unless_refused_lem, unless_other}
 use Rattle.player.proofs.open.unless_refused.Goals as goal
 
-pub returns-in-Quiet : goal.returns-in-Quiet
-returns-in-Quiet c = search outcomes
-
 pub returns-in-Refused : goal.returns-in-Refused
-returns-in-Refused c = search outcomes
+returns-in-Refused c = unless_refused_lem _ _ c.in-Refused.is
 
-pub returns-in-Sent : goal.returns-in-Sent
-returns-in-Sent c = search outcomes
-
-pub returns-in-Failed : goal.returns-in-Failed
-returns-in-Failed c = search outcomes
+pub returns-in_default : goal.returns-in_default
+returns-in_default c = unless_other _ _ c.in_default.not-Refused

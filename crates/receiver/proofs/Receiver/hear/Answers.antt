@@ -1,14 +1,13 @@
--- `receiver::Receiver::hear` meets its contract. The length of the buffer goes first, then the reading: a refused
--- frame leaves with the number of its reading, and `hear_kind` answers the others.
+-- `receiver::Receiver::hear` meets its contract. A frame that cannot be read is refused 6 by the definition too.
 -- Assumes nothing.
-use Rattle.receiver.proofs.Laws.{hears}
+use borrow.Author.Rules.{rules}
+use Rattle.frame.specs.Choice.{pick}
+use Rattle.receiver.specs.Hear.{hear_read, hear_of}
+use Rattle.receiver.proofs.Laws.{unread}
 use Rattle.receiver.proofs.Receiver.hear.Goals as goal
 
-pub returns-then-buffer-ne-BUFFER : goal.returns-then-buffer-ne-BUFFER
-returns-then-buffer-ne-BUFFER c = search hears
-
-pub returns-in_default : goal.returns-in_default
-returns-in_default c = search hears
-
-pub returns : goal.returns
-returns c = search hears
+pub returns-in_default-reading : goal.returns-in_default-reading
+unfolding hear_of hear_read pick
+returns-in_default-reading c =
+    let six = unread _ _ _ c.read-reading.ensures c.in_default-reading.is in
+    search (rules, six, c.in-Some.ensures.cases)

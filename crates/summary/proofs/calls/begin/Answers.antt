@@ -1,14 +1,9 @@
--- `summary::calls::begin` meets its contract: the lent length is the first test, then whether the sender refuses; where it
--- does not, the counts are cleared and its frame is counted.
+-- `summary::calls::begin` meets its contract: an accepted begin clears the counts, and its frame is counted.
 -- Assumes nothing.
-use Rattle.summary.proofs.Laws.{calls_keep}
+use Rattle.summary.proofs.Laws.{keeps_begun}
 use Rattle.summary.proofs.calls.begin.Goals as goal
 
-pub returns-then-counts-ne-SIZE : goal.returns-then-counts-ne-SIZE
-returns-then-counts-ne-SIZE c = search calls_keep
-
-pub returns-then-is_refused : goal.returns-then-is_refused
-returns-then-is_refused c = search calls_keep
-
 pub returns : goal.returns
-returns c = search calls_keep
+returns c =
+    keeps_begun _ _ _ c.in-Some.ensures.cases c.begin-answer.ensures c.is_refused.ensures c.if-is_refused.false
+    (c.fill.ensures.after (λ y same. same)) c.counted.ensures

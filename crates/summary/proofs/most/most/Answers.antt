@@ -1,17 +1,25 @@
 -- `summary::most::most` meets its contract. The counts are read one after the other.
 -- Assumes nothing.
-use borrow.Author.Rules.{rules}
-use Rattle.summary.proofs.Laws.{naming}
+use mathlib.Core.Path.{◌≡◌}
+use native.Mathlib.Omega.{arith}
+use Rattle.summary.proofs.Laws.{most_first, naming}
 use Rattle.summary.proofs.most.most.Goals as goal
+use Rattle.summary.proofs.most.most.Goals.{then-overtakes, else-overtakes}
 
-pub loop-last-init : goal.loop-last-init
-loop-last-init c = (search rules, search naming, search rules)
+pub loop-number-init : goal.loop-number-init
+loop-number-init c = most_first _ _ c.count_at-count.ensures
 
-pub loop-last-preserved-then-overtakes : goal.loop-last-preserved-then-overtakes
-loop-last-preserved-then-overtakes c = (search rules, search naming, search rules)
+pub loop-number-preserved : goal.loop-number-preserved
+loop-number-preserved c =
+    elim c.if-overtakes.branch [
+      | then-overtakes w ↦ rw w.most-is (search (naming, arith))
+      | else-overtakes w ↦ rw w.most-is (search (naming, arith))
+    ]
 
-pub loop-last-preserved : goal.loop-last-preserved
-loop-last-preserved c = (search rules, search naming, search rules)
-
-pub returns : goal.returns
-returns c = search naming
+pub returns-after-overtakes : goal.returns-after-overtakes
+returns-after-overtakes c =
+    let last : 255 ≡ c.loop-number.number = omega arith in
+    elim c.if-overtakes.branch [
+      | then-overtakes w ↦ rw w.most-is (search (naming, arith))
+      | else-overtakes w ↦ rw w.most-is (search (naming, arith))
+    ]

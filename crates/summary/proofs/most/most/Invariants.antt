@@ -1,14 +1,9 @@
--- `summary::most::most` meets its contract. The invariant: the number named of those from 0 to the last one read, and its
--- count. The measure is how many are left.
+-- `summary::most::most` meets its contract. The invariant: the number named of those before the next one, and its count.
 -- Assumes nothing.
-use Prim.Native.Nat.{◌-◌, ◌≤◌}
+use Prim.Native.Nat.{◌-◌}
 use mathlib.Core.Path.{◌≡◌}
-use Rattle.summary.specs.Counts.{count_at}
-use Rattle.summary.specs.Most.{most_to}
+use Rattle.summary.specs.Most.{most_to, count_for}
 use Rattle.summary.proofs.most.most.Given as goal
 
-abbrev pub invariant-loop-last : goal.invariant-loop-last
-invariant-loop-last l = (l.last ≤ 255) × (l.number ≡ most_to l.counts l.last) × (l.count ≡ count_at l.counts l.number)
-
-abbrev pub decreases-loop-last : goal.decreases-loop-last
-decreases-loop-last l = 255 - l.last
+abbrev pub invariant-loop-number : goal.invariant-loop-number
+invariant-loop-number l = l.most ≡ count_for l.counts (most_to l.counts (l.number - 1))

@@ -1,8 +1,8 @@
-use Rattle.transport.proofs.Calls.{begins_and_ticks}
+use Rattle.transport.proofs.Calls.{no_forward, begins}
 use Rattle.transport.proofs.Ends.begin.Goals as goal
 
-pub returns-then-forward-ne-LINE : goal.returns-then-forward-ne-LINE
-returns-then-forward-ne-LINE c = search begins_and_ticks
+pub returns-in_default : goal.returns-in_default
+returns-in_default c = no_forward _ _ _ c.unheard.ensures _ c.in_default.ensures.cases
 
 pub returns : goal.returns
-returns c = search begins_and_ticks
+returns c = begins _ _ _ _ _ _ _ c.begin-a.ensures c.in-Some.ensures.cases c.sender_spoke.ensures

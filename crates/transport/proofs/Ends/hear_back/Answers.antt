@@ -1,21 +1,31 @@
-use borrow.Author.Rules.{rules}
-use Rattle.transport.proofs.Calls.{hearings, not_empty}
+use Rattle.transport.proofs.Calls.{neither_forward, neither_back, back_empty, hears_back, repeats_back}
 use Rattle.transport.proofs.Ends.hear_back.Goals as goal
 
-pub returns-then-forward-ne-LINE : goal.returns-then-forward-ne-LINE
-returns-then-forward-ne-LINE c = search hearings
+pub returns-in_default : goal.returns-in_default
+returns-in_default c = neither_forward _ _ _ c.unheard.ensures _ _ c.in_default.ensures.cases
 
-pub returns-then-back-ne-LINE : goal.returns-then-back-ne-LINE
-returns-then-back-ne-LINE c = search hearings
+pub returns-in_default-as_array : goal.returns-in_default-as_array
+returns-in_default-as_array c =
+    simp c.in-Some.ensures.cases.same
+    (neither_back _ _ _ c.unheard-in_default-as_array.ensures _ _ c.in_default-as_array.ensures.cases)
 
 pub returns-then-is_empty : goal.returns-then-is_empty
-returns-then-is_empty c = search hearings
-
-pub give_back-given-requires : goal.give_back-given-requires
-give_back-given-requires c = search (rules, not_empty)
+returns-then-is_empty c =
+    let far = c.in-Some.ensures.cases in
+    let line = c.in-Some-as_array.ensures.cases in
+    simp far.same
+    (back_empty _ _ _ _ _ _ c.unheard-then-is_empty.ensures far.long line.long c.is_empty.ensures c.if-is_empty.true)
 
 pub returns-then-takes : goal.returns-then-takes
-returns-then-takes c = search hearings
+returns-then-takes c =
+    let far = c.in-Some.ensures.cases in
+    let line = c.in-Some-as_array.ensures.cases in
+    hears_back _ c.give_back-given.result _ _ _ far.long line.long _ _ c.if-takes.true
+    (simp (line.same, far.same) at c.give_back-given.ensures) c.without_back.ensures
 
 pub returns-else-takes : goal.returns-else-takes
-returns-else-takes c = search hearings
+returns-else-takes c =
+    let far = c.in-Some.ensures.cases in
+    let line = c.in-Some-as_array.ensures.cases in
+    repeats_back _ c.give_back-given.result _ _ _ far.long line.long _ c.if-takes.false
+    (simp (line.same, far.same) at c.give_back-given.ensures)

@@ -4,4 +4,4 @@ use Rattle.transport.proofs.Ends.unheard.Goals as goal
 
 pub returns : goal.returns
 unfolding told quietly
-returns c = λ forward back buffer. rw c.blank-frame.ensures refl
+returns c = λ forward back buffer. refl

@@ -1,7 +1,0 @@
--- `kospelna::receive::kospelna_receiver_hear` meets its contract. What is read, the end's promise, what is written.
--- Assumes nothing.
-use Rattle.kospelna.proofs.ReceivePaths.{calls}
-use Rattle.kospelna.proofs.receive.kospelna_receiver_hear.Goals as goal
-
-pub returns : goal.returns
-returns c = search calls

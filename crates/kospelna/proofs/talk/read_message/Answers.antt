@@ -1,7 +1,0 @@
--- `kospelna::talk::read_message` meets its contract. Field by field, the result from its number.
--- Assumes nothing.
-use Rattle.kospelna.proofs.TalkLaws.{message_paths}
-use Rattle.kospelna.proofs.talk.read_message.Goals as goal
-
-pub returns : goal.returns
-returns c = search message_paths

@@ -1,7 +1,0 @@
--- `kospelna_summary::kospelna_summary_most` meets its contract. What is read of the counts is written.
--- Assumes nothing.
-use Rattle.kospelna_summary.proofs.Laws.{counts}
-use Rattle.kospelna_summary.proofs.kospelna_summary_most.Goals as goal
-
-pub returns : goal.returns
-returns c = search counts

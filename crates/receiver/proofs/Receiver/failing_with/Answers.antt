@@ -1,7 +1,0 @@
--- `receiver::Receiver::failing_with` meets its contract. The state and the frame are those that the callees
--- promise.
--- Assumes nothing.
-use Rattle.receiver.proofs.Receiver.failing_with.Goals as goal
-
-pub returns : goal.returns
-returns c = cc

@@ -1,6 +1,0 @@
--- `receiver::Receiver::opening` meets its contract. What the callees answer, put together, is the definition.
--- Assumes nothing.
-use Rattle.receiver.proofs.Receiver.opening.Goals as goal
-
-pub returns : goal.returns
-returns c = cc

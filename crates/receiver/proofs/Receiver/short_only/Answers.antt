@@ -1,6 +1,0 @@
--- `receiver::Receiver::short_only` meets its contract. The frame is the blank one that `blank` promises.
--- Assumes nothing.
-use Rattle.receiver.proofs.Receiver.short_only.Goals as goal
-
-pub returns : goal.returns
-returns c = cc

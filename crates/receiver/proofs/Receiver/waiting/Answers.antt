@@ -1,6 +1,0 @@
--- `receiver::Receiver::waiting` meets its contract. What the callees answer, put together, is the definition.
--- Assumes nothing.
-use Rattle.receiver.proofs.Receiver.waiting.Goals as goal
-
-pub returns : goal.returns
-returns c = cc

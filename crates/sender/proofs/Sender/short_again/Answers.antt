@@ -1,8 +1,0 @@
--- `sender::Sender::short_again` meets its contract. What the callees answer, put together, is the
--- definition.
--- Assumes nothing.
-use Rattle.sender.proofs.Laws.{results}
-use Rattle.sender.proofs.Sender.short_again.Goals as goal
-
-pub returns : goal.returns
-returns c = search results

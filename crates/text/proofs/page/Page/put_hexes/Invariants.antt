@@ -1,0 +1,9 @@
+-- `text::page::Page::put_hexes` meets its contract. The invariant: what the bytes so far give is put.
+-- Assumes nothing.
+use lib.ListN.{take}
+use Rattle.text.specs.Puts.{Puts}
+use Rattle.text.specs.Text.{hexes}
+use Rattle.text.proofs.page.Page.put_hexes.Given as goal
+
+abbrev pub invariant-loop-byte : goal.invariant-loop-byte
+invariant-loop-byte l = Puts l.initial.self l.self (hexes (take l.byte-index l.bytes))

@@ -1,7 +1,0 @@
--- `version::act::failing` meets its contract. The message is that of the state that `moved` makes.
--- Assumes nothing.
-use Rattle.version.proofs.Laws.{sayings}
-use Rattle.version.proofs.act.failing.Goals as goal
-
-pub returns : goal.returns
-returns c = search sayings
