@@ -123,22 +123,53 @@ fn numbers(declared: Vec<&str>, between: &str) -> Numbers {
         .collect()
 }
 
-/// The numbers that the crates write for the cases of misses: `Misses::NoneAfterAck => 0`.
-fn misses_of_the_crates(text: &str) -> Numbers {
-    let written = numbers(after(text, "Misses::", ','), " => ");
-    let named = written.into_iter();
-    named
-        .map(|(name, number)| (capitals(&name), number))
-        .collect()
+/// The numbers of the cases of misses: each is written as its place in `pub enum Misses`, and read where a number is matched.
+fn misses_of_the_crates(receiver: &str, face: &str) -> Numbers {
+    let cases = words(after(receiver, "pub enum Misses {", '}')[0]);
+    let cases = cases
+        .split(',')
+        .map(str::trim)
+        .filter(|case| !case.is_empty());
+    let written: Numbers = cases.map(capitals).zip(0..).collect();
+    assert!(
+        face.contains("x.misses as u8"),
+        "a case is written as its place"
+    );
+    let reading = face.split("fn misses_from(").nth(1).expect("its reading");
+    let reading = reading.split("\n}").next().unwrap().split(',');
+    let arms: Vec<_> = reading
+        .filter_map(|arm| arm.split_once(" => Misses::"))
+        .collect();
+    assert_eq!(arms.len(), written.len());
+    for (number, case) in arms {
+        let number = words(number).rsplit(' ').next().unwrap().to_string();
+        let written = written[&capitals(case)].to_string();
+        // What stands for no case is read as the first, which therefore needs no arm of its own.
+        assert!(
+            number == written || (number, written.as_str()) == ("_".to_string(), "0"),
+            "{case}"
+        );
+    }
+    written
 }
 
 /// What the crates declare.
 fn declared_by_the_crates() -> (Structs, Functions, Numbers) {
-    let crates = ["kospelna", "kospelna_c", "kospelna_summary", "kospelna_summary_c"];
+    let crates = [
+        "kospelna",
+        "kospelna_c",
+        "kospelna_summary",
+        "kospelna_summary_c",
+    ];
     let folders = crates.map(|name| format!("../../crates/{name}/src"));
     let text = folders.map(|folder| text(&folder, "rt")).concat();
     let functions = functions(&text, "pub extern \"C\" fn ");
-    (structs(&text), functions, misses_of_the_crates(&text))
+    let receiver = self::text("../../crates/receiver/src", "rt");
+    (
+        structs(&text),
+        functions,
+        misses_of_the_crates(&receiver, &text),
+    )
 }
 
 #[test]
