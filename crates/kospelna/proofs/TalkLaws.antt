@@ -6,12 +6,13 @@ use mathlib.Core.Path.{◌≡◌, refl}
 use native.Mathlib.Omega.{arith}
 use Rattle.frame.specs.Choice.{pick}
 use Rattle.frame.proofs.Choice.{pick_elim}
-use Rattle.frame.specs.Result.{Result}
+use Rattle.frame.specs.Result as answers
+use Rattle.frame.specs.Result.{Result, accepted}
 use Rattle.kospelna.specs.Refusals.{Numbered}
 use Rattle.kospelna.proofs.Refusals.{result_back, result_made, number_again, value_again}
-use Rattle.version.specs.List.{list_of}
+use Rattle.version.specs.List.{list_of, listed_of}
 use Rattle.version.specs.Message.{verdict_byte, read_of}
-use Rattle.version.specs.Talk.{make_of}
+use Rattle.version.specs.Talk.{make_of, made_of}
 use Rattle.version.specs.Told.{Told, Outcome, quiet, refused, agreed, failed, left}
 use Rattle.version.specs.declared.Message.{Message}
 use Rattle.version.specs.declared.Side.{Side}
@@ -22,7 +23,7 @@ use Rattle.version.specs.declared.Talker.{Talker}
 use Rattle.version.specs.declared.Verdict.{Verdict}
 use Rattle.version.specs.declared.Verdict.TheVariants.{Continue, Success, Failure}
 use Rattle.version.specs.declared.Versions.{Versions}
-use Rattle.kospelna.specs.Talk.{side_number, side_in, state_number, state_in, verdict_in, versions_in, versions_out, no_versions, listing_out, listing_in, ListingMade, message_in, message_out, MessageMade, bytes_in, bytes_out, no_bytes, message_bytes, writing_out, writing_in, WritingMade, no_message, reading_out, reading_in, ReadingMade, talker_in, talker_out, TalkerMade, no_talker, making_out, making_in, MakingMade, outcome_number, outcome_refusal, outcome_version, outcome_in, OutcomeMade, made_quiet, made_refused, made_failed, made_agreed, made_left, answer_out, answer_in, AnswerMade, TalkWhole}
+use Rattle.kospelna.specs.Talk.{side_number, side_in, state_number, state_in, verdict_in, versions_in, versions_out, no_versions, listing_out, listing_in, ListingMade, message_in, message_out, MessageMade, bytes_in, bytes_out, no_bytes, message_bytes, writing_out, writing_in, WritingMade, no_message, reading_out, reading_in, ReadingMade, talker_in, talker_out, TalkerMade, no_talker, making_out, making_in, MakingMade, outcome_number, outcome_refusal, outcome_version, outcome_in, OutcomeMade, made_quiet, made_refused, made_failed, made_agreed, made_left, answer_out, answer_in, AnswerMade, TalkWhole, BesideRefusals}
 use Rattle.kospelna.specs.declared.talk.FlatVersions.{FlatVersions}
 use Rattle.kospelna.specs.declared.talk.FlatVersionListing.{FlatVersionListing}
 use Rattle.kospelna.specs.declared.talk.FlatVersionMessage.{FlatVersionMessage}
@@ -245,3 +246,15 @@ talk_whole =
       makes = λ side v control. making_read (make_of side v control) (make_numbered side v control);
       answers = answer_read;
     }
+
+-- what stands beside a refusal
+listed_beside : (r : Result Versions) → (listing_out r).versions ≡ versions_out (listed_of r).versions
+listed_beside (accepted v) = refl
+listed_beside (answers.refused number) = refl
+
+made_beside : (r : Result Talker) → (making_out r).talker ≡ talker_out (made_of r).talker
+made_beside (accepted t) = refl
+made_beside (answers.refused number) = refl
+
+pub beside_refusals : BesideRefusals
+beside_refusals = record { listed = listed_beside; made = made_beside }

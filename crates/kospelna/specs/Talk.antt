@@ -5,9 +5,9 @@ use Rattle.frame.specs.Choice.{pick}
 use Rattle.frame.specs.Result as result
 use Rattle.frame.specs.Result.{Result, accepted, refusal_of}
 use Rattle.kospelna.specs.Refusals.{value_of, result_from, Made}
-use Rattle.version.specs.List.{list_of}
+use Rattle.version.specs.List.{list_of, listed_of}
 use Rattle.version.specs.Message.{verdict_byte, write_of, read_of}
-use Rattle.version.specs.Talk.{make_of}
+use Rattle.version.specs.Talk.{make_of, made_of}
 use Rattle.version.specs.Told.{Told, Outcome, quiet, refused, agreed, failed, left}
 use Rattle.version.specs.declared.Message.{Message}
 use Rattle.version.specs.declared.Side.{Side}
@@ -252,3 +252,9 @@ pub record TalkWhole : Type 0 where
   pub makes : (side : Side) (v : Versions) (control : ℕ)
       → making_in (making_out (make_of side v control)) ≡ make_of side v control
   pub answers : (a : Told) → answer_in (answer_out a) ≡ a
+
+-- Theorem: what stands beside a refusal's number is the list and the talker that version has there, those of no versions; 001
+-- has none to put there.
+pub record BesideRefusals : Type 0 where
+  pub listed : (r : Result Versions) → (listing_out r).versions ≡ versions_out (listed_of r).versions
+  pub made : (r : Result Talker) → (making_out r).talker ≡ talker_out (made_of r).talker

@@ -1,5 +1,4 @@
 // The lines: of a frame, and of each report.
-ghost use Rattle.frame.specs.Cause.{cause_of};
 ghost use Rattle.frame.specs.Frames.{frame_or_blank};
 ghost use Rattle.receiver.specs.Told as receiver-told;
 ghost use Rattle.sender.specs.Told as sender-told;
@@ -7,7 +6,6 @@ ghost use Rattle.std.specs.Prelude.{is_some};
 ghost use Rattle.text.specs.Puts.{Puts};
 ghost use Rattle.text.specs.Text.{
   head_of,
-  spaced,
   frame_line,
   emitted_text,
   sent_line,
@@ -21,7 +19,7 @@ ghost use Rattle.text.specs.Text.{
 };
 
 use crate::page::Page;
-use frame::{Cause, Frame};
+use frame::Frame;
 
 const NEWLINE: u8 = b'\n';
 
@@ -40,13 +38,6 @@ impl Page<'_> {
         self.put_byte(letter);
     }
 
-    // A cause of failure, by its number.
-    fn put_cause(&mut self, cause: Cause)
-        ensures { Puts self.old self.new (spaced (cause_of cause)) }
-    {
-        self.put_spaced(u16::from(u8::from(cause)));
-    }
-
     // The kind is printed by its number.
     fn frame_line(&mut self, number: u16, letter: u8, f: Frame)
         ensures { Puts self.old self.new (frame_line number letter f) }
@@ -57,7 +48,7 @@ impl Page<'_> {
         self.put_byte(NEWLINE);
     }
 
-    // Each line is written out: its word and its numbers are all that it has.
+    // Each line is written out: its word and its numbers are all that it has. A failure's cause is any number, as the promise says.
     fn sent_line(&mut self, number: u16, ticks: u16, frames: u16)
         ensures { Puts self.old self.new (sent_line number ticks frames) }
     {
@@ -68,12 +59,12 @@ impl Page<'_> {
         self.put_byte(NEWLINE);
     }
 
-    fn failed_line(&mut self, number: u16, cause: Cause, ticks: u16, frames: u16)
-        ensures { Puts self.old self.new (failed_line number (cause_of cause) ticks frames) }
+    fn failed_line(&mut self, number: u16, cause: u8, ticks: u16, frames: u16)
+        ensures { Puts self.old self.new (failed_line number cause ticks frames) }
     {
         self.put_head(number, SENDER);
         self.put_text(b" failed");
-        self.put_cause(cause);
+        self.put_spaced(cause as u16);
         self.put_spaced(ticks);
         self.put_spaced(frames);
         self.put_byte(NEWLINE);
@@ -89,12 +80,12 @@ impl Page<'_> {
     }
 
     // The receiver's failure.
-    fn closed_line(&mut self, number: u16, cause: Cause)
-        ensures { Puts self.old self.new (closed_line number (cause_of cause)) }
+    fn closed_line(&mut self, number: u16, cause: u8)
+        ensures { Puts self.old self.new (closed_line number cause) }
     {
         self.put_head(number, RECEIVER);
         self.put_text(b" failed");
-        self.put_cause(cause);
+        self.put_spaced(cause as u16);
         self.put_byte(NEWLINE);
     }
 
@@ -138,7 +129,7 @@ impl Page<'_> {
                 cause,
                 ticks,
                 frames,
-            } => self.failed_line(number, cause, ticks, frames),
+            } => self.failed_line(number, cause.into(), ticks, frames),
         }
     }
 
@@ -151,7 +142,7 @@ impl Page<'_> {
             receiver::Outcome::Quiet => {}
             receiver::Outcome::Refused(_) => {}
             receiver::Outcome::Delivered(length) => self.delivered_line(number, length),
-            receiver::Outcome::Failed(cause) => self.closed_line(number, cause),
+            receiver::Outcome::Failed(cause) => self.closed_line(number, cause.into()),
             receiver::Outcome::Short(bytes) => self.short_line(number, bytes),
         }
     }

@@ -11,17 +11,18 @@ use Rattle.frame.specs.Result as results
 use Rattle.frame.specs.Result.{Result, accepted, number_of, refusal_of, told_result}
 use Rattle.std.specs.Prelude.{Ok, Err}
 use Rattle.version.specs.Calls.{Call, connect, tick, hear, stop, greet, functions_heard, answer_of}
-use Rattle.version.specs.List.{versions_in, placed, is_list, list_of}
+use Rattle.version.specs.List.{versions_in, placed, is_list, list_of, Accepted, Refused, listed_of}
 use Rattle.version.specs.Message.{read_of}
 use Rattle.version.specs.Refusals.{Unchanged, Alone, RefusalsChangeNothing}
 use Rattle.version.specs.Table.{Trigger, Entry, nothing, opens, repeats, resumes, settles_below2, settles, fails, accepts, stays, lowers, leaves, cell_of}
-use Rattle.version.specs.Talk.{make_of, doing, triggered, connect_of, stop_of, greet_of, functions_state, functions_heard_of, hear_judged, hear_of, limit_is_due, period_is_due, tick_talking, tick_settled, tick_state, tick_of}
+use Rattle.version.specs.Talk.{fresh, make_of, made_of, doing, triggered, connect_of, stop_of, greet_of, functions_state, functions_heard_of, hear_judged, hear_of, limit_is_due, period_is_due, tick_talking, tick_settled, tick_state, tick_of}
 use Rattle.version.specs.Told.{Told, quiet, refusing, refused, agreed, failed, left}
 use Rattle.version.specs.declared.Message.{Message}
 use Rattle.version.specs.declared.Side.TheVariants.{Charger}
 use Rattle.version.specs.declared.State.{State}
 use Rattle.version.specs.declared.State.TheVariants.{S0, S1, S2, S3, S4, S5}
 use Rattle.version.specs.declared.Talker.{Talker}
+use Rattle.version.specs.declared.Versions.{Versions}
 
 -- an answer that is no refusal
 abbrev Taken : Told → Type 0
@@ -105,13 +106,28 @@ alone : {A : Type 0} (judged : Result A) → Alone judged
 alone judged number (Ok a) r e = absurd (none_taken a number (e ∙ r))
 alone judged number (Err refusal) r e = (refusal, refl, ap refusal_of (e ∙ r))
 
+no_number : (number : ℕ) → Accepted ≡ Refused number → ⊥
+no_number number e = let z : ◌≡◌ {A = ℕ} 0 1 = cc in omega arith
+
+made : (r : Result Talker) (number : ℕ) → (made_of r).outcome ≡ Refused number
+    → (made_of r).talker ≡ fresh Charger (placed []) 0
+made (accepted t) number e = absurd (no_number number e)
+made (results.refused n) number e = refl
+
+listed : (r : Result Versions) (number : ℕ) → (listed_of r).outcome ≡ Refused number
+    → (listed_of r).versions ≡ placed []
+listed (accepted v) number e = absurd (no_number number e)
+listed (results.refused n) number e = refl
+
 pub refusals_change_nothing : RefusalsChangeNothing
 refusals_change_nothing =
     record {
       call = calls;
-      make = λ side v control. alone (make_of side v control);
-      list = λ bytes. alone (list_of bytes);
-      read = λ bytes. alone (read_of bytes);
+      make = λ side v control. made (make_of side v control);
+      list = λ bytes. listed (list_of bytes);
+      make_alone = λ side v control. alone (make_of side v control);
+      list_alone = λ bytes. alone (list_of bytes);
+      read_alone = λ bytes. alone (read_of bytes);
     }
 
 -- Each of them is refused somewhere: a message of CAN type 1, and no versions.

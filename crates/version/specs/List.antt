@@ -69,6 +69,19 @@ list_from bytes versions = pick (is_lent bytes versions) (accepted (placed versi
 unfoldable pub list_of : List ℕ → Result Versions
 list_of bytes = list_from bytes (versions_in bytes)
 
+-- the same, with a list beside a refusal too, as C has it: where it is refused, the list of no versions
+pub data ListOutcome : Type 0 where
+  Accepted : ListOutcome
+  Refused : ℕ → ListOutcome
+
+pub record Listed : Type 0 where
+  pub versions : Versions
+  pub outcome : ListOutcome
+
+abbrev pub listed_of : Result Versions → Listed
+listed_of (accepted v) = record { versions = v; outcome = Accepted }
+listed_of (refused number) = record { versions = placed []; outcome = Refused number }
+
 -- the version at a place of the list
 abbrev pub at : Versions → ℕ → ℕ
 at v place = get_or v.numbers place 0

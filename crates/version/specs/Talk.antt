@@ -1,10 +1,10 @@
 -- The calls of a talker: which trigger a call is, and what the table's entry does.
-use Rattle.std.specs.Prelude.{ℕ, Bool, true, false, List, eqb, leb, ltb, Some, None}
+use Rattle.std.specs.Prelude.{ℕ, Bool, true, false, List, [], eqb, leb, ltb, Some, None}
 use Rattle.std.specs.declared.option.Option.{Option}
 use Rattle.frame.specs.Choice.{pick}
 use Rattle.frame.specs.Count.{increment_of}
 use Rattle.frame.specs.Result.{Result, accepted, refused}
-use Rattle.version.specs.List.{version_of, is_list, highest, find, find_below}
+use Rattle.version.specs.List.{version_of, placed, is_list, ListOutcome, Accepted, Refused, highest, find, find_below}
 use Rattle.version.specs.Message.{read_of}
 use Rattle.version.specs.Table.{Trigger, connected, period_due, success_other, success_below2, success2, failure_heard, continue_same, continue_lower, continue_higher, continue_none, greeted, stopped, limit_due, Entry, nothing, opens, repeats, resumes, settles_below2, settles, fails, accepts, stays, lowers, leaves, cell_of}
 use Rattle.version.specs.Told.{Told, quiet, agreed, failed, left, silently, refusing, saying, moved, unsaid, own_version}
@@ -37,6 +37,16 @@ fresh side versions control =
 -- Refusals, by place, version list: a talker is made of a list and of nothing else, as it is given
 unfoldable pub make_of : Side → Versions → ℕ → Result Talker
 make_of side versions control = pick (is_list versions) (accepted (fresh side versions control)) (refused 11)
+
+-- the same, with a talker beside a refusal too, as C has it: where it is refused, a charger with no versions and control-pilot
+-- byte 0
+pub record Made : Type 0 where
+  pub talker : Talker
+  pub outcome : ListOutcome
+
+abbrev pub made_of : Result Talker → Made
+made_of (accepted t) = record { talker = t; outcome = Accepted }
+made_of (refused number) = record { talker = fresh Charger (placed []) 0; outcome = Refused number }
 
 -- a place that was found, else the place where Ns is
 abbrev pub place_or : Option ℕ → ℕ → ℕ
