@@ -6,8 +6,8 @@ use mathlib.Core.Bool.{Bool, true, false, ◌&&◌, ◌||◌, and-eq-true_iff}
 use mathlib.Core.List.{List, [], ◌∷◌}
 use native.Mathlib.Nat.{le_of_suc-le-suc, not-suc-le-zero}
 use native.Mathlib.Omega.{arith}
-use borrow.Author.Tests.{le-leb, lt-leb, leb-true, ne_eqb, eqb-true}
-use lib.Dec.{eqb}
+use borrow.Author.Tests.{le-leb, lt-leb, leb-true, ne_eqb, eqb-true, eqb-false}
+use lib.Dec.{eqb, leb}
 use lib.ListN.{length, get_or, take, drop, drop_of_length-le}
 use lib.Seq.{drop-drop}
 use Rattle.std.specs.Array.{IsFromFnResult, IsFromFnResultFrom}
@@ -65,7 +65,6 @@ fill zero s = refl
 fill (suc n) [] = ap (λ (l : List ℕ). 255 ∷ l) (fill_empty n 1)
 fill (suc n) (b ∷ s) = ap (λ (l : List ℕ). b ∷ l) (fill n s ∙ sym (bytes_from_tail n 0 b s))
 
--- As many bytes as are asked for stay as they are.
 -- Bytes that are what is given at each place, filler past its end, are what is given, filled.
 pub filled_each : (n : ℕ) (s t : List ℕ) → length t ≡ n → ((i : ℕ) → i < n → get_or t i 0 ≡ get_or s i 255) → t ≡ fill_to n s
 unfolding fill_to
@@ -104,6 +103,7 @@ pub made_each : {F : Type 0} {g : Mut F (ℕ × Unit {0}) ℕ} {f : F} {t : List
     → (k : ℕ) → k < n → get_or t k 0 ≡ h k
 made_each {g = g} {f = f} {t = t} {n = n} h made one k within = made_from g f h t one n 0 k k f refl (omega arith) within made.each
 
+-- As many bytes as are asked for stay as they are.
 pub fill_whole : (n : ℕ) (s : List ℕ) → length s ≡ n → fill_to n s ≡ s
 unfolding fill_to
 fill_whole zero [] h = refl

@@ -63,7 +63,8 @@ pub fn announcement(frames: u8, length: u16) -> Frame
     naming(1, &[0, frames, low, high])
 }
 
-// A frame from number 1 on, with the first seven bytes of a part of the message; by name, since one array is put behind a byte.
+// A frame from number 1 on, with the first seven bytes of a part of the message. The seven are named one by one: an array is not put
+// behind a byte.
 #[tactic(auto, unfolding(crate::specs::Frames::information_of))]
 pub fn information(number: u8, part: &[u8]) -> Frame
     ensures { result ≡ information_of number part.now }
@@ -83,7 +84,8 @@ pub fn lm_ack(start: u8, count: u8) -> Frame
     naming(2, &[start, count])
 }
 
-// Of any byte, not of a `Cause` alone: so its promise says, and C's frames have any.
+// Of any byte, not of a `Cause` alone: so its promise says, and C's frames have any. (Like `sm_ack` a line, of another kind; so are
+// `sm_rm` and `sm_urm`, `announcement` and `end_of_ack`: each is a kind's layout.)
 #[tactic(auto, unfolding(crate::specs::Frames::fill_to, crate::specs::Frames::lm_nack_of))]
 pub fn lm_nack(cause: u8) -> Frame
     ensures { result ≡ lm_nack_of cause }

@@ -4,7 +4,7 @@ ghost use Rattle.frame.specs.Count.{frame_count_of, increment_of, word_of, withi
 ghost use Rattle.frame.specs.Frames.{carried};
 
 // How many frames of seven bytes hold a message of this length. It is found by arithmetic alone (document 02, E7): 74899 / 2^19
-// is a little more than a seventh, and so little that every 16-bit length gets its number.
+// is a little more than a seventh, and so little that every 16-bit length gets its number. (Casts: `from` would be a call in it.)
 #[tactic(auto, using(crate::proofs::Laws::frame_count_bounds))]
 pub fn frame_count(length: u16) -> u16
     ensures { result ≡ frame_count_of length }

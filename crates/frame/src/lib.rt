@@ -10,8 +10,8 @@ mod refusal;
 pub use crate::cause::Cause;
 pub use crate::refusal::Refusal;
 
-// What stands in a byte that a kind does not name.
-const FILLER: u8 = 0xFF;
+// What stands in a byte that a kind does not name, and in a group's lent bytes after its own length.
+pub const FILLER: u8 = 0xFF;
 
 // The length of the longest message. A frame is read for it where no message is awaited: no frame has anything behind it.
 pub const LONGEST: u16 = 1785;

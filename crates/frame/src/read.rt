@@ -40,15 +40,12 @@ fn has_part(f: Frame) -> bool
 fn used(f: Frame, length: u16) -> usize
     ensures { result ≡ used_of f length }
 {
-    let kind = f.kind;
     let number = f.bytes[0];
-    if kind != 1 {
-        return named(kind, number);
+    if has_part(f) {
+        1 + carried(number, length)
+    } else {
+        named(f.kind, number)
     }
-    if number == 0 {
-        return named(kind, number);
-    }
-    1 + carried(number, length)
 }
 
 // What a frame is, if its kind is one of the seven and its filler is as it must be. The filler of an information frame from
