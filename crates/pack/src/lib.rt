@@ -43,12 +43,13 @@ pub struct Bodies {
     pub events: u16,
 }
 
-// How long count and table are, and the settings; where the message starts.
+// How long count and table are, and the settings.
 const TABLE: usize = 13;
 
 const SETTINGS: usize = 10;
 
-const MESSAGE: usize = 23;
+// The place in a pack where its message starts: behind count, table and settings.
+pub const MESSAGE: usize = 23;
 
 // The byte at a place, 0 past the end. (The groups have the like; it is one line.)
 fn byte_at(pack: &[u8], place: usize) -> u8
@@ -66,8 +67,8 @@ fn word_at(pack: &[u8], place: usize) -> u16
     word(low, high)
 }
 
-// Three places and three lengths, as the definition tests them.
-// A count of 3, and three bodies without gaps from the table to the end of at most 65535 bytes.
+// A count of 3, and three bodies without gaps from the table to the end of at most 65535 bytes. (Three places and three
+// lengths, as the definition tests them.)
 #[tactic(auto, unfolding(crate::specs::Pack::laid_out))]
 fn laid_out(pack: &[u8]) -> bool
     ensures { result ≡ laid_out pack.now }

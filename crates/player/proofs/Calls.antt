@@ -7,8 +7,8 @@ use mathlib.Core.List.{List, []}
 use native.Mathlib.Numerals.{add-one}
 use native.Mathlib.Omega.{arith}
 use borrow.Author.Tests.{ne_eqb}
-use lib.ListN.{length, get_or, take, drop, length-take, length-drop, drop_of_length-le}
-use lib.Seq.{drop-cons, drop-drop, take_all, take-nil}
+use lib.ListN.{length, get_or, take, drop, drop_of_length-le}
+use lib.Seq.{drop-cons, drop-drop}
 use Rattle.std.specs.Array.{IsWholeChunk}
 use Rattle.frame.proofs.Choice.{pick_true, pick_false}
 use Rattle.frame.specs.Result.{Result, accepted, refused, number_of}
@@ -35,20 +35,6 @@ use Rattle.transport.specs.World.{World, begin}
 use Rattle.transport.specs.declared.Answer.{Answer}
 use Rattle.transport.specs.declared.Ends.{Ends}
 
--- ---- a part of a pack
-
-pub part_none : (s : List ℕ) (from most : ℕ) → length s ≤ from → [] ≡ take most (drop from s)
-part_none s from most h = rw (drop_of_length-le s h) (sym (take-nil most))
-
-pub part_rest : (s : List ℕ) (from most : ℕ) → length s ≤ from + most → take (length s - from) (drop from s) ≡ take most (drop from s)
-part_rest s from most h =
-    take_all (length s - from) (drop from s) (rw length-drop (omega arith)) ∙ sym (take_all most (drop from s) (rw length-drop (omega arith)))
-
-pub part_most : (s : List ℕ) (from most : ℕ) → take (from + most - from) (drop from s) ≡ take most (drop from s)
-part_most s from most = let same : from + most - from ≡ most = omega arith in ap (λ (n : ℕ). take n (drop from s)) same
-
-pub ruleset parts = (part_none, part_rest, part_most)
-
 -- ---- one event after the other
 
 -- the next event, and those behind it
@@ -63,13 +49,16 @@ plays_next w m events i number p x h e =
     rw (e, drop-cons events i 0 h)
     (ap (turned (world_after t.world m (drop (suc i) events))) (put_append p (event_text number t.event) (text_of (suc number) rest)))
 
-pub plays_one : (w v : World) (m events : List ℕ) (i number : ℕ) (p q : Page) (y : Turned)
+-- with so many played before the first event, and so many behind it
+pub plays_one : (w v : World) (m events : List ℕ) (i played : ℕ) (p q : Page) (y : Turned)
     → i < length events
-    → turned v q ≡ turn_of w m (get_or events i 0) (number + 1) p
-    → playing w m (drop i events) (suc number) p ≡ y
-    → playing v m (drop (i + 1) events) (suc (number + 1)) q ≡ y
-plays_one w v m events i number p q y h e before =
-    rw (add-one i, add-one number) (plays_next w m events i (suc number) p (turned v q) h (simp add-one at e)) ∙ before
+    → turned v q ≡ turn_of w m (get_or events i 0) (played + 1 + i) p
+    → playing w m (drop i events) (suc (played + i)) p ≡ y
+    → playing v m (drop (i + 1) events) (suc (played + (i + 1))) q ≡ y
+plays_one w v m events i played p q y h e before =
+    let this : played + 1 + i ≡ suc (played + i) = omega arith in
+    let next : suc (played + (i + 1)) ≡ suc (suc (played + i)) = omega arith in
+    rw (next, add-one i) (plays_next w m events i (suc (played + i)) p (turned v q) h (rw this at e)) ∙ before
 
 -- none are left
 pub plays_none : (w : World) (m events : List ℕ) (i number : ℕ) (p : Page) {y : Turned} → length events ≤ i
@@ -112,14 +101,14 @@ module _ (bytes : List ℕ) (b : Bodies) where
   no_ends number e = ap (opened_with (message_of bytes b) b) e
 
   pub with_ends : (ends : Ends) (m : List ℕ) (x : Result Player) → accepted ends ≡ made_for b
-      → m ≡ take b.message (drop 23 bytes)
+      → m ≡ message_of bytes b
       → x ≡ opened_with m b (accepted ends)
       → x ≡ opened_bodies bytes (accepted b)
-  unfolding opened_bodies message_of
+  unfolding opened_bodies
   with_ends ends m x e part h =
       h
       ∙ ap (λ (l : List ℕ). opened_with l b (accepted ends)) part
-      ∙ ap (opened_with (take b.message (drop 23 bytes)) b) e
+      ∙ ap (opened_with (message_of bytes b) b) e
 
 -- what reading the pack starts
 module _ (bytes : List ℕ) where
@@ -133,21 +122,6 @@ module _ (bytes : List ℕ) where
 
 -- ---- beginning and playing
 
--- a part is no longer than was asked for
-part_length : (events s : List ℕ) (from most : ℕ) → events ≡ take most (drop from s) → length events ≤ most
-part_length events s from most e = rw (e, length-take) (omega arith)
-
-pub numbers_fit : (events s : List ℕ) (from most played : ℕ) → events ≡ take most (drop from s) → played + most ≤ 65535
-    → played + length events ≤ 65535
-numbers_fit events s from most played e few = let h = part_length events s from most e in omega arith
-
-pub count_fits : (events s : List ℕ) (from most : ℕ) → events ≡ take most (drop from s) → most ≤ 128 → length events < 65536
-count_fits events s from most e few = let h = part_length events s from most e in omega arith
-
-pub number_fits : (events s : List ℕ) (from most played : ℕ) → events ≡ take most (drop from s) → played + most ≤ 65535
-    → played + length events < 65536
-number_fits events s from most played e few = let h = part_length events s from most e in omega arith
-
 -- what a call answers, of its step
 abbrev After : Progress → Ends → ℕ → Bodies → ℕ → Type 0
 After x ends at b played = (x.player.ends ≡ ends) × (x.player.bodies ≡ b) × (x.player.played ≡ played) × (x.written ≡ at)
@@ -160,7 +134,7 @@ after_step x ends at played b forward back buffer out a = rw (a.0, a.1, a.2, a.3
 pub begin_there : (bytes m forward line line' out out' : List ℕ) (q : Player) (x : Progress) (ends : Ends) (at : ℕ)
     → IsWholeChunk forward line 576
     → length out ≡ 16384
-    → m ≡ take q.bodies.message (drop 23 bytes)
+    → m ≡ message_of bytes q.bodies
     → ((back buffer : List ℕ)
     → turned (world_of ends line' back buffer) (page out' at)
     ≡ printed (capped_step (world_of q.ends line back buffer) (begin m)) 0 (page out 0))
@@ -168,7 +142,7 @@ pub begin_there : (bytes m forward line line' out out' : List ℕ) (q : Player) 
     → (back buffer : List ℕ)
     → progressed (turned (world_of x.player.ends line' back buffer) (page out' x.written)) x.player.bodies x.player.played
     ≡ calls.begin_of bytes q forward back buffer out
-unfolding calls.begin_of message_of
+unfolding calls.begin_of
 begin_there bytes m forward line line' out out' q x ends at whole full part step a back buffer =
     after_step x ends at q.played q.bodies line' back buffer out' a
     ∙ ap (λ (y : Turned). progressed y q.bodies q.played)
@@ -209,7 +183,7 @@ pub play_there : (bytes m events forward line line' back far far' buffer buffer'
     → IsWholeChunk forward line 576
     → IsWholeChunk back far 576
     → length out ≡ 16384
-    → m ≡ take q.bodies.message (drop 23 bytes)
+    → m ≡ message_of bytes q.bodies
     → from ≡ 23 + q.bodies.message + q.played
     → most ≡ min 128 (65535 - q.played)
     → events ≡ take most (drop from bytes)
@@ -218,14 +192,14 @@ pub play_there : (bytes m events forward line line' back far far' buffer buffer'
     → After x ends at q.bodies (q.played + length events)
     → progressed (turned (world_of x.player.ends line' far' buffer') (page out' x.written)) x.player.bodies x.player.played
     ≡ play_of bytes q forward back buffer out
-unfolding play_of message_of
+unfolding play_of
 play_there bytes m events forward line line' back far far' buffer buffer' out out' q x ends at from most whole whole' full part f n es step a =
     let w = world_of q.ends forward back buffer in
     after_step x ends at (q.played + length events) q.bodies line' far' buffer' out' a
     ∙ pick_true _ (rw (whole.long, whole'.long, full) refl)
     (ap (λ (y : Turned). progressed y q.bodies (q.played + length events)) (rw (whole.same, whole'.same) at step)
     ∙ ap (λ (l : List ℕ). progressed (playing w l events (suc q.played) (page out 0)) q.bodies (q.played + length events)) part
-    ∙ ap (λ (l : List ℕ). progressed (playing w (take q.bodies.message (drop 23 bytes)) l (suc q.played) (page out 0)) q.bodies (q.played + length l)) (next_are bytes events q from most f n es))
+    ∙ ap (λ (l : List ℕ). progressed (playing w (message_of bytes q.bodies) l (suc q.played) (page out 0)) q.bodies (q.played + length l)) (next_are bytes events q from most f n es))
 
 -- lent a line or a page of another length
 module _ (bytes forward back buffer out : List ℕ) (q : Player) (x : Progress) (a : Unchanged x q) where

@@ -30,6 +30,7 @@ use Rattle.transport.specs.Step.{step_of}
 use Rattle.transport.specs.World.{World, Call, begin}
 use Rattle.transport.specs.declared.Ends.{Ends}
 
+-- so many zeros; `length-replicate` itself has to be given its type at each numeral below
 length_zeros : (n : ℕ) → length (replicate {A = ℕ} n 0) ≡ n
 length_zeros n = length-replicate {A = ℕ} n 0
 

@@ -2,10 +2,10 @@
 ghost use Rattle.std.specs.Prelude.{◌≡◌, List, ℕ, ◌+◌, ◌≤◌, ◌-◌, min};
 ghost use Rattle.player.specs.Calls.{told_progress, begin_of, play_of, is_finished};
 
-use crate::parts::part;
+use crate::parts::{message_in, part};
 use crate::turn::{Session, lines};
 use crate::{Player, Progress};
-use pack::Bodies;
+use pack::{Bodies, MESSAGE};
 use text::SENDER;
 use transport::Ends;
 
@@ -24,9 +24,9 @@ fn most(played: u16) -> usize
 
 // Where the next event stands in the pack.
 fn next_event(bodies: Bodies, played: u16) -> usize
-    ensures { (result ≤ 200000) × (result ≡ 23 + bodies.message + played) }
+    ensures { result ≡ 23 + bodies.message + played }
 {
-    23 + bodies.message as usize + played as usize
+    MESSAGE + usize::from(bodies.message) + usize::from(played)
 }
 
 impl Player {
@@ -69,7 +69,7 @@ impl Player {
         if out.len() != PAGE {
             return self.unchanged();
         }
-        let message = part(pack, 23, self.bodies.message as usize);
+        let message = message_in(pack, self.bodies);
         let a = self.ends.begin(message, forward);
         let at = lines(a.said, SENDER, 0, out, 0);
         self.after(a.next, at, self.played)
@@ -99,7 +99,7 @@ impl Player {
             return self.unchanged();
         }
         let played = self.played;
-        let message = part(pack, 23, self.bodies.message as usize);
+        let message = message_in(pack, self.bodies);
         let events = part(pack, next_event(self.bodies, played), most(played));
         let mut session = Session {
             ends: self.ends,

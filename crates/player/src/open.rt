@@ -6,7 +6,7 @@ ghost use Rattle.player.specs.Played.{unless_refused, opened_with, opened_bodies
 ghost use Rattle.sender.specs.Told as sender-told;
 
 use crate::Player;
-use crate::parts::part;
+use crate::parts::message_in;
 use frame::Refusal;
 use pack::Bodies;
 use transport::Ends;
@@ -40,14 +40,14 @@ fn open_bodies(pack: &[u8], bodies: Bodies) -> Result<Player, Refusal>
 {
     let settings = bodies.settings;
     let ends = Ends::make(
-        settings.gap as u16,
+        u16::from(settings.gap),
         settings.timeout,
         settings.limit,
         settings.patience,
-        settings.window as u16,
+        u16::from(settings.window),
         settings.capacity,
     )?;
-    let message = part(pack, 23, bodies.message as usize);
+    let message = message_in(pack, bodies);
     try_begin(message, bodies, ends)
 }
 

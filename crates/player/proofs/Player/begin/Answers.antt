@@ -16,5 +16,5 @@ returns-then-out-ne-PAGE c =
 pub returns : goal.returns
 returns c =
     let line = c.in-Some.ensures.cases in
-    begin_there _ _ _ _ _ _ _ _ _ _ _ line c.if-out-ne-PAGE.false c.part-message.ensures
+    begin_there _ _ _ _ _ _ _ _ _ _ _ line c.if-out-ne-PAGE.false c.message_in-message.ensures
     (begin_shown c.begin-a.result _ _ _ _ _ _ (search rules) c.begin-a.ensures c.lines-at.ensures) c.after.ensures

@@ -21,6 +21,6 @@ returns-then-out-ne-PAGE c =
 
 pub returns : goal.returns
 returns c = play_there _ _ _ _ _ _ _ _ _ _ _ _ _ _ _ _ _ _ _ c.in-Some.ensures.cases c.in-Some-as_mut_array.ensures.cases
-    c.if-out-ne-PAGE.false c.part-message.ensures
-    c.next_event.ensures.1 c.most.ensures.2 c.part-events.ensures
+    c.if-out-ne-PAGE.false c.message_in-message.ensures
+    c.next_event.ensures c.most.ensures.2 c.part-events.ensures
     (search rules) c.after.ensures

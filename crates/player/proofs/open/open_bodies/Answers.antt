@@ -5,7 +5,10 @@ use Rattle.player.proofs.open.open_bodies.Goals as goal
 pub returns-in_err-ends : goal.returns-in_err-ends
 returns-in_err-ends c =
     let p = err_from_is_err_and c.from_residual.result c.from_residual.ensures.1 in
-    rw (p.1, p.2) (no_ends _ _ _ c.in_err-ends.ensures)
+    let made = simp (c.from.ensures, c.from-2.ensures) at c.in_err-ends.ensures in
+    rw (p.1, p.2) (no_ends _ _ _ made)
 
 pub returns : goal.returns
-returns c = with_ends _ _ _ _ _ c.in_ok-ends.ensures c.part-message.ensures c.try_begin.ensures
+returns c =
+    let made = simp (c.from.ensures, c.from-2.ensures) at c.in_ok-ends.ensures in
+    with_ends _ _ _ _ _ made c.message_in-message.ensures c.try_begin.ensures

@@ -8,12 +8,11 @@ use Rattle.player.specs.Calls.{playing}
 use Rattle.player.specs.Session.{Keeps, world_in, page_in}
 use Rattle.player.proofs.turn.Session.run.Given as goal
 
-abbrev pub invariant-loop-event : goal.invariant-loop-event
-invariant-loop-event l =
+abbrev pub invariant-loop-before : goal.invariant-loop-before
+invariant-loop-before l =
     record {
-      numbered : l.number ≡ l.played + l.event-index;
       keeps : Keeps l.initial.self l.self;
       leads :
-          playing (world_in l.self) l.self.message.now (drop l.event-index l.events) (suc l.number) (page_in l.self)
-          ≡ playing (world_in l.initial.self) l.initial.self.message.now l.events (suc l.initial.number) (page_in l.initial.self);
+          playing (world_in l.self) l.self.message.now (drop l.before l.events) (suc (l.played + l.before)) (page_in l.self)
+          ≡ playing (world_in l.initial.self) l.initial.self.message.now l.events (suc l.played) (page_in l.initial.self);
     }
