@@ -8,9 +8,10 @@ use native.Mathlib.Omega.{arith}
 use borrow.Author.Tests.{le-leb, eq-eqb}
 use lib.Dec.{leb}
 use lib.ListN.{length}
+use Rattle.frame.proofs.Laws.{word_whole}
 use Rattle.frame.specs.Result.{accepted, refused}
 use Rattle.frame.specs.Choice.{pick}
-use Rattle.frame.specs.Count.{frame_count_of, increment_of, low_byte, high_byte, word_of}
+use Rattle.frame.specs.Count.{frame_count_of, increment_of}
 use Rattle.frame.specs.Frames.{announcement_of, lm_ack_of, lm_nack_of}
 use Rattle.frame.specs.Reading.{named_of, all_filler, read_of}
 use Rattle.receiver.specs.Hear.{hear_of, hear_read, hear_kind, is_held, hear_unless_held, hear_numbered, hear_announcement, announce_idle, opening}
@@ -102,10 +103,6 @@ open_shows r tick (suc ticks) x free =
     (timeout_shows r x tick ticks x.misses (λ counted. open_shows r (suc tick) ticks _ free))
     (open_shows r (suc tick) ticks _ free)
 
--- a word's bytes give the word
-word_back : (l : ℕ) → l ≤ 1785 → word_of (low_byte l) (high_byte l) ≡ l
-word_back l high = omega arith
-
 -- an announcement that fits opens a connection
 opens_idle : (r : Receiver) (frames l : ℕ)
     → 9 ≤ l
@@ -127,7 +124,7 @@ opens : (r : Receiver) (frames l : ℕ) (buffer : List ℕ)
     → (hear_of r (announcement_of frames l) buffer).told ≡ opening r frames l
 unfolding hear_of hear_read hear_kind hear_unless_held hear_numbered hear_announcement read_of named_of all_filler announcement_of pick
 opens r frames l buffer idle low room high fits lent =
-    rw (eq-eqb (length buffer) 1785 lent, ap is_held idle, word_back l high)
+    rw (eq-eqb (length buffer) 1785 lent, ap is_held idle, word_whole l (omega (arith, high)))
     (ap (λ p. hear_announcement r p frames l) idle ∙ opens_idle r frames l low room high fits)
 
 -- the numbers of a run from making on

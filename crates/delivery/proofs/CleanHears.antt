@@ -37,7 +37,7 @@ use Rattle.delivery.proofs.CleanSends.{announced_phase, streamed, awaited_phase,
 use Rattle.delivery.proofs.CleanStages as stages
 use Rattle.delivery.proofs.CleanStages.{listens, Clear, Paced, Filled, Inside, world_at, announcement, end_of_ack, Kept, kept, Repeated, Passed, announced, informed, Answered, Stage, opens, asks, sends, sent, ends, over, After}
 use Rattle.delivery.proofs.Pieces.{next_stored, last_stored}
-use Rattle.delivery.proofs.Stages.{sender_in, frames_of}
+use Rattle.delivery.proofs.Stages.{sender_in, further_none, frames_of}
 use Rattle.delivery.specs.Clean.{Turn, anyone, senders, receivers, reports_of}
 use Rattle.delivery.specs.Seen.{sender_reports, deliveries_by, Begun, since, further, begun_after, other, sort_of}
 use Rattle.transport.specs.Step.{was_refused, Stepped, unheard, by_sender, by_receiver, Rest, gone, still, leaving, given_forward, given_back}
@@ -116,11 +116,6 @@ module _ {st : Settings} {rs : receiver-settings.Settings} {m : List ℕ} (c : C
       → Then (by_sender d w (to_sender f) left a) turn b reports
   unfolding begun_after
   sender_heard w d f left a o s = record { stage = rw o s }
-
-  -- what was seen, and nothing more
-  pub further_none : (b : Begun) → further b 0 0 [] ≡ b
-  further_none Begun.never = refl
-  further_none (since message ticks reports deliveries) = rw (add-zero ticks, add-zero reports)
 
   -- no end is called
   pub stays : {w : World} {turn : Turn} {b : Begun} {reports : List sender.Outcome} (d : Call) → sort_of d ≡ other

@@ -27,8 +27,9 @@ use Rattle.delivery.specs.Seen.{taken, Begun, begun_after, begun_in, listened}
 use Rattle.transport.proofs.Refusals.{announced_taken, informed_taken}
 use Rattle.transport.specs.Step.{was_refused, Stepped, unheard, by_sender, by_receiver, gone, still, with_lines, dropped, given_forward, given_back, step_of}
 use Rattle.transport.specs.World.{World, Call, Event, Given, nobody, to_receiver, to_sender, begin, sender_tick, receiver_tick, hold, resume, hear_forward, repeat_forward, lose_forward, hear_back, repeat_back, lose_back}
-use Rattle.delivery.proofs.CleanHears.{further_none, stays, hear_forward_lem, hear_back_lem}
+use Rattle.delivery.proofs.CleanHears.{stays, hear_forward_lem, hear_back_lem}
 use Rattle.delivery.proofs.CleanTicks.{tick_receiver, tick_lent}
+use Rattle.delivery.proofs.Stages.{further_none}
 
 -- a hearing that is refused
 refused_elim : {rs : receiver-settings.Settings} {f : Frame} {lent : List ℕ} {q : receiver-phase.Phase}
@@ -103,7 +104,7 @@ module _ {st : Settings} {rs : receiver-settings.Settings} {m : List ℕ} (c : C
     refuses_begin : (number : ℕ)
         → Then (by_sender (begin l) w nobody w.back (sender.refusing w.sender number)) turn b reports
     unfolding begun_after
-    refuses_begin number = record { stage = rw (further_none c repeats b, append-nil w.forward) s }
+    refuses_begin number = record { stage = rw (further_none b, append-nil w.forward) s }
 
     begin_refused : taken (begin_of w.sender l).outcome ≡ false
         → Then (by_sender (begin l) w nobody w.back (begin_of w.sender l)) turn b reports
@@ -118,7 +119,7 @@ module _ {st : Settings} {rs : receiver-settings.Settings} {m : List ℕ} (c : C
 
     refuses_tick : Then (by_sender (sender_tick l) w nobody w.back (sender.refusing w.sender 4)) turn b reports
     unfolding begun_after
-    refuses_tick = record { stage = rw (further_none c repeats b, append-nil w.forward) s }
+    refuses_tick = record { stage = rw (further_none b, append-nil w.forward) s }
 
     -- any tick of the sender
     tick_sender : (taken (tick_of w.sender l).outcome ≡ true → LentMessage b l × Empty w)
@@ -135,8 +136,8 @@ module _ {st : Settings} {rs : receiver-settings.Settings} {m : List ℕ} (c : C
       (by_receiver (call_of k) w nobody w.forward (receiver.heard (receiver.refusing w.receiver 13) w.buffer))
       turn b reports
   unfolding begun_after
-  refuses_pause view.hold w {b = b} s = record { stage = rw (further_none c repeats b, append-nil w.back) s }
-  refuses_pause view.resume w {b = b} s = record { stage = rw (further_none c repeats b, append-nil w.back) s }
+  refuses_pause view.hold w {b = b} s = record { stage = rw (further_none b, append-nil w.back) s }
+  refuses_pause view.resume w {b = b} s = record { stage = rw (further_none b, append-nil w.back) s }
 
   pause_refused : (k : view.Pause) (w : World) {turn : Turn} {b : Begun} {reports : List sender.Outcome} → At w turn b reports
       → was_refused (view.pause_of k w.receiver).outcome ≡ true
@@ -168,7 +169,7 @@ module _ {st : Settings} {rs : receiver-settings.Settings} {m : List ℕ} (c : C
   repeat_unheard w l [] e s d = stays c repeats (repeat_forward l) refl s
   repeat_unheard w {turn} {b} {reports} l (f ∷ rest) e s d =
       refused_elim (λ (h : receiver.Heard). Then (by_receiver (repeat_forward l) w (to_receiver f) (f ∷ rest) h) turn b reports)
-      (λ number. record { stage = rw (further_none c repeats b, append-nil w.back, ← e) s })
+      (λ number. record { stage = rw (further_none b, append-nil w.back, ← e) s })
       (hear_does w.receiver f l) d
 
   -- a frame of forward that is repeated, where that is allowed

@@ -12,6 +12,7 @@ use borrow.Author.Tests.{leb-true, leb-false}
 use lib.Dec.{leb}
 use lib.ListN.{length, take, length-append}
 use lib.Seq.{take_all, take-append-le}
+use Rattle.delivery.proofs.Stages.{further_none}
 use Rattle.delivery.proofs.Theorem.{demand_3}
 use Rattle.delivery.specs.Capped.{Losses, none, lost_forward, lost_back, Among, start, follows, CappedRuns, CappedDemand3}
 use Rattle.delivery.specs.Demand3.{Condition, Conditions, Promise}
@@ -241,10 +242,6 @@ steps_alike lose_back s r buffer x nx y ny = by_nobody lose_back s r buffer (lev
 
 -- ---- a loss is no tick, report, delivery or opening
 
-begun_same : (b : Begun) → further b 0 0 [] ≡ b
-begun_same Begun.never = refl
-begun_same (Begun.since m ticks reports ds) = rw (add-zero ticks, add-zero reports) refl
-
 opened_same : (o : Opened) → Seen.later o 0 0 0 ≡ o
 opened_same Opened.never = refl
 opened_same (Opened.since frames ticks reports pauses) = rw (add-zero ticks, add-zero reports, add-zero pauses) refl
@@ -252,8 +249,8 @@ opened_same (Opened.since frames ticks reports pauses) = rw (add-zero ticks, add
 losses_begun : {events later : List Event} → Losses events later → begun_in later ≡ begun_in events
 unfolding begun_in begun_after
 losses_begun none = refl
-losses_begun (lost_forward {later} l) = begun_same (begun_in later) ∙ losses_begun l
-losses_begun (lost_back {later} l) = begun_same (begun_in later) ∙ losses_begun l
+losses_begun (lost_forward {later} l) = further_none (begun_in later) ∙ losses_begun l
+losses_begun (lost_back {later} l) = further_none (begun_in later) ∙ losses_begun l
 
 losses_opened : {events later : List Event} → Losses events later → opened_in later ≡ opened_in events
 unfolding opened_in opened_after pick

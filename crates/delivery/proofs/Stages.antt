@@ -2,7 +2,8 @@
 use Prim.Native.Nat.{ℕ, ◌-◌, ◌*◌, ◌≤◌, ◌<◌}
 use mathlib.Core.Bool.{Bool, true, false}
 use mathlib.Core.List.{List, [], ◌∷◌}
-use mathlib.Core.Path.{◌≡◌}
+use mathlib.Core.Path.{◌≡◌, refl}
+use native.Mathlib.Nat.{add-zero}
 use lib.ListN.{length, take}
 use Rattle.frame.specs.Count.{frame_count_of}
 use Rattle.frame.specs.Frames.{announcement_of, lm_ack_of, lm_nack_of, end_of_ack_of, sm_rm_of, sm_ack_of, fill_to}
@@ -25,10 +26,15 @@ use Rattle.sender.specs.declared.Transfer.{Transfer}
 use Rattle.delivery.proofs.Lines.{Line, Ordered}
 use Rattle.receiver.proofs.View.{Shut}
 use Rattle.delivery.specs.Demand3.{Copies, HadReport}
-use Rattle.delivery.specs.Seen.{Begun, since}
+use Rattle.delivery.specs.Seen.{Begun, since, further}
 
 abbrev pub sender_in : Settings → Phase → Sender
 sender_in st p = record { settings = st; phase = p }
+
+-- what was seen since the begin, and nothing more
+pub further_none : (b : Begun) → further b 0 0 [] ≡ b
+further_none Begun.never = refl
+further_none (since message ticks reports deliveries) = rw (add-zero ticks, add-zero reports) refl
 
 -- ---- the frames of a transfer of m
 

@@ -33,6 +33,17 @@ pub increment_is : (n : ℕ) → n < 65535 → increment_of n ≡ n + 1
 unfolding increment_of
 increment_is n h = omega arith
 
+-- Of a number up to its limit, "at least" is "at"; so of a count's next, also where it is cut, since the limit is below the cut.
+pub up_to : (n limit : ℕ) → n ≤ limit → leb limit n ≡ eqb n limit
+up_to n limit most = go (eqb n limit) refl
+  where
+    go : (b : Bool) → eqb n limit ≡ b → leb limit n ≡ b
+    go true e = le-leb limit n (omega (arith, eqb-true n limit e))
+    go false e = lt-leb limit n (omega (arith, eqb-false n limit e))
+
+pub at_bound : (bound count : ℕ) → bound ≤ 65535 → count < bound → leb bound (increment_of count) ≡ eqb (count + 1) bound
+at_bound bound count top h = rw (increment_is count (omega arith)) (up_to (count + 1) bound (omega arith))
+
 -- A word below 65536 is the word of its two bytes, and the two bytes of a word are those that it was made of.
 pub word_whole : (w : ℕ) → w < 65536 → word_of (low_byte w) (high_byte w) ≡ w
 word_whole w h = omega arith

@@ -3,18 +3,16 @@
 -- sides, with the outcome of its test in hand.
 -- Assumes nothing.
 use Prim.Native.Nat.{ℕ, ◌+◌, ◌-◌, ◌≤◌, ◌<◌}
-use mathlib.Core.Path.{◌≡◌, refl, subst}
+use mathlib.Core.Path.{◌≡◌, subst}
 use mathlib.Core.Bool.{Bool, true, false, false≢true}
 use mathlib.Core.List.{List}
 use native.Mathlib.Omega.{arith}
-use borrow.Author.Tests.{eqb-true, eqb-false, le-leb, lt-leb}
-use lib.Dec.{eqb, leb}
 use Rattle.frame.specs.Result.{Result, accepted}
 use Rattle.frame.specs.Count.{frame_count_of, increment_of}
 use Rattle.frame.specs.Frames.{byte_of, word_at}
 use Rattle.frame.specs.declared.Frame.{Frame}
 use Rattle.frame.proofs.Choice.{pick_elim}
-use Rattle.frame.proofs.Laws.{frame_count_bounds}
+use Rattle.frame.proofs.Laws.{frame_count_bounds, up_to, at_bound}
 use Rattle.receiver.proofs.Laws.{settings_within}
 use Rattle.receiver.proofs.View.{receiver_in, Ticks, rests, waits, retries, repeats, expires, tick_does, Counted, first_after_ack, second_after_ack, first_after_frame, first_again, Pause, hold, resume, Pauses, denied, holds, resumes, pause_does, nacks, opens, again, ended, above, delivers, asks, goes_on, Hears, refuses, ignores, announced, informed, closes, short, short_only_lem, hear_does}
 use Rattle.receiver.specs.Misses.{acknowledged}
@@ -30,21 +28,6 @@ use Rattle.receiver.specs.declared.Phase.{Phase}
 use Rattle.receiver.specs.declared.Phase.TheVariants.{Open}
 use Rattle.receiver.specs.declared.Receiver.{Receiver}
 use Rattle.receiver.specs.declared.Settings.{Settings}
-
--- a count that is short of a bound reaches it at the bound
-at_exactly : (bound count : ℕ) → count < bound → leb bound (count + 1) ≡ eqb (count + 1) bound
-at_exactly bound count h = go (eqb (count + 1) bound) refl
-  where
-    go : (b : Bool) → eqb (count + 1) bound ≡ b → leb bound (count + 1) ≡ b
-    go true e = le-leb bound (count + 1) (omega (arith, eqb-true (count + 1) bound e))
-    go false e = lt-leb bound (count + 1) (omega (arith, eqb-false (count + 1) bound e))
-
--- so does one that is cut, since the bound is below the cut
-at_bound : (bound count : ℕ) → bound ≤ 65535 → count < bound → leb bound (increment_of count) ≡ eqb (count + 1) bound
-unfolding increment_of
-at_bound bound count top h =
-    let whole : increment_of count ≡ count + 1 = omega arith in
-    rw whole (at_exactly bound count h)
 
 -- the answer's next state is within
 abbrev Next : Told → Type 0
@@ -227,7 +210,7 @@ within_exact r x w p =
     record {
       wait = omega arith;
       due = at_bound r.settings.timeout x.wait (omega arith) (omega arith);
-      twenty_first = at_exactly 21 x.holds (omega arith);
+      twenty_first = up_to (x.holds + 1) 21 (omega arith);
       before = λ on. let begun = o.begun on in (omega arith, omega arith);
       count = omega arith;
       again = window_low_lem r.settings w.settings.window_low x.expected x.frames (omega arith);

@@ -4,7 +4,7 @@ ghost use Rattle.std.specs.Prelude.{◌≡◌};
 ghost use Rattle.receiver.specs.Hear.{hear_nack, hear_numbered, is_held, hear_unless_held, hear_kind, awaited, hear_of};
 ghost use Rattle.receiver.specs.Told.{told, heard};
 
-use crate::{Answer, Buffer, Phase, Receiver};
+use crate::{Answer, Buffer, Connection, Delivery, Phase, Receiver};
 use frame::build::sm_ack;
 use frame::count::word;
 use frame::read::read;
@@ -30,20 +30,20 @@ impl Receiver {
     {
         let bytes = f.bytes;
         if parsed.number == 0 {
-            self.hear_announcement(bytes[1], word(bytes[2], bytes[3]))
+            self.hear_announcement(Delivery {
+                frames: bytes[1],
+                length: word(bytes[2], bytes[3]),
+            })
         } else {
             self.hear_information(f, parsed, buffer)
         }
     }
 
-    // A hold stands. By a match: the mark is a field of one phase.
+    // A hold stands.
     fn is_held(self) -> bool
         ensures { result ≡ is_held self.phase }
     {
-        match self.phase {
-            Phase::Idle | Phase::Done(_) => false,
-            Phase::Open(x) => x.held,
-        }
+        matches!(self.phase, Phase::Open(Connection { held: true, .. }))
     }
 
     // While held every information frame is ignored.
@@ -58,7 +58,8 @@ impl Receiver {
         self.hear_numbered(f, parsed, buffer)
     }
 
-    // A frame that was read, by its kind. Refused 7 where the kind is for the other end. The match on the number is document 01's.
+    // A frame that was read, by its kind. Refused 7 where the kind is for the other end. The match on the number is document
+    // 01's.
     #[tactic(auto, unfolding(crate::specs::Hear::hear_kind, frame::specs::Choice::pick))]
     fn hear_kind(self, f: Frame, parsed: Parsed, buffer: &mut Buffer) -> Answer
         ensures { heard (told result) buffer.new
@@ -83,7 +84,8 @@ impl Receiver {
         }
     }
 
-    // A frame that is heard, with the buffer lent. Refused 5 for the buffer's length, then 6 where it cannot be read.
+    // A frame that is heard, with the buffer lent. Refused 5 for the buffer's length, then 6 where it cannot be read. (`let ..
+    // else` is document 01's form, and reading refuses for nothing else.)
     #[tactic(auto, unfolding(crate::specs::Hear::hear_of, crate::specs::Hear::hear_read, frame::specs::Choice::pick))]
     pub fn hear(self, f: Frame, buffer: &mut [u8]) -> Answer
         ensures { heard (told result) buffer.new ≡ hear_of self f buffer.old }

@@ -45,8 +45,8 @@ impl Receiver {
         self.in_phase(Phase::Open(kept)).emitting(x.hold_ack())
     }
 
-    #[tactic(auto, unfolding(crate::specs::Hold::hold_open, frame::specs::Choice::pick))]
     // (`resume_open` has this shape; its test and its step are others, and each has its definition. So have `hold` and `resume`.)
+    #[tactic(auto, unfolding(crate::specs::Hold::hold_open, frame::specs::Choice::pick))]
     fn hold_open(self, x: Connection) -> Answer
         ensures { told result ≡ hold_open self x }
     {

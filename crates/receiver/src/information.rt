@@ -1,5 +1,5 @@
-// Frames from number 1 on: the message, seven bytes each. A frame, what was read of it and the buffer go together as the definitions
-// take them; what is asked of the frame expected stands in two functions, for which no type would be plainer.
+// Frames from number 1 on: the message, seven bytes each. A frame, what was read of it and the buffer go together as the
+// definitions take them; what is asked of the frame expected stands in two functions, for which no type would be plainer.
 ghost use Rattle.std.specs.Prelude.{◌≡◌, ◌≤◌, drop};
 ghost use Rattle.receiver.specs.Hear.{
   ending,

@@ -11,7 +11,7 @@ mod store;
 mod tick;
 mod window;
 
-use frame::{Cause, Frame, Refusal};
+use frame::{Cause, Frame, LONGEST, Refusal};
 
 // Timeout T in ticks, window C in frames, capacity K in bytes.
 #[derive(Clone, Copy)]
@@ -21,7 +21,7 @@ pub struct Settings {
     pub capacity: u16,
 }
 
-// The N and L last delivered.
+// The N and L of a message: those last delivered, and those that an announcement asks for.
 #[derive(Clone, Copy)]
 pub struct Delivery {
     pub frames: u8,
@@ -62,8 +62,10 @@ pub enum Phase {
     Open(Connection),
 }
 
-// The buffer that a hearing is lent, once its length is known: `LONGEST`, by its number, since a length is not computed in a type.
-pub(crate) type Buffer = [u8; 1785];
+// The buffer that a hearing is lent, once its length is known.
+const BUFFER: usize = LONGEST as usize;
+
+pub(crate) type Buffer = [u8; BUFFER];
 
 #[derive(Clone, Copy)]
 pub struct Receiver {
@@ -72,6 +74,7 @@ pub struct Receiver {
 }
 
 // What a call reports: nothing, a refusal, a delivery of L bytes, a failure by its cause, or a short delivery of these bytes.
+// A refusal is a case here and no Err: the answer hands the state back too.
 #[derive(Clone, Copy)]
 pub enum Outcome {
     Quiet,

@@ -16,7 +16,7 @@ ghost use Rattle.receiver.specs.Told.{
   short_only,
 };
 
-use crate::{Answer, Connection, Misses, Outcome, Phase, Receiver};
+use crate::{Answer, Connection, Delivery, Misses, Outcome, Phase, Receiver};
 use frame::build::lm_nack;
 use frame::{Cause, Frame, Refusal};
 
@@ -47,13 +47,13 @@ impl Misses {
 }
 
 impl Connection {
-    // Just opened: N and L as two numbers, as in the definitions.
-    pub(crate) fn opened(frames: u8, length: u16, last: u8) -> Connection
-        ensures { result ≡ opened frames length last }
+    // Just opened, for the N and L that were announced.
+    pub(crate) fn opened(asked: Delivery, last: u8) -> Connection
+        ensures { result ≡ opened asked.frames asked.length last }
     {
         Connection {
-            frames,
-            length,
+            frames: asked.frames,
+            length: asked.length,
             expected: 1,
             last,
             wait: 0,

@@ -15,8 +15,8 @@ pub(crate) fn window_ack(expected: u8, last: u8) -> Frame
 }
 
 impl Settings {
-    // The last frame of the window that starts at `expected`: e + C − 1, or N where that is smaller. So it is a byte. (The sender's
-    // `Window` has that sum of an LM_ACK's numbers: one line, and each end's edits try its own.)
+    // The last frame of the window that starts at `expected`: e + C − 1, or N where that is smaller. So it is a byte. (The
+    // sender's `Window` has this sum of an LM_ACK's numbers: a line, for which a function of both ends would be no plainer.)
     #[tactic(auto, unfolding(crate::specs::Window::window_of))]
     pub(crate) fn window_of(self, expected: u8, frames: u8) -> u8
         ensures { result ≡ window_of self expected frames }

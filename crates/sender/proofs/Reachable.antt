@@ -4,14 +4,14 @@
 -- Assumes nothing.
 use Prim.Native.Nat.{ℕ, ◌+◌, ◌≤◌, ◌<◌}
 use mathlib.Core.Path.{◌≡◌, refl, subst}
-use mathlib.Core.Bool.{Bool, true, false, and-eq-true_iff}
+use mathlib.Core.Bool.{and-eq-true_iff}
 use mathlib.Core.List.{List}
 use native.Mathlib.Omega.{arith}
-use borrow.Author.Tests.{leb-true, leb-false, eqb-true, eqb-false, le-leb, lt-leb}
-use lib.Dec.{eqb, leb}
+use borrow.Author.Tests.{leb-true, leb-false}
+use lib.Dec.{eqb}
 use Rattle.frame.specs.Result.{accepted}
 use Rattle.frame.proofs.Choice.{pick_elim}
-use Rattle.frame.proofs.Laws.{increment_is}
+use Rattle.frame.proofs.Laws.{increment_is, up_to, at_bound}
 use Rattle.frame.specs.Count.{frame_count_of, increment_of}
 use Rattle.sender.proofs.View.{Windowed, sending, waiting, Asked, from_first, from_taken, Ticks, rests, opening_on_lem, opening_again_lem, sending_on_lem, sending_next_lem, waiting_on_lem, waiting_again_lem, short_on_lem, short_again_lem, fails, fails_short, Hears, refuses, ignores, above, takes, takes_hold, nacked, finished, finished_short, Calls, begins_long, begins_short, posts, ticks, hears, call_does}
 use Rattle.sender.specs.Begin.{begin_long, begin_short}
@@ -184,19 +184,10 @@ pub reachable_within : {s : Sender} → Reachable s → Within s
 reachable_within (fresh {s = s} gap timeout limit e) = makes gap timeout limit s e
 reachable_within (called {s = s} call r) = calls_within s (reachable_within r) (call_does s call)
 
--- of a number up to its limit, "at least" is "at"
-up_to : (n limit : ℕ) → n ≤ limit → leb limit n ≡ eqb n limit
-up_to n limit most = at (eqb n limit) refl
-  where
-    at : (b : Bool) → eqb n limit ≡ b → leb limit n ≡ b
-    at true e = let same : n ≡ limit = eqb-true _ _ e in le-leb limit n (omega arith)
-    at false e = let other : n ≡ limit → ⊥ = eqb-false _ _ e in lt-leb limit n (omega arith)
-
 -- a count below its limit
 counts : (count limit : ℕ) → count < limit → limit ≤ 60000 → Counts count limit
 counts count limit below most =
-    let one = increment_is count (omega arith) in
-    record { grows = one; exact = rw one (up_to (count + 1) limit (omega arith)) }
+    record { grows = increment_is count (omega arith); exact = at_bound limit count (omega arith) below }
 
 -- a frame from 1 to N of a message of L bytes starts inside it
 inside : (r : Settings) (t : Transfer) (number : ℕ) → LongWithin r t → number ≤ t.frames → StartsInside t number

@@ -1,5 +1,6 @@
 // Beginning a transfer, posting a message.
 ghost use Rattle.std.specs.Prelude.{◌≡◌, ◌≤◌, length};
+ghost use Rattle.frame.specs.Reading.{longest};
 ghost use Rattle.sender.specs.Begin.{begun_with, begin_idle, begin_of, post_of};
 ghost use Rattle.sender.specs.Told.{told};
 
@@ -8,10 +9,13 @@ use frame::Refusal;
 use frame::build::{announcement, sm_rm, sm_urm};
 use frame::count::frame_count;
 
-// (The one function that still asks for a length: the match that calls it has just tested it.)
-// What a begin knows of a message that goes in so many frames.
+// The length of the longest message, to be compared with a slice's.
+const LONGEST: usize = frame::LONGEST as usize;
+
+// What a begin knows of a message that goes in so many frames. Its length is asked for: the match that calls this has just
+// tested it.
 fn begun_with(message: &[u8], frames: u8) -> Transfer
-    requires { length message.now ≤ 1785 }
+    requires { length message.now ≤ longest }
     ensures { result ≡ begun_with message.now frames }
 {
     Transfer {
@@ -35,7 +39,7 @@ impl Sender {
                 self.in_phase(transfer.short_with(0))
                     .emitting(sm_rm(message))
             }
-            9..=1785 => {
+            9..=LONGEST => {
                 let length = message.len() as u16;
                 let frames = frame_count(length) as u8;
                 let transfer = begun_with(message, frames);

@@ -1,4 +1,5 @@
-// LM_EndofACK: the receiver has the message. N and L go as two numbers, as in the definitions.
+// LM_EndofACK: the receiver has the message. N and L go as two numbers: a struct of the two would be built for one call, to be
+// compared field by field.
 ghost use Rattle.std.specs.Prelude.{◌≡◌};
 ghost use Rattle.sender.specs.Hear.{if_whole, hear_end};
 ghost use Rattle.sender.specs.Told.{told};

@@ -10,7 +10,8 @@ use frame::read::read;
 use frame::{Frame, LONGEST, Parsed, Refusal};
 
 impl Sender {
-    // A frame that was read, by its kind. Refused 7 where the kind is for the other end. The match on the number is document 01's.
+    // A frame that was read, by its kind. Refused 7 where the kind is for the other end. The match on the number is document
+    // 01's.
     #[tactic(auto, unfolding(crate::specs::Hear::hear_kind, frame::specs::Choice::pick))]
     fn hear_kind(self, f: Frame, parsed: Parsed) -> Answer
         ensures { told result ≡ hear_kind self f parsed }
@@ -28,7 +29,8 @@ impl Sender {
         }
     }
 
-    // A frame that is heard. Refused 6 where it cannot be read.
+    // A frame that is heard. Refused 6 where it cannot be read. (`let .. else` is document 01's form, and reading refuses for
+    // nothing else.)
     #[tactic(auto, unfolding(crate::specs::Hear::hear_of, crate::specs::Hear::hear_read, frame::specs::Reading::read_of, frame::specs::Choice::pick))]
     pub fn hear(self, f: Frame) -> Answer
         ensures { told result ≡ hear_of self f }

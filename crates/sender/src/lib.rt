@@ -88,7 +88,8 @@ pub struct Sender {
     pub phase: Phase,
 }
 
-// What a call reports: nothing, why it is refused, or how the transfer finished.
+// What a call reports: nothing, why it is refused, or how the transfer finished. A refusal is a case here and no Err: the answer
+// hands the state back too.
 #[derive(Clone, Copy)]
 pub enum Outcome {
     Quiet,

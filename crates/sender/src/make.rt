@@ -7,8 +7,8 @@ use crate::{Phase, Sender, Settings};
 use frame::Refusal;
 use frame::count::within;
 
-// G is 1 to 10, T is 1 to 10000, M is 1 to 60000. (The receiver's settings are others, within others. C hands them
-// over as numbers, and `make_of` judges them.)
+// G is 1 to 10, T is 1 to 10000, M is 1 to 60000. (The receiver's are other settings, within other limits. C hands
+// them over as numbers, and `make_of` judges them.)
 fn settings_fit(gap: u16, timeout: u16, limit: u16) -> bool
     ensures { result ≡ settings_fit gap timeout limit }
 {

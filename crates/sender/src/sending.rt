@@ -45,7 +45,7 @@ impl Sender {
         self.in_phase(x.after_frame()).emitting(frame)
     }
 
-    // The gap before the next frame goes on. (`tick_short` tests as `tick_sending` does; a failure emits nothing there.)
+    // The gap before the next frame goes on.
     pub(crate) fn sending_on(self, x: Streamed) -> Answer
         ensures { told result ≡ sending_on self x }
     {
@@ -54,6 +54,7 @@ impl Sender {
         self.in_phase(phase).silently()
     }
 
+    // (`tick_short` tests as this does; a failure emits nothing there.)
     #[tactic(auto, unfolding(crate::specs::Tick::tick_sending, crate::specs::Tick::unless_over, crate::specs::Tick::at_limit, frame::specs::Choice::pick))]
     pub(crate) fn tick_sending(self, x: Streamed, message: &[u8]) -> Answer
         ensures { told result ≡ tick_sending self x message.now }

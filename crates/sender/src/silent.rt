@@ -24,8 +24,8 @@ impl Sender {
             | (increment(x.wait) < self.settings.timeout)
     }
 
-    // A silent tick of a short transfer: it fails where the sending time is over. (`tick_short` tests that too, since it does not
-    // know whether it is silent; edits/ tries both.)
+    // A silent tick of a short transfer: it fails where the sending time is over. (`tick_short` tests that too: to call this it
+    // would have to ask first whether it is silent, and that is the test.)
     #[tactic(auto, unfolding(crate::specs::SilentTicks::short_silently, crate::specs::Tick::unless_over, frame::specs::Choice::pick))]
     fn short_silently(self, x: Single) -> Answer
         ensures { told result ≡ short_silently self x }

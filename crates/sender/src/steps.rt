@@ -37,7 +37,8 @@ impl Transfer {
         }
     }
 
-    // Opening: a transfer with its wait and misses, as the definition takes them.
+    // Opening: a transfer with its wait and misses, as the definition takes them. (One such function for each phase, two of them
+    // alike: the phases are other types.)
     pub(crate) fn opening_with(self, wait: u16, misses: u16) -> Phase
         ensures { result ≡ opening_with self wait misses }
     {
@@ -95,7 +96,7 @@ impl Sender {
         Sender { phase, ..self }
     }
 
-    // A refusal: why, no frame and no report.
+    // A refusal: why, no frame and no report. Public for the summary, whose calls refuse counts lent with another length.
     pub fn refusing(self, refusal: Refusal) -> Answer
         ensures { told result ≡ refusing self (number_of refusal) }
     {
