@@ -1,7 +1,7 @@
 -- What the search for proofs does not find by itself: the facts on lists that reading a list of
 -- versions and looking for a version in it rest on.
 -- Assumes nothing.
-use Prim.Native.Nat.{ℕ, zero, suc, ◌+◌, ◌*◌, ◌/◌, ◌-◌, ◌<◌, ◌≤◌}
+use Prim.Native.Nat.{ℕ, zero, suc, ◌+◌, ◌/◌, ◌-◌, ◌<◌, ◌≤◌}
 use mathlib.Core.Path.{◌≡◌, refl, sym, ap, ◌∙◌}
 use mathlib.Core.Bool.{Bool, true, false, cond, and-true, and-false, ◌&&◌}
 use mathlib.Core.List.{List, [], ◌∷◌, ◌++◌, reverse}
@@ -13,6 +13,7 @@ use lib.Seq.{get_or-take}
 use Rattle.version.proofs.Places.{head_below, tail_rises, rising_below}
 use Rattle.frame.specs.Choice.{pick}
 use Rattle.std.specs.Prelude.{Some, None}
+use Rattle.std.specs.Simd.{first_chunks}
 use denote.Param.Members.{Mut}
 use Rattle.std.proofs.Common.{Iter, take, length-take, get_or-take}
 use Rattle.std.specs.Slice.Iter.{iter_rest, iter_steps_back}
@@ -38,32 +39,28 @@ versions_length (a ∷ []) = refl
 versions_length (a ∷ b ∷ []) = refl
 versions_length (a ∷ b ∷ c ∷ s) = omega (arith, versions_length s)
 
--- Three places on.
-three_on : (a b c : ℕ) (s : List ℕ) (k n : ℕ) → n ≡ suc (suc (suc k))
-    → get_or (a ∷ b ∷ c ∷ s) n 0 ≡ get_or s k 0
-three_on a b c s k n e = rw e
-
--- A version is the number of its three bytes; past the last there is none.
-pub versions_at : (s : List ℕ) (k : ℕ) → k < length s / 3
-    → version_of (get_or s (3 * k) 0) (get_or s (3 * k + 1) 0) (get_or s (3 * k + 2) 0) ≡ lent s k
+-- A version is the number of its chunk's three bytes; past the last there is none.
+at_chunk : (s : List ℕ) (n k : ℕ) (d : List ℕ) → k < n → n ≤ length s / 3
+    → let chunk : List ℕ = get_or (first_chunks 3 n s) k d in
+    version_of (get_or chunk 0 0) (get_or chunk 1 0) (get_or chunk 2 0) ≡ lent s k
 unfolding versions_in
-versions_at [] k h = absurd (omega arith)
-versions_at (a ∷ []) k h = absurd (omega arith)
-versions_at (a ∷ b ∷ []) k h = absurd (omega arith)
-versions_at (a ∷ b ∷ c ∷ s) zero h = refl
-versions_at (a ∷ b ∷ c ∷ s) (suc k) h =
-    rw (
-      three_on a b c s (3 * k) (3 * suc k) (omega arith),
-      three_on a b c s (3 * k + 1) (3 * suc k + 1) (omega arith),
-      three_on a b c s (3 * k + 2) (3 * suc k + 2) (omega arith),
-    )
-    (versions_at s k (omega arith))
+at_chunk s zero k d l h = absurd (omega arith)
+at_chunk [] (suc n) k d l h = absurd (omega arith)
+at_chunk (a ∷ []) (suc n) k d l h = absurd (omega arith)
+at_chunk (a ∷ b ∷ []) (suc n) k d l h = absurd (omega arith)
+at_chunk (a ∷ b ∷ c ∷ s) (suc n) zero d l h = refl
+at_chunk (a ∷ b ∷ c ∷ s) (suc n) (suc k) d l h = at_chunk s n k d (omega arith) (omega arith)
 
-pub lent_there : (s : List ℕ) (k : ℕ) {v : ℕ}
-    → v ≡ version_of (get_or s (3 * k) 0) (get_or s (3 * k + 1) 0) (get_or s (3 * k + 2) 0)
-    → k < length s / 3
+pub lent_there : (s : List ℕ) (k : ℕ) {v : ℕ} {chunk : List ℕ} {chunks : List (List ℕ)}
+    → v ≡ version_of (get_or chunk 0 0) (get_or chunk 1 0) (get_or chunk 2 0)
+    → (true ≡ ltb k (length chunks)) × (chunk ≡ get_or chunks k chunk)
+    → chunks ≡ first_chunks 3 (length s / 3) s
+    → length chunks ≡ length s / 3
     → v ≡ lent s k
-lent_there s k e h = e ∙ versions_at s k h
+lent_there s k {chunk = chunk} e at cut n =
+    let bytes : chunk ≡ get_or (first_chunks 3 (length s / 3) s) k chunk = at.1 ∙ ap (λ (l : List (List ℕ)). get_or l k chunk) cut in
+    e ∙ ap (λ (l : List ℕ). version_of (get_or l 0 0) (get_or l 1 0) (get_or l 2 0)) bytes
+    ∙ at_chunk s (length s / 3) k chunk (omega (arith, ltb-true _ _ (sym at.0), n)) (omega arith)
 
 pub lent_past : (s : List ℕ) (k : ℕ) → length s / 3 ≤ k → 0 ≡ lent s k
 lent_past s k h =
@@ -100,6 +97,13 @@ pub place_first : (version : ℕ) (s : List ℕ) (n : ℕ) → position_from (λ
 unfolding place_of
 place_first version [] n = refl
 place_first version (v ∷ s) n = rw (place_first version s (n + 1)) (cond_pick (eqb v version) (Some n) (place_of s version (n + 1)))
+
+-- A place that is given on as the number that it is.
+pub as_number : {Q : ℕ → ℕ → Type 0} (p r : Option ℕ) → MatchOption p (r ≡ None) (λ x. IsSomeAnd r (Q x))
+    → ((x y : ℕ) → Q x y → y ≡ x) → r ≡ p
+as_number None r e one = e
+as_number (Some x) None e one = absurd e
+as_number (Some x) (Some y) e one = ap Some (one x y e)
 
 -- Looking below a version, from the last place back.
 below_last : (s : List ℕ) (v version n : ℕ) → v < version

@@ -115,6 +115,7 @@ impl Talker {
         }
     }
 
+    // The steps of the tables, a line or two each: they differ in state, result and report, and each has its definition.
     fn opening(self) -> Answer
         ensures { told result ≡ opening self }
     {
@@ -192,7 +193,7 @@ impl Talker {
         }
     }
 
-    // A trigger, looked up in the talker's table.
+    // A trigger, looked up in the talker's table, with the version heard, 0 where none was: as the definitions take it.
     pub(crate) fn triggered(self, version: u32, trigger: Trigger) -> Answer
         ensures { told result ≡ triggered self version (told_trigger trigger) }
     {

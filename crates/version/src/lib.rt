@@ -74,7 +74,7 @@ pub struct Talker {
 }
 
 // What a call reports: nothing, a refusal, the version agreed on, that the talk failed, or that it
-// was left.
+// was left. A refusal is a case here and no Err: the answer hands the state back too.
 #[derive(Clone, Copy)]
 pub enum Outcome {
     Quiet,

@@ -29,16 +29,14 @@ pub(crate) fn version_of(major: u8, minor: u8, temporary: u8) -> u32
     u32::from_be_bytes([0, major, minor, temporary])
 }
 
-// The version at a place of lent bytes, three bytes for each; 0 past the last. By its places: a chunk would be a slice, whose
-// three bytes are no plainer to name.
+// The version at a place of lent bytes, three bytes for each; 0 past the last.
 fn lent(bytes: &[u8], place: usize) -> u32
     ensures { result ≡ lent bytes.now place }
 {
-    if place < bytes.len() / 3 {
-        let first = 3 * place;
-        version_of(bytes[first], bytes[first + 1], bytes[first + 2])
-    } else {
-        0
+    let (versions, _) = bytes.as_chunks::<3>();
+    match versions.get(place) {
+        Some([major, minor, temporary]) => version_of(*major, *minor, *temporary),
+        None => 0,
     }
 }
 
@@ -89,16 +87,20 @@ impl Versions {
     pub(crate) fn find(self, version: u32) -> Option<u32>
         ensures { result ≡ find self version }
     {
-        let place = self.standing().iter().position(|v| *v == version)?;
-        Some(place as u32)
+        self.standing()
+            .iter()
+            .position(|v| *v == version)
+            .map(|place| place as u32)
     }
 
     // The place of the highest version below this one.
     pub(crate) fn find_below(self, version: u32) -> Option<u32>
         ensures { result ≡ find_below self version }
     {
-        let place = self.standing().iter().rposition(|v| *v < version)?;
-        Some(place as u32)
+        self.standing()
+            .iter()
+            .rposition(|v| *v < version)
+            .map(|place| place as u32)
     }
 }
 
