@@ -6,7 +6,8 @@ ghost use Rattle.kospelna.specs.Frames.{frame_from, flat_frame};
 use frame::Frame;
 use frame::build::blank;
 
-// The bytes d0 to d7 and a kind. With the bytes first C passes them in one register.
+// The bytes d0 to d7 and a kind. With the bytes first C passes them in one register. C's layout; a type of its own, so that the
+// inner type may change.
 #[repr(C)]
 #[derive(Clone, Copy, Default)]
 pub struct FlatFrame {

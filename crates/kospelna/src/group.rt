@@ -1,4 +1,4 @@
-// The parameter groups: read, written, and looked up.
+// The parameter groups: read, written, and looked up. One function for each that C calls.
 ghost use Rattle.std.specs.Prelude.{◌≡◌};
 ghost use Rattle.frame.specs.Result.{told_result};
 ghost use Rattle.kospelna.specs.Group.{
@@ -22,6 +22,7 @@ use groups::{Group, Row};
 // These structs are the C interface: a refusal's number beside a value, a flag beside what goes out and numbers for cases are
 // C's forms of Result, Option and enum.
 
+// C's layout; a type of its own, so that the inner type may change.
 #[repr(C)]
 #[derive(Clone, Copy, Default)]
 pub struct FlatGroup {

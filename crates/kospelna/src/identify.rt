@@ -1,4 +1,4 @@
-// The identifier, both ways, and the named numbers.
+// The identifier, both ways, and the named numbers. One function for each that C calls.
 ghost use Rattle.std.specs.Prelude.{◌≡◌};
 ghost use Rattle.frame.specs.Result.{told_result};
 ghost use Rattle.kospelna.specs.Identify.{parts_in, parts_out, joining_out, splitting_out};
@@ -12,6 +12,7 @@ use identifier::Parts;
 // These structs are the C interface: a refusal's number beside a value, a flag beside what goes out and numbers for cases are
 // C's forms of Result, Option and enum.
 
+// C's layout; a type of its own, so that the inner type may change.
 #[repr(C)]
 #[derive(Clone, Copy, Default)]
 pub struct FlatIdentifierParts {

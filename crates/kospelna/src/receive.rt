@@ -1,5 +1,5 @@
 // The receiver over C's layouts: each call reads the flat receiver, calls the receiver and writes
-// its answer.
+// its answer. One function for each that C calls.
 ghost use Rattle.std.specs.Prelude.{◌≡◌};
 ghost use Rattle.frame.specs.Result.{told_result};
 ghost use Rattle.kospelna.specs.Frames.{frame_from};

@@ -44,6 +44,7 @@ use version::{Answer, Message, Outcome, Side, State, Talker, Verdict, Versions};
 // These structs are the C interface: a refusal's number beside a value, a flag beside what goes out and numbers for cases are
 // C's forms of Result, Option and enum.
 
+// C's layout; a type of its own, so that the inner type may change.
 #[repr(C)]
 #[derive(Clone, Copy, Default)]
 pub struct FlatVersions {
@@ -162,16 +163,12 @@ fn state_from(number: u8) -> State
     }
 }
 
-#[tactic(auto, unfolding(frame::specs::Choice::pick))]
 // Unlike `TryFrom`, it reads an unknown number as continue.
+#[tactic(auto, unfolding(frame::specs::Choice::pick, version::specs::Message::verdict_of, version::specs::Message::verdict_read))]
 fn verdict_from(number: u8) -> Verdict
     ensures { result ≡ verdict_in number }
 {
-    match number {
-        1 => Verdict::Success,
-        2 => Verdict::Failure,
-        _ => Verdict::Continue,
-    }
+    Verdict::try_from(number).unwrap_or(Verdict::Continue)
 }
 
 impl From<FlatVersions> for Versions {
@@ -224,7 +221,7 @@ impl From<Message> for FlatVersionMessage {
 
     fn from(m: Message) -> FlatVersionMessage {
         FlatVersionMessage {
-            verdict: m.verdict as u8,
+            verdict: m.verdict.into(),
             version: m.version,
             control: m.control,
         }
@@ -295,7 +292,7 @@ impl From<Talker> for FlatTalker {
             control: t.control,
             state: t.state as u8,
             place: t.place,
-            verdict: t.verdict as u8,
+            verdict: t.verdict.into(),
             period: t.period,
             age: t.age,
             timing: t.timing,
@@ -361,16 +358,20 @@ pub fn kospelna_version_list(bytes: &[u8]) -> FlatVersionListing
     version::list::list(bytes).into()
 }
 
+// A message's bytes, where its result is one of the three.
+#[tactic(auto, unfolding(frame::specs::Choice::pick, version::specs::Message::verdict_read))]
+fn written(message: FlatVersionMessage) -> Result<[u8; 8], Refusal>
+    ensures { told_result result ≡ message_bytes message }
+{
+    Verdict::try_from(message.verdict)?;
+    Ok(version::wire::write(message.into()))
+}
+
 // The bytes of a message, or refusal 10.
-#[tactic(auto, unfolding(frame::specs::Choice::pick))]
 pub fn kospelna_version_message_write(message: FlatVersionMessage) -> FlatVersionWriting
     ensures { result ≡ writing_out (message_bytes message) }
 {
-    if message.verdict <= 2 {
-        Ok(version::wire::write(message.into())).into()
-    } else {
-        Err(Refusal::Value).into()
-    }
+    written(message).into()
 }
 
 // The message of eight bytes, or refusal 10.
