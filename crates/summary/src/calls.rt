@@ -27,8 +27,8 @@ fn counted(answer: Answer, counts: &mut [u8; SIZE]) -> Answer
     answer
 }
 
-// The test of the counts stands in each call: a function over a closure would promise by what the closure promises, and be no
-// plainer. Begins a transfer. An accepted begin clears the counts, and then its frame is counted.
+// Begins a transfer. An accepted begin clears the counts, and then its frame is counted. (The test of the counts stands in each
+// call: a function over a closure would promise by what the closure promises, and be no plainer.)
 #[tactic(auto, unfolding(crate::specs::Calls::if_lent, crate::specs::Calls::begun, frame::specs::Choice::pick))]
 pub fn begin(s: Sender, message: &[u8], counts: &mut [u8]) -> Answer
     ensures { kept (told result) counts.new ≡ kept_of s (begin message.now) counts.old }

@@ -11,7 +11,7 @@ use frame::Refusal;
 // A word for each number from 0 to 255.
 pub const SIZE: usize = 512;
 
-// Why a call is refused where the counts are not lent so many bytes.
+// Why a call is refused where the counts are not lent so many bytes. Named once for all calls.
 const NOT_LENT: Refusal = Refusal::Lent;
 
 // How many information frames with this number have gone out.

@@ -15,8 +15,8 @@ fn overtakes(named: u16, later: u16) -> bool
     named < later
 }
 
-// The number that was sent most often, with its count. Each count is read once. By hand: of equals the first stands, and the
-// library's maximum gives the last.
+// The number that was sent most often, with its count. Each count is read once. By hand: of equals the first stands; the
+// library's maximum gives the last, and over a reversed range an Option that is never None.
 fn most(counts: &[u8; SIZE]) -> Count
     ensures { result ≡ count_for counts.now (most_to counts.now 255) }
 {
@@ -44,7 +44,8 @@ pub fn count_of(number: u8, counts: &[u8]) -> Result<Count, Refusal>
     Ok(Count { number, count })
 }
 
-// The number that was sent most often; refused 5 where the counts are not lent 512 bytes.
+// The number that was sent most often; refused 5 where the counts are not lent 512 bytes. (A line differs from the count of a
+// number; each has its own promise.)
 #[tactic(auto, unfolding(crate::specs::Most::most_of, frame::specs::Choice::pick))]
 pub fn most_of(counts: &[u8]) -> Result<Count, Refusal>
     ensures { told_result result ≡ most_of counts.now }
