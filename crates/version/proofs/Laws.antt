@@ -8,8 +8,7 @@ use mathlib.Core.List.{List, [], ◌∷◌, ◌++◌, reverse}
 use native.Mathlib.Omega.{arith}
 use borrow.Author.Tests.{ltb-true, ltb-false, lt-ltb, le-ltb}
 use lib.Dec.{eqb, ltb}
-use lib.ListN.{length, get_or, length-take, get_or-eq_default}
-use lib.Seq.{get_or-take}
+use lib.ListN.{length, get_or, get_or-eq_default}
 use Rattle.version.proofs.Places.{head_below, tail_rises, rising_below}
 use Rattle.frame.specs.Choice.{pick}
 use Rattle.std.specs.Prelude.{Some, None}

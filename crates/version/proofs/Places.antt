@@ -17,6 +17,7 @@ use Rattle.frame.proofs.Choice.{pick_accepted, both_left, both_right}
 use Rattle.frame.specs.Choice.{pick}
 use Rattle.frame.specs.Count.{within}
 use Rattle.frame.specs.Result.{accepted}
+use Rattle.std.proofs.lemmas.Option.{none-some}
 use Rattle.std.specs.Prelude.{Some, None}
 use Rattle.std.specs.declared.option.Option.{Option}
 use Rattle.version.specs.List.{at, versions_in, rising, three_bytes, placed, standing, is_list, is_lent, list_of, or_else, place_of, place_below}
@@ -146,10 +147,6 @@ pub record Found (s : List ℕ) (version n p : ℕ) : Type 0 where
   pub inside : k < length s
   pub is : get_or s k 0 ≡ version
 
--- nowhere is no place
-no_place : {p : ℕ} → None ≡ Some p → ⊥
-no_place h = let z : ◌≡◌ {A = ℕ} 0 1 = cc in omega arith
-
 module _ (v : ℕ) (s : List ℕ) (version n : ℕ) where
   found_first : (b : Bool) (p : ℕ) → eqb v version ≡ b
       → (place_of s version (n + 1) ≡ Some p → Found s version (n + 1) p)
@@ -167,13 +164,13 @@ module _ (v : ℕ) (s : List ℕ) (version n : ℕ) where
       → pick b (Some n) (place_of s version (n + 1)) ≡ None → (i : ℕ) → i < suc (length s)
       → get_or (v ∷ s) i 0 ≡ version → ⊥
   unfolding pick
-  missing_first true t later e i l same = no_place (sym e)
+  missing_first true t later e i l same = none-some _ (sym e)
   missing_first false t later e zero l same = eqb-false v version t same
   missing_first false t later e (suc i) l same = later e i (omega arith) same
 
 found : (s : List ℕ) (version n p : ℕ) → place_of s version n ≡ Some p → Found s version n p
 unfolding place_of
-found [] version n p h = absurd (no_place h)
+found [] version n p h = absurd (none-some _ h)
 found (v ∷ s) version n p h = found_first v s version n (eqb v version) p refl (found s version (n + 1) p) h
 
 missing : (s : List ℕ) (version n : ℕ) → place_of s version n ≡ None → (i : ℕ) → i < length s
@@ -210,8 +207,8 @@ module _ (v : ℕ) (s : List ℕ) (version n : ℕ) where
       → or_else q (pick b (Some n) None) ≡ None
       → (i : ℕ) → i < suc (length s) → version ≤ get_or (v ∷ s) i 0
   unfolding pick
-  none_first true None t later e i l = absurd (no_place (sym e))
-  none_first b (Some p) t later e i l = absurd (no_place (sym e))
+  none_first true None t later e i l = absurd (none-some _ (sym e))
+  none_first b (Some p) t later e i l = absurd (none-some _ (sym e))
   none_first false None t later e zero l = ltb-false v version t
   none_first false None t later e (suc i) l = later refl i (omega arith)
 
@@ -251,7 +248,7 @@ module _ (v : ℕ) (s : List ℕ) (version n : ℕ) where
         less = ltb-true v version t;
         last = after_first (none refl);
       }
-  below_first false None p t none later e = absurd (no_place e)
+  below_first false None p t none later e = absurd (none-some _ e)
   below_first b (Some q) p t none later e = below_next (later e)
 
 none_below : (s : List ℕ) (version n : ℕ) → place_below s version n ≡ None → (i : ℕ)
@@ -263,7 +260,7 @@ none_below (v ∷ s) version n h i l =
 
 below : (s : List ℕ) (version n p : ℕ) → place_below s version n ≡ Some p → Below s version n p
 unfolding place_below
-below [] version n p h = absurd (no_place h)
+below [] version n p h = absurd (none-some _ h)
 below (v ∷ s) version n p h =
     below_first v s version n (ltb v version) (place_below s version (n + 1)) p refl (none_below s version (n + 1)) (below s version (n + 1) p) h
 

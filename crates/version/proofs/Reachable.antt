@@ -3,15 +3,16 @@
 -- what its entry makes is within; a count that has not come to its limit is below it; a place that is
 -- found is a place of the list.
 -- Assumes nothing.
-use Prim.Native.Nat.{ℕ, ◌+◌, ◌≤◌, ◌<◌}
+use Prim.Native.Nat.{ℕ, ◌≤◌, ◌<◌}
 use mathlib.Core.Path.{◌≡◌, refl, sym, subst}
 use mathlib.Core.Bool.{Bool, true, false}
 use native.Mathlib.Omega.{arith}
-use borrow.Author.Tests.{leb-false, ltb-true, ltb-false, eqb-true, eqb-false, le-leb, lt-leb}
-use lib.Dec.{eqb, leb, ltb}
+use borrow.Author.Tests.{leb-false, ltb-true, ltb-false, eqb-true}
+use lib.Dec.{eqb, ltb}
 use lib.ListN.{length-take}
 use lib.Seq.{get_or-take}
 use Rattle.frame.proofs.Choice.{pick_elim}
+use Rattle.frame.proofs.Laws.{at_bound}
 use Rattle.frame.specs.Count.{increment_of}
 use Rattle.frame.specs.Result.{Result, accepted, refused}
 use Rattle.version.proofs.Cells.{Cell, rests, negotiates, starts, declines, goes_on, cell_is}
@@ -282,16 +283,6 @@ pub reachable_within : {t : Talker} → Reachable t → Within t
 reachable_within (made {t = t} side versions control e) = makes side versions control t e
 reachable_within (called {t = t} c r) = call_within t (reachable_within r) c
 
--- a count that is short of its limit reaches it at the limit
-at_limit_lem : (count limit : ℕ) → count < limit → limit ≤ 65535
-    → leb limit (increment_of count) ≡ eqb (count + 1) limit
-unfolding increment_of
-at_limit_lem count limit below most = go (eqb (count + 1) limit) refl
-  where
-    go : (b : Bool) → eqb (count + 1) limit ≡ b → leb limit (increment_of count) ≡ b
-    go true e = le-leb limit (increment_of count) (omega (arith, eqb-true (count + 1) limit e))
-    go false e = lt-leb limit (increment_of count) (omega (arith, eqb-false (count + 1) limit e))
-
 -- the version at Ns is one of the list, and so has three bytes
 own_three : (t : Talker) → Within t → own_version t < 0x1000000
 own_three t h =
@@ -308,8 +299,8 @@ within_exact t h =
     record {
       grows = omega arith;
       ages = omega arith;
-      due = at_limit_lem t.period 50 (omega arith) (omega arith);
-      over = at_limit_lem t.age 15000 (omega arith) (omega arith);
+      due = at_bound 50 t.period (omega arith) (omega arith);
+      over = at_bound 15000 t.age (omega arith) (omega arith);
       read = read_written _ (own_three t h);
     }
 
