@@ -13,13 +13,10 @@ use lib.ListN.{length, get_or, set, take, length-set, length-append}
 use lib.Seq.{sets, get_or-set_same, get_or-set_other, take_all, take-append-le}
 use Rattle.frame.proofs.Choice.{pick_elim}
 use Rattle.frame.specs.declared.Frame.{Frame}
-use Rattle.line.proofs.Laws.{listed, head_here}
+use Rattle.line.proofs.Laws.{frame_of, listed, head_here}
 use Rattle.line.specs.Ring.{frame_at, stored, frames_from, frames_in, empty_of, head_of, rest_of, Kept, join_of}
 use Rattle.line.specs.RingIsList.{RingIsList}
 use Rattle.line.specs.declared.Ring.{Ring}
-
-abbrev frame_of : ℕ → List ℕ → Frame
-frame_of kind bytes = record { kind = kind; bytes = bytes }
 
 -- ---- one place
 

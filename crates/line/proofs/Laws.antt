@@ -21,7 +21,7 @@ use Rattle.frame.specs.declared.Frame.{Frame}
 use Rattle.line.specs.Ring.{frame_at, stored, head_of, rest_of, kept, join_of}
 use Rattle.line.specs.declared.Ring.{Ring}
 
-abbrev frame_of : ℕ → List ℕ → Frame
+abbrev pub frame_of : ℕ → List ℕ → Frame
 frame_of kind bytes = record { kind = kind; bytes = bytes }
 
 abbrev ring_of : ℕ → ℕ → Ring

@@ -6,8 +6,9 @@ ghost use Rattle.line.specs.Ring.{empty_of, head_of, frame_at, stored, rest_of, 
 
 use frame::Frame;
 
-// Nine bytes for each of 64 places. Frames lie in lent bytes, which the promises of `head` and `join` are of.
-const SIZE: usize = 576;
+// How many bytes a line is kept in: nine for each of 64 places. Frames lie in lent bytes: the promises of `head` and `join` speak
+// of those.
+pub const LINE: usize = 576;
 
 // The place of the first frame, and how many frames there are from it on.
 #[derive(Clone, Copy)]
@@ -17,11 +18,11 @@ pub struct Ring {
 }
 
 // The frame at a place.
-fn frame_at(place: u8, places: &[u8; SIZE]) -> Frame
+fn frame_at(place: u8, places: &[u8; LINE]) -> Frame
     requires { place < 64 }
     ensures { result ≡ frame_at places.now place }
 {
-    let at = 9 * place as usize;
+    let at = 9 * usize::from(place);
     let mut bytes = [0; 8];
     bytes.copy_from_slice(&places[at + 1..at + 9]);
     Frame {
@@ -31,16 +32,17 @@ fn frame_at(place: u8, places: &[u8; SIZE]) -> Frame
 }
 
 // A frame goes to a place.
-fn store(f: Frame, place: u8, places: &mut [u8; SIZE])
+fn store(f: Frame, place: u8, places: &mut [u8; LINE])
     requires { place < 64 }
     ensures { places.new ≡ stored places.old place f }
 {
-    let at = 9 * place as usize;
+    let at = 9 * usize::from(place);
     places[at] = f.kind;
     places[at + 1..at + 9].copy_from_slice(&f.bytes);
 }
 
 impl Ring {
+    // No frame: zeros by name, as `empty_of` of the definitions.
     pub fn empty() -> Ring
         ensures { result ≡ empty_of }
     {
@@ -58,7 +60,7 @@ impl Ring {
     pub fn head(self, bytes: &[u8]) -> Frame
         ensures { result ≡ head_of self bytes.now }
     {
-        match bytes.as_array::<SIZE>() {
+        match bytes.as_array::<LINE>() {
             Some(places) => frame_at(self.first % 64, places),
             None => frame::build::blank(),
         }
@@ -82,7 +84,7 @@ impl Ring {
     pub fn join(self, f: Frame, bytes: &mut [u8]) -> Ring
         ensures { kept result bytes.new ≡ join_of self f bytes.old }
     {
-        let Some(places) = bytes.as_mut_array::<SIZE>() else {
+        let Some(places) = bytes.as_mut_array::<LINE>() else {
             return self;
         };
         if 64 <= self.count {

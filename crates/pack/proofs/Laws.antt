@@ -2,7 +2,7 @@
 -- Assumes nothing.
 use Prim.Native.Nat.{ℕ, zero, suc, ◌+◌, ◌<◌, ◌≤◌}
 use mathlib.Core.Path.{◌≡◌, refl, ap, ◌∙◌}
-use mathlib.Core.Bool.{Bool, true, false, ◌&&◌, and-eq-true_iff}
+use mathlib.Core.Bool.{Bool, true, false, and-eq-true_iff}
 use mathlib.Core.List.{List, [], ◌∷◌}
 use native.Mathlib.Omega.{arith}
 use borrow.Author.Tests.{leb-true, eqb-true}
@@ -49,19 +49,16 @@ pub record Layout (pack : List ℕ) : Type 0 where
   pub events : offset_of pack 2 ≡ offset_of pack 1 + length_of pack 1
   pub whole : length pack ≡ offset_of pack 2 + length_of pack 2
 
-split : (a b : Bool) → (a && b) ≡ true → (a ≡ true) × (b ≡ true)
-split a b h = (and-eq-true_iff a b).0 h
-
 pub laid_out_lem : (pack : List ℕ) → laid_out pack ≡ true → Layout pack
 unfolding laid_out
 laid_out_lem pack h =
-    let g = split _ _ h in
-    let f = split _ _ g.0 in
-    let e = split _ _ f.0 in
-    let d = split _ _ e.0 in
-    let c = split _ _ d.0 in
-    let b = split _ _ c.0 in
-    let a = split _ _ b.0 in
+    let g = (and-eq-true_iff _ _).0 h in
+    let f = (and-eq-true_iff _ _).0 g.0 in
+    let e = (and-eq-true_iff _ _).0 f.0 in
+    let d = (and-eq-true_iff _ _).0 e.0 in
+    let c = (and-eq-true_iff _ _).0 d.0 in
+    let b = (and-eq-true_iff _ _).0 c.0 in
+    let a = (and-eq-true_iff _ _).0 b.0 in
     record {
       least = leb-true _ _ a.0;
       most = leb-true _ _ a.1;

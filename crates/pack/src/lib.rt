@@ -131,6 +131,7 @@ fn all_events(pack: &[u8], from: usize) -> bool
 }
 
 // The bodies of a pack; refused 12 where it is none.
+#[tactic(auto, using(crate::proofs::Paths::reads))]
 pub fn read(pack: &[u8]) -> Result<Bodies, Refusal>
     ensures { told_result result ≡ bodies_of pack.now }
 {

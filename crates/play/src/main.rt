@@ -11,12 +11,16 @@ ghost use Rattle.player.specs.Whole.{held};
 ghost use Rattle.play.specs.Program.{PlaysOut};
 
 use frame::Refusal;
-use player::Player;
+use line::LINE;
+use player::{PAGE, Player};
 use std::io;
 use std::io::{Read, Write};
 
 // A pack has at most 65535 bytes: one more is read, so that a longer input is seen to be none.
 const MOST: usize = 65536;
+
+// The receiving buffer has room for the longest message.
+const BUFFER: usize = frame::LONGEST as usize;
 
 // So many calls of play finish every pack (`PrintsPlayed` in crates/player).
 const CALLS: usize = 512;
@@ -78,10 +82,10 @@ fn play<W: Write>(out: &mut W, player: Player, pack: &[u8]) -> io::Result<()>
     ensures { open_of pack.now ≡ accepted player
         → OnOk result (Appends (W.contents out.old) (W.contents out.new) (played pack.now)) }
 {
-    let mut page = [0u8; 16384];
-    let mut forward = [0u8; 576];
-    let mut back = [0u8; 576];
-    let mut buffer = [0u8; 1785];
+    let mut page = [0u8; PAGE];
+    let mut forward = [0u8; LINE];
+    let mut back = [0u8; LINE];
+    let mut buffer = [0u8; BUFFER];
     let begun = player.begin(pack, &mut forward, &mut page);
     show(out, &page, begun.written)?;
     play_events(

@@ -5,15 +5,13 @@ ghost use Rattle.player.specs.Calls.{told_progress, begin_of, play_of, is_finish
 use crate::parts::{message_in, part};
 use crate::turn::{Session, lines};
 use crate::{Player, Progress};
+use line::LINE;
 use pack::{Bodies, MESSAGE};
 use text::SENDER;
 use transport::Ends;
 
-// The lent lengths: a line's 64 places of nine bytes, and the page.
-// A line's is the number that this crate's promises name, as transport's do.
-pub(crate) const LINE: usize = 576;
-
-const PAGE: usize = 16384;
+// How long a lent page is.
+pub const PAGE: usize = 16384;
 
 // How many events are played in a call, of those whose numbers fit.
 fn most(played: u16) -> usize

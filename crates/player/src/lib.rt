@@ -8,6 +8,7 @@ mod parts;
 mod run;
 mod turn;
 
+pub use crate::call::PAGE;
 use pack::Bodies;
 use transport::Ends;
 

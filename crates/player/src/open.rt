@@ -8,6 +8,7 @@ ghost use Rattle.sender.specs.Told as sender-told;
 use crate::Player;
 use crate::parts::message_in;
 use frame::Refusal;
+use line::LINE;
 use pack::Bodies;
 use transport::Ends;
 
@@ -25,7 +26,7 @@ fn unless_refused(outcome: sender::Outcome, player: Player) -> Result<Player, Re
 fn try_begin(message: &[u8], bodies: Bodies, ends: Ends) -> Result<Player, Refusal>
     ensures { told_result result ≡ opened_with message.now bodies (accepted ends) }
 {
-    let mut line = [0u8; 576];
+    let mut line = [0u8; LINE];
     let begun = ends.begin(message, &mut line);
     let player = Player {
         ends,

@@ -5,7 +5,7 @@ ghost use Rattle.player.specs.Session.{Goes, world_in, page_in, at_ends};
 ghost use Rattle.player.specs.State.{turned, turn_of, said_text, says};
 ghost use Rattle.text.specs.Page.{page, put};
 
-use crate::call::LINE;
+use line::LINE;
 use text::{RECEIVER, SENDER};
 use transport::{Answer, Ends, Said};
 
@@ -35,6 +35,7 @@ fn says(a: Answer) -> bool
 
 // What is printed of an answer: the frame's line, then the reports.
 // The page and its place go apart: a begin has no session, as it is lent no line back and no buffer.
+#[tactic(auto, using(crate::proofs::Turns::lines_put))]
 pub(crate) fn lines(said: Said, letter: u8, number: u16, out: &mut [u8], at: usize) -> usize
     ensures { page out.new result
         ≡ put (page out.old at) (said_text number letter said) }
@@ -83,8 +84,7 @@ impl Session<'_> {
             7 => self.show(ends.lose_back(), SENDER, number),
             _ => {
                 let forward = &mut *self.forward;
-                let back = &*self.back;
-                let a = ends.hear_back(event == 6, forward, back);
+                let a = ends.hear_back(event == 6, forward, self.back);
                 self.show(a, SENDER, number)
             }
         }

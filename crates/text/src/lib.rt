@@ -26,7 +26,8 @@ pub use crate::lines::{RECEIVER, SENDER};
 use crate::page::Page;
 use frame::Frame;
 
-// Each of these makes a page of what is lent, and answers its place: their promises are of both. The ends' outcomes are other types.
+// Each of these makes a page of what is lent, and answers its place: each promise names slice and place. The ends' outcomes are
+// other types.
 pub fn sender_report(number: u16, outcome: sender::Outcome, out: &mut [u8], at: usize) -> usize
     ensures { page out.new result
         ≡ put (page out.old at) (sender_report number (sender-told.told_outcome outcome)) }

@@ -43,7 +43,7 @@ impl Page<'_> {
         ensures { Puts self.old self.new (frame_line number letter f) }
     {
         self.put_head(number, letter);
-        self.put_spaced(f.kind as u16);
+        self.put_spaced(u16::from(f.kind));
         self.put_hexes(&f.bytes);
         self.put_byte(NEWLINE);
     }
@@ -64,7 +64,7 @@ impl Page<'_> {
     {
         self.put_head(number, SENDER);
         self.put_text(b" failed");
-        self.put_spaced(cause as u16);
+        self.put_spaced(u16::from(cause));
         self.put_spaced(ticks);
         self.put_spaced(frames);
         self.put_byte(NEWLINE);
@@ -85,7 +85,7 @@ impl Page<'_> {
     {
         self.put_head(number, RECEIVER);
         self.put_text(b" failed");
-        self.put_spaced(cause as u16);
+        self.put_spaced(u16::from(cause));
         self.put_byte(NEWLINE);
     }
 
@@ -103,7 +103,7 @@ impl Page<'_> {
         ensures { Puts self.old self.new (refused_text number) }
     {
         self.put_text(b"refused");
-        self.put_spaced(number as u16);
+        self.put_spaced(u16::from(number));
         self.put_byte(NEWLINE);
     }
 

@@ -5,8 +5,7 @@ ghost use Rattle.text.specs.Text.{glyph, digits_in, hex_glyph, spaced, hexes};
 
 use crate::page::Page;
 
-// Written here and not by `write!`: what is promised is document 01's text, byte by byte, of a page that may be full, and there is
-// no heap for a `String`.
+// What stands before each number and each byte.
 const SPACE: u8 = b' ';
 
 fn digit(n: u16) -> u8

@@ -4,7 +4,11 @@ use Prim.Native.Nat.{ℕ}
 use mathlib.Core.List.{List}
 use mathlib.Core.Path.{◌≡◌, refl, subst}
 use native.Mathlib.Omega.{arith}
-use Rattle.frame.specs.Result.{Result, accepted, refused}
+use Rattle.std.specs.Prelude.{Ok, Err}
+use Rattle.std.specs.Result.{IsErrAnd}
+use Rattle.std.specs.declared.result.Result as answers
+use Rattle.frame.specs.Result.{Result, accepted, refused, number_of, told_result}
+use Rattle.frame.specs.declared.refusal.Refusal.{Refusal}
 use Rattle.line.specs.Ring.{frames_from, frames_in, empty_of}
 use Rattle.line.specs.declared.Ring.{Ring}
 use Rattle.receiver.specs.Make as receiver-making
@@ -15,6 +19,12 @@ use Rattle.transport.specs.Answer.{world_of}
 use Rattle.transport.specs.Make.{joined, make_of}
 use Rattle.transport.specs.World.{start_of}
 use Rattle.transport.specs.declared.Ends.{Ends}
+
+-- a `?` hands a refusal on
+pub handed_on : {A : Type 0} (r : answers.Result A Refusal) (refusal : Refusal) {x : Result A} → IsErrAnd r (λ y. y ≡ refusal)
+    → refused (number_of refusal) ≡ x → told_result r ≡ x
+handed_on (Ok a) refusal h e = absurd h
+handed_on (Err y) refusal h e = rw h e
 
 module _ (gap timeout limit patience window capacity : ℕ) where
   pub no_sender_lem : (number : ℕ) → refused number ≡ sender-making.make_of gap timeout limit

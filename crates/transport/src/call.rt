@@ -17,9 +17,11 @@ ghost use Rattle.transport.specs.World.{
   lose_back,
 };
 
-use crate::{Answer, Ends, LINE};
+use crate::{Answer, Ends};
+use line::LINE;
 
-// Each call is written out, also where two differ in the call alone: what it calls and what it promises is all that it has.
+// Each call is written out, also where two differ in the call alone: what it calls and what it promises is all that it has. (A
+// hearing tests the lines itself, before the receiver writes into the lent buffer and a heard frame is taken away.)
 impl Ends {
     // Begins a message.
     pub fn begin(self, message: &[u8], forward: &mut [u8]) -> Answer
@@ -29,9 +31,6 @@ impl Ends {
             (world_of self forward.old back buffer)
             (begin message.now) }
     {
-        let Some(forward) = forward.as_mut_array::<LINE>() else {
-            return self.unheard();
-        };
         let a = self.sender.begin(message);
         self.sender_spoke(a, forward)
     }
@@ -44,9 +43,6 @@ impl Ends {
             (world_of self forward.old back buffer)
             (sender_tick message.now) }
     {
-        let Some(forward) = forward.as_mut_array::<LINE>() else {
-            return self.unheard();
-        };
         let a = self.sender.tick(message);
         self.sender_spoke(a, forward)
     }
@@ -59,9 +55,6 @@ impl Ends {
             (world_of self forward back.old buffer)
             receiver_tick }
     {
-        let Some(back) = back.as_mut_array::<LINE>() else {
-            return self.unheard();
-        };
         let a = self.receiver.tick();
         self.receiver_spoke(a, back)
     }
@@ -74,9 +67,6 @@ impl Ends {
             (world_of self forward back.old buffer)
             hold }
     {
-        let Some(back) = back.as_mut_array::<LINE>() else {
-            return self.unheard();
-        };
         let a = self.receiver.hold();
         self.receiver_spoke(a, back)
     }
@@ -89,15 +79,12 @@ impl Ends {
             (world_of self forward back.old buffer)
             resume }
     {
-        let Some(back) = back.as_mut_array::<LINE>() else {
-            return self.unheard();
-        };
         let a = self.receiver.resume();
         self.receiver_spoke(a, back)
     }
 
     // The first frame of forward is heard, if there is one: taken away where `takes` is true (hear), else kept
-    // (repeat). One function for both, since its promise is.
+    // (repeat). One function for both, since one promise speaks of both.
     pub fn hear_forward(
         self,
         takes: bool,

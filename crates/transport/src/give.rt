@@ -5,9 +5,11 @@ ghost use Rattle.transport.specs.Answer.{world_of, told, answer_of};
 ghost use Rattle.transport.specs.Capped.{capped_step};
 ghost use Rattle.transport.specs.World.{repeat_forward, lose_forward, repeat_back, lose_back};
 
-use crate::{Answer, Ends, LINE};
+use crate::{Answer, Ends};
+use line::LINE;
 
 impl Ends {
+    #[tactic(auto, using(crate::proofs::Calls::losses))]
     pub(crate) fn without_forward(self) -> Ends
         ensures { (forward back buffer : List ℕ) →
             world_of result forward back buffer
@@ -19,6 +21,7 @@ impl Ends {
         }
     }
 
+    #[tactic(auto, using(crate::proofs::Calls::losses))]
     pub(crate) fn without_back(self) -> Ends
         ensures { (forward back buffer : List ℕ) →
             world_of result forward back buffer

@@ -11,9 +11,6 @@ use line::Ring;
 use receiver::Receiver;
 use sender::Sender;
 
-// A line's 64 places of nine bytes: the number that this crate's promises name, as the line's own do.
-const LINE: usize = 576;
-
 // Both ends, and both directions of the line as rings in lent bytes.
 #[derive(Clone, Copy)]
 pub struct Ends {
@@ -24,7 +21,7 @@ pub struct Ends {
 }
 
 // What the called end said: the frame that it emitted, if it did, and what it reported; the outcome of an end that was not
-// called is quiet.
+// called is quiet. Both stand, as `Told` of the definitions has them.
 #[derive(Clone, Copy)]
 pub struct Said {
     pub frame: Option<Frame>,

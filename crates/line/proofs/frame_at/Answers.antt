@@ -4,4 +4,4 @@ use Rattle.line.proofs.Laws.{nine_read}
 use Rattle.line.proofs.frame_at.Goals as goal
 
 pub returns : goal.returns
-returns c = nine_read _ _ _ c.told-places c.requires c.copy_from_slice.ensures.after
+returns c = simp c.from-at.ensures (nine_read _ _ _ c.told-places c.requires (simp c.from-at.ensures at c.copy_from_slice.ensures.after))

@@ -5,4 +5,4 @@ use Rattle.line.proofs.Laws.{nine_stored}
 use Rattle.line.proofs.store.Goals as goal
 
 pub returns : goal.returns
-returns c = nine_stored _ _ _ _ c.told-places c.requires (search rules) c.copy_from_slice.ensures.after
+returns c = simp c.from-at.ensures (nine_stored _ _ _ _ c.told-places c.requires (search rules) c.copy_from_slice.ensures.after)

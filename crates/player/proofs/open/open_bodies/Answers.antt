@@ -1,12 +1,11 @@
-use Rattle.std.proofs.lemmas.Result.{err_from_is_err_and}
 use Rattle.player.proofs.Calls.{no_ends, with_ends}
+use Rattle.transport.proofs.Making.{handed_on}
 use Rattle.player.proofs.open.open_bodies.Goals as goal
 
 pub returns-in_err-ends : goal.returns-in_err-ends
 returns-in_err-ends c =
-    let p = err_from_is_err_and c.from_residual.result c.from_residual.ensures.1 in
     let made = simp (c.from.ensures, c.from-2.ensures) at c.in_err-ends.ensures in
-    rw (p.1, p.2) (no_ends _ _ _ made)
+    handed_on _ _ c.from_residual.ensures.1 (no_ends _ _ _ made)
 
 pub returns : goal.returns
 returns c =

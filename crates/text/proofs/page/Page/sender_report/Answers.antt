@@ -21,4 +21,4 @@ unfolding sender_report
 returns-in-Failed c =
     let named : c.into.result ≡ cause_of c.in-Failed.cause = cc in
     rw c.in-Failed.is
-      (puts_as (ap (λ cause. failed_line c.args.number cause c.in-Failed.ticks c.in-Failed.frames) named) c.failed_line.ensures)
+    (puts_as (ap (λ cause. failed_line c.args.number cause c.in-Failed.ticks c.in-Failed.frames) named) c.failed_line.ensures)
