@@ -1,6 +1,6 @@
 -- Laws on the definitions of specs/ that the functions' proofs cite.
 -- Assumes nothing.
-use Prim.Native.Nat.{ℕ, zero, suc, ◌+◌, ◌≤◌}
+use Prim.Native.Nat.{ℕ, ◌+◌, ◌≤◌}
 use mathlib.Core.Path.{◌≡◌, refl, sym, ap, ◌∙◌}
 use mathlib.Core.Bool.{Bool, true, false, ◌&&◌, and-true}
 use mathlib.Core.List.{List, [], ◌∷◌, ◌++◌, append_assoc, append-nil}
@@ -17,16 +17,14 @@ use Rattle.frame.specs.Result.{accepted, refused, number_of, told_result}
 use Rattle.frame.specs.declared.refusal.Refusal.{Refusal}
 use Rattle.groups.specs.Format.{size_of, sizes_of, value_of, bytes_of, fields_of, group_of, group_from, bytes_for, kinds_of, values, allowed, row_allows}
 use Rattle.groups.specs.Reading.{judged, read_row, read_by, read_in, read_of}
-use Rattle.groups.specs.Table.{kind_at, rows, find_of}
-use Rattle.groups.specs.Words.{width_from, sender_from}
+use Rattle.groups.specs.Table.{kind_at, IsNumbered, rows, find_of}
 use Rattle.groups.specs.Writing.{outcome, write_row, write_by, write_in, write_of}
 use Rattle.groups.specs.declared.Group.{Group}
 use Rattle.groups.specs.declared.Kind.{Kind}
 use Rattle.groups.specs.declared.Row.{Row}
-use Rattle.groups.specs.declared.Sender.TheVariants.{Vehicle}
 use Rattle.groups.specs.declared.Width.{Width}
 use Rattle.groups.specs.declared.Width.TheVariants.{None, Byte, Word}
-use Rattle.groups.proofs.Rows.{rows_fit, known}
+use Rattle.groups.proofs.Rows.{rows_fit, known, numbered}
 
 -- A field has as many bytes as its width says.
 pub field_length : (w : Width) (v : ℕ) → length (bytes_of w v) ≡ size_of w
@@ -62,31 +60,31 @@ store_all_lem (k ∷ ks) (v ∷ vs) pre rest e h =
     ∙ rw (append_assoc pre b (fields_of ks vs), drop-drop (sizes_of ks) (length b) rest, size))
 
 -- The code and four fields, stored over eight bytes of filler, are the group's bytes.
-pub store_whole : (x : Row) (g : Group) {n m l size : ℕ} {filled one two three four : List ℕ} → size ≡ 8
-    → sizes_of (kinds_of x) ≤ 7 → filled ≡ replicate size 255
-    → one ≡ sets (set filled 0 g.code) 1 (bytes_of (kind_at x.first).width g.first) → n ≡ 1 + size_of (kind_at x.first).width
-    → two ≡ sets one n (bytes_of (kind_at x.second).width g.second) → m ≡ n + size_of (kind_at x.second).width
-    → three ≡ sets two m (bytes_of (kind_at x.third).width g.third) → l ≡ m + size_of (kind_at x.third).width
-    → four ≡ sets three l (bytes_of (kind_at x.fourth).width g.fourth) → four ≡ bytes_for g.code (kinds_of x) (values g)
+pub store_whole : (x : Row) (g : Group) {p q r t : Kind} {n m l size : ℕ} {filled one two three four : List ℕ} → size ≡ 8
+    → sizes_of (kinds_of x) ≤ 7 → p ≡ kind_at x.first → q ≡ kind_at x.second → r ≡ kind_at x.third → t ≡ kind_at x.fourth
+    → filled ≡ replicate size 255 → one ≡ sets (set filled 0 g.code) 1 (bytes_of p.width g.first) → n ≡ 1 + size_of p.width
+    → two ≡ sets one n (bytes_of q.width g.second) → m ≡ n + size_of q.width
+    → three ≡ sets two m (bytes_of r.width g.third) → l ≡ m + size_of r.width
+    → four ≡ sets three l (bytes_of t.width g.fourth) → four ≡ bytes_for g.code (kinds_of x) (values g)
 unfolding bytes_for
-store_whole x g {four = four} eight fit h0 h1 e1 h2 e2 h3 e3 h4 =
+store_whole x g {four = four} eight fit hp hq hr ht h0 h1 e1 h2 e2 h3 e3 h4 =
     let all : four ≡ store_all (kinds_of x) (values g) 1 (g.code ∷ replicate 7 255) =
-    rw (h4, e3, h3, e2, h2, e1, h1, h0, eight) in
+    rw (h4, e3, h3, e2, h2, e1, h1, h0, eight, hp, hq, hr, ht) in
     all
     ∙ store_all_lem (kinds_of x) (values g) (g.code ∷ []) (replicate 7 255) refl fit
     ∙ rw (drop-replicate {X = ℕ} (sizes_of (kinds_of x)) 7 255)
 
 -- Four values one after the other, each from the place where the field before it ends.
-pub group_whole : (x : Row) (s : List ℕ) {code n m l a b c d : ℕ} → a ≡ value_of (kind_at x.first).width (drop 1 s)
-    → n ≡ 1 + size_of (kind_at x.first).width → b ≡ value_of (kind_at x.second).width (drop n s)
-    → m ≡ n + size_of (kind_at x.second).width → c ≡ value_of (kind_at x.third).width (drop m s)
-    → l ≡ m + size_of (kind_at x.third).width → d ≡ value_of (kind_at x.fourth).width (drop l s)
+pub group_whole : (x : Row) (s : List ℕ) {p q r t : Kind} {code n m l a b c d : ℕ} → p ≡ kind_at x.first
+    → q ≡ kind_at x.second → r ≡ kind_at x.third → t ≡ kind_at x.fourth → a ≡ value_of p.width (drop 1 s)
+    → n ≡ 1 + size_of p.width → b ≡ value_of q.width (drop n s) → m ≡ n + size_of q.width → c ≡ value_of r.width (drop m s)
+    → l ≡ m + size_of r.width → d ≡ value_of t.width (drop l s)
     → group_of code (a ∷ b ∷ c ∷ d ∷ []) ≡ group_from code (kinds_of x) s
 unfolding group_from
-group_whole x s {n = n} {m = m} ha en hb em hc el hd =
-    let sb = drop-drop (size_of (kind_at x.first).width) 1 s in
-    let sc = drop-drop (size_of (kind_at x.second).width) n s in
-    let sd = drop-drop (size_of (kind_at x.third).width) m s in
+group_whole x s {p} {q} {r} {n = n} {m = m} hp hq hr ht ha en hb em hc el hd =
+    let sb = drop-drop (size_of p.width) 1 s in
+    let sc = drop-drop (size_of q.width) n s in
+    let sd = drop-drop (size_of r.width) m s in
     cc
 
 -- A row allows a group's values where the kind of each does.
@@ -100,19 +98,6 @@ row_allowed x g {a} {b} {c} {d} ea eb ec ed = rw (← ea, ← eb, ← ec, ← ed
     go true true = refl
     go true false = refl
     go false b = refl
-
--- A width that is neither a byte's nor a word's, and a sender that is not the charger.
-pub width_none : (n : ℕ) → (n ≡ 1 → ⊥) → (n ≡ 2 → ⊥) → None ≡ width_from n
-unfolding width_from
-width_none zero h k = refl
-width_none (suc zero) h k = absurd (h refl)
-width_none (suc (suc zero)) h k = absurd (k refl)
-width_none (suc (suc (suc n))) h k = refl
-
-pub sender_vehicle : (n : ℕ) → (n ≡ 0 → ⊥) → Vehicle ≡ sender_from n
-unfolding sender_from
-sender_vehicle zero h = absurd (h refl)
-sender_vehicle (suc n) h = refl
 
 -- Reading goes by the length, the code's row, the filler and the values.
 module _ (s : List ℕ) where
@@ -165,6 +150,11 @@ module _ (g : Group) (s : List ℕ) where
 pub row_sizes : (code : ℕ) {found : answers.Result Row Refusal} {x : Row} → told_result found ≡ find_of code → found ≡ Ok x
     → sizes_of (kinds_of x) ≤ 7
 row_sizes code {found} {x} f e = (known rows rows_fit code x (sym f ∙ ap told_result e)).small
+
+-- The numbers of a row that is found are 0 or of kinds.
+pub row_numbered : (code : ℕ) {found : answers.Result Row Refusal} {x : Row} → told_result found ≡ find_of code
+    → found ≡ Ok x → IsNumbered x
+row_numbered code {found} {x} f e = numbered code x (sym f ∙ ap told_result e)
 
 pub ruleset reading = (read_length, read_unknown, read_unfilled, read_fine, read_value)
 

@@ -1,4 +1,4 @@
-pub mod Words
+pub mod Tables
 pub mod Rows
 pub mod Laws
 pub mod Inverse

@@ -9,6 +9,7 @@ use mathlib.Core.Logic.{◌⊎◌, inl, inr, ⊎_elim}
 use borrow.Author.Tests.{eq-eqb, le-leb, leb-true, eqb-true}
 use lib.Dec.{eqb, leb}
 use lib.ListN.{length, get_or, drop}
+use Rattle.std.specs.List.{list_all}
 use Rattle.frame.specs.Choice.{pick}
 use Rattle.frame.specs.Reading.{all_filler}
 use Rattle.frame.specs.Result.{accepted, refused}
@@ -22,7 +23,6 @@ use Rattle.groups.specs.declared.Row.{Row}
 use Rattle.groups.specs.declared.Width.{Width}
 use Rattle.groups.specs.declared.Width.TheVariants.{None, Byte, Word}
 use Rattle.groups.proofs.Rows.{at_code, one_of}
-use Rattle.groups.proofs.Words.{every}
 
 -- A value is in the range of a kind or is one of its marks; values are so, each of its own kind.
 abbrev pub InRange : Kind → ℕ → Type 0
@@ -117,7 +117,7 @@ any_marked (k ∷ ks) = marked k.width k || any_marked ks
 abbrev missing_test : Row → Bool
 missing_test x = beq (any_marked (kinds_of x)) (eqb x.code 0x77)
 
-missing_tested : every missing_test rows ≡ true
+missing_tested : list_all missing_test rows ≡ true
 unfolding rows kinds kind_at kind_in pick allowed
 missing_tested = refl
 

@@ -8,15 +8,15 @@ use mathlib.Core.List.{List, [], ◌∷◌}
 use native.Mathlib.Omega.{arith}
 use borrow.Author.Tests.{ltb-true, leb-true, eqb-true}
 use lib.Dec.{eqb, leb, ltb}
+use Rattle.std.specs.List.{list_all}
 use Rattle.frame.specs.Choice.{pick}
 use Rattle.frame.specs.Result.{accepted}
 use Rattle.groups.specs.Format.{sizes_of, kinds_of, allowed, all_allowed, row_allows}
-use Rattle.groups.specs.Table.{kinds, kind_in, kind_at, rows, find_in}
+use Rattle.groups.specs.Table.{kinds, kind_in, kind_at, pause, IsNumbered, rows, find_in, find_of}
 use Rattle.groups.specs.declared.Kind.{Kind}
 use Rattle.groups.specs.declared.Row.{Row}
 use Rattle.groups.specs.declared.Width.{Width}
 use Rattle.groups.specs.declared.Width.TheVariants.{None, Byte, Word}
-use Rattle.groups.proofs.Words.{every}
 
 -- A test that passes at every row passes at the row that is found, whose code is the one that was looked for: the first row
 -- has it, or the search goes on.
@@ -32,12 +32,33 @@ module _ (test : Row → Bool) (code : ℕ) (x : Row) where
       (ap test (sym row) ∙ here, ap (λ (y : Row). y.code) (sym row) ∙ eqb-true y.code code same)
   at_row y rest false same here there e = there e
 
-  pub at_code : (table : List Row) → every test table ≡ true → find_in code table ≡ accepted x → Tested
+  pub at_code : (table : List Row) → list_all test table ≡ true → find_in code table ≡ accepted x → Tested
   unfolding find_in
   at_code [] h e = cc
   at_code (y ∷ rest) h e =
-      let both = (and-eq-true_iff (test y) (every test rest)).0 h in
+      let both = (and-eq-true_iff (test y) (list_all test rest)).0 h in
       at_row y rest (eqb y.code code) refl both.0 (at_code rest both.1) e
+
+-- The numbers of a row of document 01's table are 0 or of kinds.
+abbrev numbered_test : Row → Bool
+numbered_test x = leb x.first pause && leb x.second pause && leb x.third pause && leb x.fourth pause
+
+rows_numbered : list_all numbered_test rows ≡ true
+unfolding rows
+rows_numbered = refl
+
+pub numbered : (code : ℕ) (x : Row) → find_of code ≡ accepted x → IsNumbered x
+numbered code x e =
+    let at = at_code numbered_test code x rows rows_numbered e in
+    let four = (and-eq-true_iff (leb x.first pause && leb x.second pause && leb x.third pause) (leb x.fourth pause)).0 at.0 in
+    let three = (and-eq-true_iff (leb x.first pause && leb x.second pause) (leb x.third pause)).0 four.0 in
+    let two = (and-eq-true_iff (leb x.first pause) (leb x.second pause)).0 three.0 in
+    record {
+      first = leb-true _ _ two.0;
+      second = leb-true _ _ two.1;
+      third = leb-true _ _ three.1;
+      fourth = leb-true _ _ four.1;
+    }
 
 -- One more than the highest number in a field of a width.
 abbrev pub room : Width → ℕ
@@ -53,10 +74,10 @@ kind_fits k =
 -- A table is fit to be read and written by: the fields of each row and its code fill its length, which is at most eight, and
 -- the kinds of its fields fit their widths.
 abbrev row_fits : Row → Bool
-row_fits x = eqb (1 + sizes_of (kinds_of x)) x.length && leb x.length 8 && every kind_fits (kinds_of x)
+row_fits x = eqb (1 + sizes_of (kinds_of x)) x.length && leb x.length 8 && list_all kind_fits (kinds_of x)
 
 abbrev pub Fits : List Row → Type 0
-Fits table = every row_fits table ≡ true
+Fits table = list_all row_fits table ≡ true
 
 -- Document 01's is.
 pub rows_fit : Fits rows
@@ -66,14 +87,14 @@ rows_fit = refl
 pub record Known (x : Row) : Type 0 where
   pub filled : 1 + sizes_of (kinds_of x) ≡ x.length
   pub small : sizes_of (kinds_of x) ≤ 7
-  pub fitting : every kind_fits (kinds_of x) ≡ true
+  pub fitting : list_all kind_fits (kinds_of x) ≡ true
 
 pub known : (table : List Row) → Fits table → (code : ℕ) (x : Row) → find_in code table ≡ accepted x
     → Known x
 known table fit code x e =
     let at = at_code row_fits code x table fit e in
     let fill : Bool = eqb (1 + sizes_of (kinds_of x)) x.length in
-    let all = (and-eq-true_iff (fill && leb x.length 8) (every kind_fits (kinds_of x))).0 at.0 in
+    let all = (and-eq-true_iff (fill && leb x.length 8) (list_all kind_fits (kinds_of x))).0 at.0 in
     let both = (and-eq-true_iff fill (leb x.length 8)).0 all.0 in
     let filled : 1 + sizes_of (kinds_of x) ≡ x.length = eqb-true _ _ both.0 in
     let short : x.length ≤ 8 = leb-true _ _ both.1 in
@@ -107,11 +128,11 @@ Fit (k ∷ ks) [] = Unit
 Fit (k ∷ ks) (v ∷ vs) = (v < room k.width) × Fit ks vs
 
 -- if kinds that fit allow them,
-fit_all : (ks : List Kind) (vs : List ℕ) → every kind_fits ks ≡ true → all_allowed ks vs ≡ true → Fit ks vs
+fit_all : (ks : List Kind) (vs : List ℕ) → list_all kind_fits ks ≡ true → all_allowed ks vs ≡ true → Fit ks vs
 fit_all [] vs h a = tt
 fit_all (k ∷ ks) [] h a = tt
 fit_all (k ∷ ks) (v ∷ vs) h a =
-    let fit = (and-eq-true_iff (kind_fits k) (every kind_fits ks)).0 h in
+    let fit = (and-eq-true_iff (kind_fits k) (list_all kind_fits ks)).0 h in
     let fine = (and-eq-true_iff (allowed k v) (all_allowed ks vs)).0 a in
     (allowed_fits k v fit.0 fine.0, fit_all ks vs fit.1 fine.1)
 

@@ -1,5 +1,4 @@
 pub mod Table
-pub mod Words
 pub mod Format
 pub mod Reading
 pub mod Writing

@@ -1,6 +1,6 @@
 -- The two tables. Source document 001, table H.2 (which end sends a group, and whether its receipt is confirmed), tables
 -- H.3 to H.11 (each group's fields); document 01, Around the transport, Groups (lengths, senders, reliability, marks).
-use Rattle.std.specs.Prelude.{ℕ, Bool, true, false, List, [], ◌∷◌, eqb}
+use Rattle.std.specs.Prelude.{ℕ, ◌≤◌, Bool, true, false, List, [], ◌∷◌, eqb}
 use Rattle.frame.specs.Choice.{pick}
 use Rattle.frame.specs.Result.{Result, accepted, refused}
 use Rattle.groups.specs.declared.Kind.{Kind}
@@ -99,6 +99,13 @@ row code length sender confirmed first second third fourth =
       third = third;
       fourth = fourth;
     }
+
+-- The numbers of a row are 0 or of kinds, of which the last is the highest.
+pub record IsNumbered (x : Row) : Type 0 where
+  pub first : x.first ≤ pause
+  pub second : x.second ≤ pause
+  pub third : x.third ≤ pause
+  pub fourth : x.fourth ≤ pause
 
 -- The groups: document 01, Around the transport, Groups, for code, length, sender and reliability; 001, tables H.3 to H.11,
 -- for the fields and their order.

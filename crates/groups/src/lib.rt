@@ -6,16 +6,13 @@ ghost use Rattle.frame.specs.Result.{told_result};
 ghost use Rattle.groups.specs.Table.{find_of};
 ghost use Rattle.groups.specs.Format.{size_of};
 
-use crate::table::row_at;
+use crate::table::GROUPS;
 use frame::Refusal;
 
 mod judge;
 pub mod read;
 mod table;
 pub mod write;
-
-// What is written into the bytes after a group's own length. Reading judges them by the frames' `all_filler`; edits/ tries this one.
-const FILLER: u8 = 0xFF;
 
 // How many bytes a field has: none, where a group has no such field, one, or two, low byte first.
 #[derive(Clone, Copy)]
@@ -82,5 +79,9 @@ impl Width {
 pub fn find(code: u8) -> Result<Row, Refusal>
     ensures { told_result result ≡ find_of code }
 {
-    row_at(code).ok_or(Refusal::Group)
+    GROUPS
+        .iter()
+        .copied()
+        .find(|row| row.code == code)
+        .ok_or(Refusal::Group)
 }

@@ -3,7 +3,7 @@ ghost use Rattle.std.specs.Prelude.{◌≡◌, ◌+◌, ◌≤◌, get_or, drop}
 ghost use Rattle.frame.specs.Result.{told_result};
 ghost use Rattle.groups.specs.Format.{kinds_of, size_of, value_of, group_from};
 ghost use Rattle.groups.specs.Reading.{read_of};
-ghost use Rattle.groups.specs.Table.{kind_at};
+ghost use Rattle.groups.specs.Table.{IsNumbered};
 
 use crate::judge::row_allows;
 use crate::table::kind_at;
@@ -19,14 +19,13 @@ fn byte_at(bytes: &[u8], at: usize) -> u8
     bytes.get(at).copied().unwrap_or(0)
 }
 
-// The value of a field of a kind that starts at a place, and the place behind it.
-fn value_at(bytes: &[u8], at: usize, kind: usize) -> (u16, usize)
+// The value of a field that starts at a place, and the place behind it.
+fn value_at(bytes: &[u8], at: usize, width: Width) -> (u16, usize)
     requires { at ≤ 7 }
-    ensures value { result.0 ≡ value_of (kind_at kind).width (drop at bytes.now) }
-    ensures behind { result.1 ≡ at + size_of (kind_at kind).width }
+    ensures value { result.0 ≡ value_of width (drop at bytes.now) }
+    ensures behind { result.1 ≡ at + size_of width }
     ensures near { result.1 ≤ at + 2 }
 {
-    let width = kind_at(kind).width;
     let value = match width {
         Width::None => 0,
         Width::Byte => u16::from(byte_at(bytes, at)),
@@ -36,13 +35,15 @@ fn value_at(bytes: &[u8], at: usize, kind: usize) -> (u16, usize)
 }
 
 // The code and the fields, one after the other from place 1 on.
+#[tactic(auto, using(crate::proofs::Laws::group_whole))]
 fn group_at(bytes: &[u8], code: u8, row: Row) -> Group
+    requires { IsNumbered row }
     ensures { result ≡ group_from code (kinds_of row) bytes.now }
 {
-    let (first, at) = value_at(bytes, 1, row.first);
-    let (second, at) = value_at(bytes, at, row.second);
-    let (third, at) = value_at(bytes, at, row.third);
-    let (fourth, _) = value_at(bytes, at, row.fourth);
+    let (first, at) = value_at(bytes, 1, kind_at(row.first).width);
+    let (second, at) = value_at(bytes, at, kind_at(row.second).width);
+    let (third, at) = value_at(bytes, at, kind_at(row.third).width);
+    let (fourth, _) = value_at(bytes, at, kind_at(row.fourth).width);
     Group {
         code,
         first,
@@ -53,6 +54,7 @@ fn group_at(bytes: &[u8], code: u8, row: Row) -> Group
 }
 
 // The group in eight lent bytes: refusal 9 for the length, the code and the filler, then 10 for a value.
+#[tactic(auto, using(crate::proofs::Laws::reading, crate::proofs::Laws::row_numbered))]
 pub fn read(bytes: &[u8]) -> Result<Group, Refusal>
     ensures { told_result result ≡ read_of bytes.now }
 {
