@@ -19,7 +19,7 @@ use std::io::{Read, Write};
 // A pack has at most 65535 bytes: one more is read, so that a longer input is seen to be none.
 const MOST: usize = 65536;
 
-// The receiving buffer has room for the longest message.
+// The receiving buffer has room for the longest message. (By `as`: a constant calls no `from`.)
 const BUFFER: usize = frame::LONGEST as usize;
 
 // So many calls of play finish every pack (`PrintsPlayed` in crates/player).
