@@ -2,7 +2,7 @@
 ghost use Rattle.std.specs.Prelude.{◌≡◌, is_some};
 ghost use Rattle.frame.specs.Cause.{cause_of};
 ghost use Rattle.frame.specs.Frames.{frame_or_blank};
-ghost use Rattle.sender.specs.Told.{told_outcome, told, failed, closing, failing_with, failing, finishing};
+ghost use Rattle.sender.specs.Told.{told_outcome, told, closing, failing_with, failing, finishing};
 
 use crate::{Answer, Outcome, Phase, Sender, Transfer};
 use frame::build::lm_nack;
@@ -21,32 +21,26 @@ impl Sender {
         }
     }
 
-    // A failure, with the counts of the transfer.
-    fn failed(self, frame: Option<Frame>, transfer: Transfer, cause: Cause) -> Answer
-        ensures { told result
-            ≡ closing self (is_some frame) (frame_or_blank frame) (failed (cause_of cause) transfer.age transfer.emitted) }
+    // A failure that emits nothing.
+    pub(crate) fn failing(self, transfer: Transfer, cause: Cause) -> Answer
+        ensures { told result ≡ failing self transfer (cause_of cause) }
     {
         let outcome = Outcome::Failed {
             cause,
             ticks: transfer.age,
             frames: transfer.emitted,
         };
-        self.closing(frame, outcome)
+        self.closing(None, outcome)
     }
 
     // A failure that emits the NACK of its cause, and counts it.
     pub(crate) fn failing_with(self, transfer: Transfer, cause: Cause) -> Answer
         ensures { told result ≡ failing_with self transfer (cause_of cause) }
     {
-        let frame = lm_nack(u8::from(cause));
-        self.failed(Some(frame), transfer.counted(), cause)
-    }
-
-    // A failure that emits nothing.
-    pub(crate) fn failing(self, transfer: Transfer, cause: Cause) -> Answer
-        ensures { told result ≡ failing self transfer (cause_of cause) }
-    {
-        self.failed(None, transfer, cause)
+        Answer {
+            frame: Some(lm_nack(u8::from(cause))),
+            ..self.failing(transfer.counted(), cause)
+        }
     }
 
     // The message has been acknowledged whole.
