@@ -81,20 +81,7 @@ impl Receiver {
         Receiver { phase, ..self }
     }
 
-    // The answers of each kind. Each is written out: a promise of what is told does not give the fields that `..` would copy.
-
-    // A refusal, no frame.
-    pub(crate) fn refusing(self, refusal: Refusal) -> Answer
-        ensures { told result ≡ refusing self (number_of refusal) }
-    {
-        Answer {
-            next: self,
-            frame: None,
-            outcome: Outcome::Refused(refusal),
-        }
-    }
-
-    // The state alone.
+    // The state alone. (The other answers differ from it, or from one another, in a field or two.)
     pub(crate) fn silently(self) -> Answer
         ensures { told result ≡ silently self }
     {
@@ -105,14 +92,23 @@ impl Receiver {
         }
     }
 
+    // A refusal, no frame.
+    pub(crate) fn refusing(self, refusal: Refusal) -> Answer
+        ensures { told result ≡ refusing self (number_of refusal) }
+    {
+        Answer {
+            outcome: Outcome::Refused(refusal),
+            ..self.silently()
+        }
+    }
+
     // The state and a frame.
     pub(crate) fn emitting(self, frame: Frame) -> Answer
         ensures { told result ≡ emitting self frame }
     {
         Answer {
-            next: self,
             frame: Some(frame),
-            outcome: Outcome::Quiet,
+            ..self.silently()
         }
     }
 
@@ -121,42 +117,28 @@ impl Receiver {
         ensures { told result ≡ delivering self frame length }
     {
         Answer {
-            next: self,
-            frame: Some(frame),
             outcome: Outcome::Delivered(length),
+            ..self.emitting(frame)
         }
     }
 
-    // A failure that emits the NACK of its cause. The last delivery is forgotten.
-    pub(crate) fn failing_with(self, cause: Cause) -> Answer
-        ensures { told result ≡ failing_with self (cause_of cause) }
-    {
-        Answer {
-            next: self.in_phase(Phase::Idle),
-            frame: Some(lm_nack(u8::from(cause))),
-            outcome: Outcome::Failed(cause),
-        }
-    }
-
-    // A failure that emits nothing.
+    // A failure that emits nothing. The last delivery is forgotten.
     pub(crate) fn failing(self, cause: Cause) -> Answer
         ensures { told result ≡ failing self (cause_of cause) }
     {
         Answer {
-            next: self.in_phase(Phase::Idle),
-            frame: None,
             outcome: Outcome::Failed(cause),
+            ..self.in_phase(Phase::Idle).silently()
         }
     }
 
-    // A short delivery and a frame.
-    pub(crate) fn short_with(self, frame: Frame, bytes: [u8; 8]) -> Answer
-        ensures { told result ≡ short_with self frame bytes }
+    // A failure that emits the NACK of its cause.
+    pub(crate) fn failing_with(self, cause: Cause) -> Answer
+        ensures { told result ≡ failing_with self (cause_of cause) }
     {
         Answer {
-            next: self,
-            frame: Some(frame),
-            outcome: Outcome::Short(bytes),
+            frame: Some(lm_nack(u8::from(cause))),
+            ..self.failing(cause)
         }
     }
 
@@ -165,9 +147,18 @@ impl Receiver {
         ensures { told result ≡ short_only self bytes }
     {
         Answer {
-            next: self,
-            frame: None,
             outcome: Outcome::Short(bytes),
+            ..self.silently()
+        }
+    }
+
+    // A short delivery and a frame.
+    pub(crate) fn short_with(self, frame: Frame, bytes: [u8; 8]) -> Answer
+        ensures { told result ≡ short_with self frame bytes }
+    {
+        Answer {
+            frame: Some(frame),
+            ..self.short_only(bytes)
         }
     }
 }

@@ -96,18 +96,7 @@ impl Sender {
         Sender { phase, ..self }
     }
 
-    // A refusal: why, no frame and no report. Public for the summary, whose calls refuse counts lent with another length.
-    pub fn refusing(self, refusal: Refusal) -> Answer
-        ensures { told result ≡ refusing self (number_of refusal) }
-    {
-        Answer {
-            next: self,
-            frame: None,
-            outcome: Outcome::Refused(refusal),
-        }
-    }
-
-    // The state alone.
+    // The state alone. (The other answers differ from it in a field.)
     pub(crate) fn silently(self) -> Answer
         ensures { told result ≡ silently self }
     {
@@ -118,14 +107,23 @@ impl Sender {
         }
     }
 
+    // A refusal: why, no frame and no report. Public for the summary, whose calls refuse counts lent with another length.
+    pub fn refusing(self, refusal: Refusal) -> Answer
+        ensures { told result ≡ refusing self (number_of refusal) }
+    {
+        Answer {
+            outcome: Outcome::Refused(refusal),
+            ..self.silently()
+        }
+    }
+
     // The state and a frame.
     pub(crate) fn emitting(self, frame: Frame) -> Answer
         ensures { told result ≡ emitting self frame }
     {
         Answer {
-            next: self,
             frame: Some(frame),
-            outcome: Outcome::Quiet,
+            ..self.silently()
         }
     }
 }
