@@ -8,13 +8,16 @@ use native.Mathlib.Omega.{arith}
 use borrow.Author.Tests.{eq-eqb, ne_eqb}
 use lib.ListN.{length, get_or, drop, set, replicate, length-append, length-drop}
 use lib.Seq.{sets, sets-eq, drop-drop, take-append_seam, drop-append-add}
+use Rattle.std.specs.Result.{result_or}
 use Rattle.std.proofs.lemmas.List.{drop-replicate}
 use Rattle.std.specs.Prelude.{Ok, Err}
 use Rattle.std.specs.declared.result.Result as answers
+use Rattle.frame.proofs.Told.{refusal_at, number_injective}
 use Rattle.frame.specs.Choice.{pick}
 use Rattle.frame.specs.Reading.{all_filler}
 use Rattle.frame.specs.Result.{accepted, refused, number_of, told_result}
 use Rattle.frame.specs.declared.refusal.Refusal.{Refusal}
+use Rattle.frame.specs.declared.refusal.Refusal.TheVariants as refusals
 use Rattle.groups.specs.Format.{size_of, sizes_of, value_of, bytes_of, fields_of, group_of, group_from, bytes_for, kinds_of, values, allowed, row_allows}
 use Rattle.groups.specs.Reading.{judged, read_row, read_by, read_in, read_of}
 use Rattle.groups.specs.Table.{kind_at, IsNumbered, rows, find_of}
@@ -24,6 +27,7 @@ use Rattle.groups.specs.declared.Kind.{Kind}
 use Rattle.groups.specs.declared.Row.{Row}
 use Rattle.groups.specs.declared.Width.{Width}
 use Rattle.groups.specs.declared.Width.TheVariants.{None, Byte, Word}
+use Rattle.groups.proofs.Refusals.{find_numbered}
 use Rattle.groups.proofs.Rows.{rows_fit, known, numbered}
 
 -- A field has as many bytes as its width says.
@@ -145,6 +149,14 @@ module _ (g : Group) (s : List ℕ) where
       pub write_value : fine ≡ false → outcome (refused 10) s ≡ write_of g s
       unfolding write_in write_by write_row pick
       write_value k = rw (eq-eqb _ _ eight, ← f, e, ← ef, k)
+
+-- A code that is in no row is refused by 9 alone: to say so once more changes nothing.
+pub found_or : (code : ℕ) (found : answers.Result Row Refusal) → told_result found ≡ find_of code
+    → result_or found (Err refusals.Group) ≡ found
+found_or code (Ok x) f = refl
+found_or code (Err r) f =
+    let nine : number_of r ≡ 9 = find_numbered code rows (number_of r) (sym f) in
+    ap Err (sym (ap refusal_at nine) ∙ number_injective r)
 
 -- The fields of a row that is found have room in eight bytes.
 pub row_sizes : (code : ℕ) {found : answers.Result Row Refusal} {x : Row} → told_result found ≡ find_of code → found ≡ Ok x

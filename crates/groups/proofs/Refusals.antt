@@ -22,7 +22,7 @@ unfolding find_in
 find_elim P code [] row none = none
 find_elim P code (x ∷ rest) row none = pick_elim P _ (λ at. row x) (λ other. find_elim P code rest row none)
 
-find_numbered : (code : ℕ) (table : List Row) (n : ℕ) → find_in code table ≡ refused n → n ≡ 9
+pub find_numbered : (code : ℕ) (table : List Row) (n : ℕ) → find_in code table ≡ refused n → n ≡ 9
 find_numbered code table n =
     find_elim (λ (r : Result Row). r ≡ refused n → n ≡ 9) code table (λ x. λ e. cc) (λ e. cc)
 

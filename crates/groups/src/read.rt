@@ -54,7 +54,7 @@ fn group_at(bytes: &[u8], code: u8, row: Row) -> Group
 }
 
 // The group in eight lent bytes: refusal 9 for the length, the code and the filler, then 10 for a value.
-#[tactic(auto, using(crate::proofs::Laws::reading, crate::proofs::Laws::row_numbered))]
+#[tactic(auto, using(crate::proofs::Laws::reading, crate::proofs::Laws::row_numbered, crate::proofs::Laws::found_or))]
 pub fn read(bytes: &[u8]) -> Result<Group, Refusal>
     ensures { told_result result ≡ read_of bytes.now }
 {

@@ -55,7 +55,7 @@ fn store(bytes: &mut [u8], group: Group, row: Row)
 }
 
 // A group into eight lent bytes: refusal 9 for the length and the code, then 10 for a value; a refusal leaves the bytes.
-#[tactic(auto, using(crate::proofs::Laws::writing, crate::proofs::Laws::row_numbered))]
+#[tactic(auto, using(crate::proofs::Laws::writing, crate::proofs::Laws::row_numbered, crate::proofs::Laws::found_or))]
 pub fn write(group: Group, bytes: &mut [u8]) -> Result<(), Refusal>
     ensures { outcome (told_result result) bytes.new ≡ write_of group bytes.old }
 {

@@ -208,9 +208,9 @@ impl From<Outcome> for Report {
         let none = Report::default();
         match outcome {
             Outcome::Quiet => none,
-            Outcome::Refused(refusal) => Report {
+            Outcome::Refused(number) => Report {
                 outcome: 1,
-                refusal: refusal.into(),
+                refusal: number,
                 ..none
             },
             Outcome::Delivered(length) => Report {
@@ -220,7 +220,7 @@ impl From<Outcome> for Report {
             },
             Outcome::Failed(cause) => Report {
                 outcome: 3,
-                cause: cause.into(),
+                cause,
                 ..none
             },
             Outcome::Short(_) => Report { outcome: 4, ..none },

@@ -22,6 +22,7 @@ ghost use Rattle.sender.specs.Told.{told_outcome, told};
 
 use crate::answers::refusal_and_value;
 use crate::frames::FlatFrame;
+use frame::build::blank;
 use frame::{Frame, Refusal};
 use sender::{
     Announced, Answer, Awaited, Outcome, Phase, Sender, Settings, Single, Streamed, Transfer,
@@ -238,9 +239,9 @@ impl From<Outcome> for Report {
         let none = Report::default();
         match outcome {
             Outcome::Quiet => none,
-            Outcome::Refused(refusal) => Report {
+            Outcome::Refused(number) => Report {
                 outcome: 1,
-                refusal: refusal.into(),
+                refusal: number,
                 ..none
             },
             Outcome::Sent { ticks, frames } => Report {
@@ -255,7 +256,7 @@ impl From<Outcome> for Report {
                 frames,
             } => Report {
                 outcome: 3,
-                cause: cause.into(),
+                cause,
                 ticks,
                 frames,
                 ..none
@@ -264,21 +265,34 @@ impl From<Outcome> for Report {
     }
 }
 
+// What a call answers, part by part, and any of each: a frame is written where none goes out too.
+pub fn write_answer(next: Sender, emits: bool, frame: Frame, outcome: Outcome) -> FlatSenderAnswer
+    ensures { result
+        ≡ flat_answer (record { next = next; emits = emits; frame = frame; outcome = told_outcome outcome }) }
+{
+    let report = Report::from(outcome);
+    FlatSenderAnswer {
+        next: next.into(),
+        emits,
+        frame: frame.into(),
+        outcome: report.outcome,
+        refusal: report.refusal,
+        cause: report.cause,
+        ticks: report.ticks,
+        frames: report.frames,
+    }
+}
+
 impl From<Answer> for FlatSenderAnswer {
     ghost from_gives = { λ answer flat. flat ≡ flat_answer (told answer) };
 
     fn from(a: Answer) -> FlatSenderAnswer {
-        let report = Report::from(a.outcome);
-        FlatSenderAnswer {
-            next: a.next.into(),
-            emits: a.frame.is_some(),
-            frame: a.frame.into(),
-            outcome: report.outcome,
-            refusal: report.refusal,
-            cause: report.cause,
-            ticks: report.ticks,
-            frames: report.frames,
-        }
+        write_answer(
+            a.next,
+            a.frame.is_some(),
+            a.frame.unwrap_or(blank()),
+            a.outcome,
+        )
     }
 }
 

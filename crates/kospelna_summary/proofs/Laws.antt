@@ -32,15 +32,16 @@ module _ (a : FlatSenderAnswer) (t : Told) (s : Sender) (m counts : List ℕ) (a
   uncounted : kept_of s (tick m) counts ≡ kept t counts → flat_with a counts ≡ flat_kept (kept_of s (tick m) counts)
   uncounted e = rw (answered, e)
 
-  pub ticked_unlent : (r : Sender) → r ≡ s → (length counts ≡ 512 → ⊥) → t ≡ refusing r 5
+  pub ticked_unlent : (r : Sender) (number : ℕ) → r ≡ s → (length counts ≡ 512 → ⊥) → number ≡ 5 → t ≡ refusing r number
       → flat_with a counts ≡ flat_kept (kept_of s (tick m) counts)
-  ticked_unlent r read other e = uncounted (unlent_is s (tick m) counts other ∙ rw (e, read))
+  ticked_unlent r number read other five e = uncounted (unlent_is s (tick m) counts other ∙ rw (e, read, five))
 
   module _ (q r : Sender) (lent : Bool) (asked : q ≡ s) (read : r ≡ s) (full : length counts ≡ 512)
       (test : lent ≡ lent_to q.phase m) where
-    pub ticked_refused : lent ≡ false → t ≡ refusing r 4 → flat_with a counts ≡ flat_kept (kept_of s (tick m) counts)
-    ticked_refused fails e =
-        uncounted (refused_tick s m counts full (rw (← asked) (sym test ∙ fails)) ∙ rw (e, read))
+    pub ticked_refused : (number : ℕ) → lent ≡ false → number ≡ 4 → t ≡ refusing r number
+        → flat_with a counts ≡ flat_kept (kept_of s (tick m) counts)
+    ticked_refused number fails four e =
+        uncounted (refused_tick s m counts full (rw (← asked) (sym test ∙ fails)) ∙ rw (e, read, four))
 
     pub ticked_silently : (u : Sender) (silent : Bool) → u ≡ s → lent ≡ true → silent ≡ silent_in u u.phase
         → silent ≡ true → t ≡ silent_tick_in r r.phase → flat_with a counts ≡ flat_kept (kept_of s (tick m) counts)

@@ -87,10 +87,12 @@ pub fn kospelna_summary_tick(
         ≡ flat_kept (kept_of (sender_from sender) (tick message.now) counts.old) }
 {
     if counts.len() != summary::SIZE {
-        return Sender::from(sender).refusing(Refusal::Lent).into();
+        return Sender::from(sender).refusing(Refusal::Lent.into()).into();
     }
     if !Sender::from(sender).is_lent(message) {
-        return Sender::from(sender).refusing(Refusal::OtherMessage).into();
+        return Sender::from(sender)
+            .refusing(Refusal::OtherMessage.into())
+            .into();
     }
     if Sender::from(sender).is_silent() {
         return Sender::from(sender).tick_silently().into();

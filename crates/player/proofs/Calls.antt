@@ -4,13 +4,14 @@ use Prim.Native.Nat.{ℕ, suc, ◌+◌, ◌-◌, ◌<◌, ◌≤◌, min}
 use mathlib.Core.Path.{◌≡◌, refl, sym, ap, subst, ◌∙◌}
 use mathlib.Core.Bool.{Bool, true, false}
 use mathlib.Core.List.{List, []}
+use mathlib.Core.Logic.{inl, inr}
 use native.Mathlib.Numerals.{add-one}
 use native.Mathlib.Omega.{arith}
 use borrow.Author.Tests.{ne_eqb}
 use lib.ListN.{length, get_or, take, drop, drop_of_length-le}
 use lib.Seq.{drop-cons, drop-drop}
 use Rattle.std.specs.Array.{IsWholeChunk}
-use Rattle.frame.proofs.Choice.{pick_true, pick_false}
+use Rattle.frame.proofs.Choice.{pick_elim, pick_true, pick_false}
 use Rattle.frame.specs.Result.{Result, accepted, refused, number_of}
 use Rattle.frame.specs.declared.refusal.Refusal.{Refusal}
 use Rattle.pack.specs.Pack.{message_of, events_of, bodies_of}
@@ -18,7 +19,7 @@ use Rattle.pack.specs.declared.Bodies.{Bodies}
 use Rattle.player.specs.Calls as calls
 use Rattle.player.specs.Calls.{progressed, playing, next_events, play_of}
 use Rattle.player.specs.Events.{turn_for, events_from, world_after}
-use Rattle.player.specs.Played.{made_for, start, player_for, unless_refused, opened_with, opened_bodies, open_of}
+use Rattle.player.specs.Played.{made_for, start, player_for, unless_refused, OfBegin, opened_with, opened_bodies, open_of}
 use Rattle.player.specs.State.{Turned, turned, printed, turn_of}
 use Rattle.transport.specs.Capped.{capped_step}
 use Rattle.player.specs.Text.{event_text, text_of}
@@ -26,11 +27,16 @@ use Rattle.player.specs.declared.Player.{Player}
 use Rattle.player.specs.declared.Progress.{Progress}
 use Rattle.text.proofs.Laws.{put_append}
 use Rattle.text.specs.Page.{Page, page, put}
+use Rattle.sender.specs.Begin.{begin_of, begin_phase, begin_idle, begin_short, begin_long}
 use Rattle.sender.specs.Told as sender
 use Rattle.sender.specs.declared.Outcome.{Outcome}
 use Rattle.sender.specs.declared.Outcome.TheVariants.{Quiet, Refused, Sent, Failed}
+use Rattle.sender.specs.declared.Phase.{Phase}
+use Rattle.sender.specs.declared.Phase.TheVariants.{Idle, Opening, Sending, Waiting, Short}
+use Rattle.sender.specs.declared.Sender.{Sender}
 use Rattle.transport.proofs.Events.{begin_reports, lent_answer}
 use Rattle.transport.specs.Answer.{world_of, Told, told, answer_of, lent_of}
+use Rattle.transport.specs.Step.{step_of}
 use Rattle.transport.specs.World.{World, begin}
 use Rattle.transport.specs.declared.Answer.{Answer}
 use Rattle.transport.specs.declared.Ends.{Ends}
@@ -50,13 +56,13 @@ plays_next w m events i number p x h e =
     (ap (turned (world_after t.world m (drop (suc i) events))) (put_append p (event_text number t.event) (text_of (suc number) rest)))
 
 -- with so many played before the first event, and so many behind it
-pub plays_one : (w v : World) (m events : List ℕ) (i played : ℕ) (p q : Page) (y : Turned)
+pub plays_one : (w v : World) (m events : List ℕ) (i played number : ℕ) (p q : Page) (y : Turned)
     → i < length events
-    → turned v q ≡ turn_of w m (get_or events i 0) (played + 1 + i) p
+    → turned v q ≡ turn_of w m (get_or events i 0) number p
     → playing w m (drop i events) (suc (played + i)) p ≡ y
+    → number ≡ suc (played + i)
     → playing v m (drop (i + 1) events) (suc (played + (i + 1))) q ≡ y
-plays_one w v m events i played p q y h e before =
-    let this : played + 1 + i ≡ suc (played + i) = omega arith in
+plays_one w v m events i played number p q y h e before this =
     let next : suc (played + (i + 1)) ≡ suc (suc (played + i)) = omega arith in
     rw (next, add-one i) (plays_next w m events i (suc (played + i)) p (turned v q) h (rw this at e)) ∙ before
 
@@ -70,29 +76,58 @@ plays_none w m events i number p {y} all e = subst (λ (rest : List ℕ). playin
 -- ---- opening a pack
 
 -- by what the begin reported
-pub unless_refused_lem : (o : Outcome) (q : Player) {refusal : Refusal} → o ≡ Refused refusal
+pub unless_refused_lem : (o : Outcome) (q : Player) (refusal : Refusal) {number : ℕ} → number_of refusal ≡ number → o ≡ Refused number
     → refused (number_of refusal) ≡ unless_refused (sender.told_outcome o) q
-unless_refused_lem o q e = rw e refl
+unless_refused_lem o q refusal n e = rw (e, n) refl
 
-pub unless_other : (o : Outcome) (q : Player) → ((refusal : Refusal) → o ≡ Refused refusal → ⊥)
+pub unless_other : (o : Outcome) (q : Player) → ((number : ℕ) → o ≡ Refused number → ⊥)
     → accepted q ≡ unless_refused (sender.told_outcome o) q
 unless_other Quiet q other = refl
-unless_other (Refused refusal) q other = absurd (other refusal refl)
+unless_other (Refused number) q other = absurd (other number refl)
 unless_other (Sent ticks frames) q other = refl
 unless_other (Failed cause ticks frames) q other = refl
 
 -- the begin reports what it would report of the run
+reported : (a : Answer) (ends : Ends) (m line line' : List ℕ) (fits : Bool)
+    → ((back buffer : List ℕ) → told a line' back buffer ≡ lent_of fits (world_of ends line back buffer) (begin m))
+    → fits ≡ true
+    → sender.told_outcome a.said.sender ≡ (capped_step (start ends) (begin m)).event.sender
+unfolding answer_of told capped_step world_of
+reported a ends m line line' fits e there =
+    let w = world_of ends line [] [] in
+    ap (λ (t : Told). t.sender) (lent_answer w (begin m) there (e [] [])) ∙ begin_reports w (start ends) m refl
+
 pub tried : (a : Answer) (ends : Ends) (b : Bodies) (m line line' : List ℕ) (fits : Bool) (x : Result Player)
     → ((back buffer : List ℕ) → told a line' back buffer ≡ lent_of fits (world_of ends line back buffer) (begin m))
     → fits ≡ true
     → x ≡ unless_refused (sender.told_outcome a.said.sender) (player_for ends b)
     → x ≡ opened_with m b (accepted ends)
-unfolding opened_with answer_of told capped_step world_of
+unfolding opened_with
 tried a ends b m line line' fits x e there h =
-    let w = world_of ends line [] [] in
-    h
-    ∙ ap (λ (o : sender.Outcome). unless_refused o (player_for ends b))
-    (ap (λ (t : Told). t.sender) (lent_answer w (begin m) there (e [] [])) ∙ begin_reports w (start ends) m refl)
+    h ∙ ap (λ (o : sender.Outcome). unless_refused o (player_for ends b)) (reported a ends m line line' fits e there)
+
+-- a begin is refused by its two numbers alone: 3 in each phase but Idle, and there 2
+abbrev OfAnswer : sender.Told → Type 0
+OfAnswer t = OfBegin t.outcome
+
+begin_is : (s : Sender) (m : List ℕ) → OfAnswer (begin_of s m)
+unfolding begin_of begin_phase begin_idle begin_short begin_long
+begin_is s m = go s.phase
+  where
+    go : (p : Phase) → OfAnswer (begin_phase s p m)
+    go Idle =
+        pick_elim OfAnswer _ (λ fits. pick_elim OfAnswer _ (λ few. tt) (λ many. tt)) (λ other. inl refl)
+    go (Opening x) = inr refl
+    go (Sending x) = inr refl
+    go (Waiting x) = inr refl
+    go (Short x) = inr refl
+
+pub tried_begin : (a : Answer) (ends : Ends) (m line line' : List ℕ) (fits : Bool)
+    → ((back buffer : List ℕ) → told a line' back buffer ≡ lent_of fits (world_of ends line back buffer) (begin m))
+    → fits ≡ true
+    → OfBegin (sender.told_outcome a.said.sender)
+unfolding capped_step step_of
+tried_begin a ends m line line' fits e there = subst OfBegin (sym (reported a ends m line line' fits e there)) (begin_is ends.sender m)
 
 -- what making the ends starts
 module _ (bytes : List ℕ) (b : Bodies) where

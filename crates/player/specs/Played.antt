@@ -1,5 +1,5 @@
 -- Document 01, The player: a run pack is opened or refused, and what is printed of it.
-use Rattle.std.specs.Prelude.{ℕ, List, replicate}
+use Rattle.std.specs.Prelude.{ℕ, List, replicate, ◌⊎◌, ◌≡◌}
 use Rattle.frame.specs.Result.{Result, accepted, refused}
 use Rattle.pack.specs.Pack.{bodies_of, message_of, events_of}
 use Rattle.pack.specs.declared.Bodies.{Bodies}
@@ -28,6 +28,16 @@ start ends = start_of ends.sender ends.receiver (replicate 1785 0)
 -- the ends and the bodies of a pack, nothing played
 abbrev pub player_for : Ends → Bodies → Player
 player_for ends b = record { ends = ends; bodies = b; played = 0 }
+
+-- what a begin may report: where it is refused, then 2 for the message's length, or 3 while a transfer goes on
+abbrev pub ByBegin : ℕ → Type 0
+ByBegin number = (number ≡ 2) ⊎ (number ≡ 3)
+
+abbrev pub OfBegin : sender.Outcome → Type 0
+OfBegin sender.quiet = Unit
+OfBegin (sender.refused number) = ByBegin number
+OfBegin (sender.sent ticks frames) = Unit
+OfBegin (sender.failed cause ticks frames) = Unit
 
 -- the message's length is judged last, by what a begin of it reports
 abbrev pub unless_refused : sender.Outcome → Player → Result Player

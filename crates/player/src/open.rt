@@ -1,8 +1,8 @@
 // Opening a run pack: its bodies are read, the ends made of its settings, and a begin of its
 // message tried.
 ghost use Rattle.std.specs.Prelude.{◌≡◌};
-ghost use Rattle.frame.specs.Result.{accepted, told_result};
-ghost use Rattle.player.specs.Played.{unless_refused, opened_with, opened_bodies, open_of};
+ghost use Rattle.frame.specs.Result.{accepted, number_of, told_result};
+ghost use Rattle.player.specs.Played.{ByBegin, OfBegin, unless_refused, opened_with, opened_bodies, open_of};
 ghost use Rattle.sender.specs.Told as sender-told;
 
 use crate::Player;
@@ -12,12 +12,25 @@ use line::LINE;
 use pack::Bodies;
 use transport::Ends;
 
+// Why a begin was refused, by the number that it reports.
+fn begin_refusal(number: u8) -> Refusal
+    requires { ByBegin number }
+    ensures { number_of result ≡ number }
+{
+    if number == u8::from(Refusal::Length) {
+        Refusal::Length
+    } else {
+        Refusal::Busy
+    }
+}
+
 // By what the begin reported.
 fn unless_refused(outcome: sender::Outcome, player: Player) -> Result<Player, Refusal>
+    requires { OfBegin (sender-told.told_outcome outcome) }
     ensures { told_result result ≡ unless_refused (sender-told.told_outcome outcome) player }
 {
     match outcome {
-        sender::Outcome::Refused(refusal) => Err(refusal),
+        sender::Outcome::Refused(number) => Err(begin_refusal(number)),
         _ => Ok(player),
     }
 }

@@ -5,8 +5,6 @@ use mathlib.Core.Path.{◌≡◌, refl, ap}
 use mathlib.Core.List.{List}
 use Rattle.std.specs.Prelude.{Some, None}
 use Rattle.std.specs.declared.option.Option.{Option}
-use Rattle.frame.proofs.Told.{refusal_at, number_injective, cause_at, cause_injective}
-use Rattle.frame.specs.declared.cause.Cause.{Cause}
 use Rattle.frame.specs.Choice.{pick}
 use Rattle.frame.specs.declared.Frame.{Frame}
 use Rattle.receiver.specs.Told.{Outcome, quiet, refused, delivered, failed, short, told_outcome, told_bytes, Told, told}
@@ -17,16 +15,16 @@ use Rattle.receiver.specs.declared.Receiver.{Receiver}
 
 abbrev pub untold_outcome : Outcome → List ℕ → outcome-enum.Outcome
 untold_outcome quiet bytes = outcome-variants.Quiet
-untold_outcome (refused number) bytes = outcome-variants.Refused (refusal_at number)
+untold_outcome (refused number) bytes = outcome-variants.Refused number
 untold_outcome (delivered length) bytes = outcome-variants.Delivered length
-untold_outcome (failed cause) bytes = outcome-variants.Failed (cause_at cause)
+untold_outcome (failed cause) bytes = outcome-variants.Failed cause
 untold_outcome short bytes = outcome-variants.Short bytes
 
 told_outcome_injective : (o : outcome-enum.Outcome) → untold_outcome (told_outcome o) (told_bytes o) ≡ o
 told_outcome_injective outcome-variants.Quiet = refl
-told_outcome_injective (outcome-variants.Refused refusal) = ap outcome-variants.Refused (number_injective refusal)
+told_outcome_injective (outcome-variants.Refused number) = refl
 told_outcome_injective (outcome-variants.Delivered length) = refl
-told_outcome_injective (outcome-variants.Failed cause) = ap (λ (c : Cause). outcome-variants.Failed c) (cause_injective cause)
+told_outcome_injective (outcome-variants.Failed cause) = refl
 told_outcome_injective (outcome-variants.Short bytes) = refl
 
 abbrev pub untold : Told → answer.Answer

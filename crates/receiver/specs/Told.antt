@@ -1,8 +1,6 @@
 -- What the receiver's calls answer, with the numbers that documents 01 and 02 give to refusals and causes.
 use Rattle.std.specs.Prelude.{ℕ, Bool, true, false, List, [], ◌∷◌, is_some}
 use Rattle.frame.specs.Frames.{blank_of, frame_or_blank, lm_nack_of}
-use Rattle.frame.specs.Cause.{cause_of}
-use Rattle.frame.specs.Result.{number_of}
 use Rattle.frame.specs.declared.Frame.{Frame}
 use Rattle.receiver.specs.State.{in_phase}
 use Rattle.receiver.specs.declared.Answer as answer
@@ -23,9 +21,9 @@ pub data Outcome : Type 0 where
 -- the documents' number and values for each case of the outcome
 abbrev pub told_outcome : outcome-enum.Outcome → Outcome
 told_outcome outcome-variants.Quiet = quiet
-told_outcome (outcome-variants.Refused refusal) = refused (number_of refusal)
+told_outcome (outcome-variants.Refused number) = refused number
 told_outcome (outcome-variants.Delivered length) = delivered length
-told_outcome (outcome-variants.Failed cause) = failed (cause_of cause)
+told_outcome (outcome-variants.Failed cause) = failed cause
 told_outcome (outcome-variants.Short bytes) = short
 
 -- the bytes of a short delivery, eight zeros where there is none
@@ -34,7 +32,7 @@ no_bytes = 0 ∷ 0 ∷ 0 ∷ 0 ∷ 0 ∷ 0 ∷ 0 ∷ 0 ∷ []
 
 abbrev pub told_bytes : outcome-enum.Outcome → List ℕ
 told_bytes outcome-variants.Quiet = no_bytes
-told_bytes (outcome-variants.Refused refusal) = no_bytes
+told_bytes (outcome-variants.Refused number) = no_bytes
 told_bytes (outcome-variants.Delivered length) = no_bytes
 told_bytes (outcome-variants.Failed cause) = no_bytes
 told_bytes (outcome-variants.Short bytes) = bytes

@@ -11,7 +11,7 @@ mod store;
 mod tick;
 mod window;
 
-use frame::{Cause, Frame, LONGEST, Refusal};
+use frame::{Frame, LONGEST};
 
 // Timeout T in ticks, window C in frames, capacity K in bytes.
 #[derive(Clone, Copy)]
@@ -73,14 +73,15 @@ pub struct Receiver {
     pub phase: Phase,
 }
 
-// What a call reports: nothing, a refusal, a delivery of L bytes, a failure by its cause, or a short delivery of these bytes.
-// A refusal is a case here and no Err: the answer hands the state back too.
+// What a call reports: nothing, a refusal by its number, a delivery of L bytes, a failure by its cause's number, or a short
+// delivery of these bytes. Any number: the player's lines take each. A refusal is a case here and no Err: the answer hands the
+// state back too.
 #[derive(Clone, Copy)]
 pub enum Outcome {
     Quiet,
-    Refused(Refusal),
+    Refused(u8),
     Delivered(u16),
-    Failed(Cause),
+    Failed(u8),
     Short([u8; 8]),
 }
 

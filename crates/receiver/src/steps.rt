@@ -97,7 +97,7 @@ impl Receiver {
         ensures { told result ≡ refusing self (number_of refusal) }
     {
         Answer {
-            outcome: Outcome::Refused(refusal),
+            outcome: Outcome::Refused(refusal.into()),
             ..self.silently()
         }
     }
@@ -127,7 +127,7 @@ impl Receiver {
         ensures { told result ≡ failing self (cause_of cause) }
     {
         Answer {
-            outcome: Outcome::Failed(cause),
+            outcome: Outcome::Failed(cause.into()),
             ..self.in_phase(Phase::Idle).silently()
         }
     }

@@ -1,14 +1,11 @@
 -- What is told of an answer leaves nothing of it open: each case has its own values, so the answer comes back from them.
 -- Assumes nothing.
-use mathlib.Core.Path.{◌≡◌, refl, ap}
+use mathlib.Core.Path.{◌≡◌, refl}
 use mathlib.Core.Bool.{Bool, true, false}
 use Rattle.std.specs.Prelude.{Some, None, is_some}
 use Rattle.std.specs.declared.option.Option.{Option}
-use Rattle.frame.proofs.Told.{refusal_at, number_injective, cause_at, cause_injective}
-use Rattle.frame.specs.declared.cause.Cause.{Cause}
 use Rattle.frame.specs.Frames.{frame_or_blank}
 use Rattle.frame.specs.declared.Frame.{Frame}
-use Rattle.frame.specs.declared.refusal.Refusal.{Refusal}
 use Rattle.sender.specs.Told.{Outcome, quiet, refused, sent, failed, told_outcome, Told, told}
 use Rattle.sender.specs.declared.Answer as answer
 use Rattle.sender.specs.declared.Outcome as outcome-enum
@@ -16,15 +13,15 @@ use Rattle.sender.specs.declared.Outcome.TheVariants as outcome-variants
 
 abbrev pub untold_outcome : Outcome → outcome-enum.Outcome
 untold_outcome quiet = outcome-variants.Quiet
-untold_outcome (refused number) = outcome-variants.Refused (refusal_at number)
+untold_outcome (refused number) = outcome-variants.Refused number
 untold_outcome (sent ticks frames) = outcome-variants.Sent ticks frames
-untold_outcome (failed cause ticks frames) = outcome-variants.Failed (cause_at cause) ticks frames
+untold_outcome (failed cause ticks frames) = outcome-variants.Failed cause ticks frames
 
 outcome_injective : (o : outcome-enum.Outcome) → untold_outcome (told_outcome o) ≡ o
 outcome_injective outcome-variants.Quiet = refl
-outcome_injective (outcome-variants.Refused refusal) = ap (λ (r : Refusal). outcome-variants.Refused r) (number_injective refusal)
+outcome_injective (outcome-variants.Refused number) = refl
 outcome_injective (outcome-variants.Sent ticks frames) = refl
-outcome_injective (outcome-variants.Failed cause ticks frames) = ap (λ (c : Cause). outcome-variants.Failed c ticks frames) (cause_injective cause)
+outcome_injective (outcome-variants.Failed cause ticks frames) = refl
 
 abbrev pub untold_frame : Bool → Frame → Option Frame
 untold_frame true frame = Some frame

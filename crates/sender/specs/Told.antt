@@ -1,8 +1,6 @@
 -- What the sender's calls answer, in document 01's words and numbers.
 use Rattle.std.specs.Prelude.{ℕ, Bool, true, false, is_some}
 use Rattle.frame.specs.Frames.{blank_of, frame_or_blank, lm_nack_of}
-use Rattle.frame.specs.Cause.{cause_of}
-use Rattle.frame.specs.Result.{number_of}
 use Rattle.frame.specs.declared.Frame.{Frame}
 use Rattle.sender.specs.State.{counted, in_phase}
 use Rattle.sender.specs.declared.Answer as answer
@@ -30,9 +28,9 @@ is_refused (failed cause ticks frames) = false
 -- document 01's number and values for each case of the outcome
 abbrev pub told_outcome : outcome-enum.Outcome → Outcome
 told_outcome outcome-variants.Quiet = quiet
-told_outcome (outcome-variants.Refused refusal) = refused (number_of refusal)
+told_outcome (outcome-variants.Refused number) = refused number
 told_outcome (outcome-variants.Sent ticks frames) = sent ticks frames
-told_outcome (outcome-variants.Failed cause ticks frames) = failed (cause_of cause) ticks frames
+told_outcome (outcome-variants.Failed cause ticks frames) = failed cause ticks frames
 
 -- a call's whole answer: the next state, whether a frame goes out, which one (blank where none does), what is reported
 pub record Told : Type 0 where

@@ -46,7 +46,7 @@ impl Sender {
                 self.in_phase(transfer.opening_with(0, 0))
                     .emitting(announcement(frames, length))
             }
-            _ => self.refusing(Refusal::Length),
+            _ => self.refusing(Refusal::Length.into()),
         }
     }
 
@@ -58,7 +58,7 @@ impl Sender {
         match self.phase {
             Phase::Idle => self.begin_idle(message),
             Phase::Opening(_) | Phase::Sending(_) | Phase::Waiting(_) | Phase::Short(_) => {
-                self.refusing(Refusal::Busy)
+                self.refusing(Refusal::Busy.into())
             }
         }
     }
@@ -69,7 +69,7 @@ impl Sender {
         ensures { told result ≡ post_of self message.now }
     {
         if !(1..=8).contains(&message.len()) {
-            return self.refusing(Refusal::Length);
+            return self.refusing(Refusal::Length.into());
         }
         self.emitting(sm_urm(message))
     }

@@ -26,7 +26,7 @@ impl Sender {
         ensures { told result ≡ failing self transfer (cause_of cause) }
     {
         let outcome = Outcome::Failed {
-            cause,
+            cause: cause.into(),
             ticks: transfer.age,
             frames: transfer.emitted,
         };

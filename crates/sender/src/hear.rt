@@ -25,7 +25,7 @@ impl Sender {
             3 => self.hear_nack(),
             4 => self.hear_end(bytes[0], word(bytes[1], bytes[2])),
             6 => self.hear_short_ack(bytes[0]),
-            0..=1 | 5 | 7..=255 => self.refusing(Refusal::OtherEnd),
+            0..=1 | 5 | 7..=255 => self.refusing(Refusal::OtherEnd.into()),
         }
     }
 
@@ -37,7 +37,7 @@ impl Sender {
     {
         let reading = read(f, LONGEST);
         let Ok(parsed) = reading else {
-            return self.refusing(Refusal::Unreadable);
+            return self.refusing(Refusal::Unreadable.into());
         };
         self.hear_kind(f, parsed)
     }

@@ -16,7 +16,7 @@ mod steps;
 mod tick;
 mod waiting;
 
-use frame::{Cause, Frame, Refusal};
+use frame::Frame;
 
 // Gap G, timeout T and sending time M, in ticks.
 #[derive(Clone, Copy)]
@@ -88,21 +88,14 @@ pub struct Sender {
     pub phase: Phase,
 }
 
-// What a call reports: nothing, why it is refused, or how the transfer finished. A refusal is a case here and no Err: the answer
-// hands the state back too.
+// What a call reports: nothing, a refusal by its number, or how the transfer finished, a failure by its cause's number. Any
+// number: `refusing` and the player's lines take each. A refusal is a case here and no Err: the answer hands the state back too.
 #[derive(Clone, Copy)]
 pub enum Outcome {
     Quiet,
-    Refused(Refusal),
-    Sent {
-        ticks: u16,
-        frames: u16,
-    },
-    Failed {
-        cause: Cause,
-        ticks: u16,
-        frames: u16,
-    },
+    Refused(u8),
+    Sent { ticks: u16, frames: u16 },
+    Failed { cause: u8, ticks: u16, frames: u16 },
 }
 
 // What a call answers: the next state, the frame that goes out, if one does, and the report.

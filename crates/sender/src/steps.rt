@@ -1,6 +1,5 @@
 // The steps that the calls share: the changed state, and the answers that end no transfer.
 ghost use Rattle.std.specs.Prelude.{◌≡◌};
-ghost use Rattle.frame.specs.Result.{number_of};
 ghost use Rattle.sender.specs.State.{
   aged,
   counted,
@@ -13,8 +12,8 @@ ghost use Rattle.sender.specs.State.{
 ghost use Rattle.sender.specs.Told.{told, refusing, silently, emitting};
 
 use crate::{Announced, Answer, Awaited, Outcome, Phase, Sender, Single, Streamed, Transfer};
+use frame::Frame;
 use frame::count::increment;
-use frame::{Frame, Refusal};
 
 impl Transfer {
     // One tick more.
@@ -107,12 +106,12 @@ impl Sender {
         }
     }
 
-    // A refusal: why, no frame and no report. Public for the summary, whose calls refuse counts lent with another length.
-    pub fn refusing(self, refusal: Refusal) -> Answer
-        ensures { told result ≡ refusing self (number_of refusal) }
+    // A refusal: its number, no frame and no report. Public for the summary, whose calls refuse counts lent with another length.
+    pub fn refusing(self, number: u8) -> Answer
+        ensures { told result ≡ refusing self number }
     {
         Answer {
-            outcome: Outcome::Refused(refusal),
+            outcome: Outcome::Refused(number),
             ..self.silently()
         }
     }

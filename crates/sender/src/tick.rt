@@ -3,7 +3,7 @@ ghost use Rattle.std.specs.Prelude.{◌≡◌, ◌-◌, ◌*◌, min};
 ghost use Rattle.sender.specs.Tick.{information_at, lent_to, tick_of};
 ghost use Rattle.sender.specs.Told.{told};
 
-use crate::{Announced, Answer, Awaited, Phase, Sender, Single, Streamed};
+use crate::{Answer, Phase, Sender};
 use frame::build::information;
 use frame::{Frame, Refusal};
 
@@ -22,21 +22,29 @@ pub(crate) fn information_at(number: u8, message: &[u8]) -> Frame
     information(number, &message[from..])
 }
 
-impl Sender {
-    // Whether a tick may be lent this message: it has the begun length; an idle sender takes any.
+impl Phase {
+    // The lent message has the begun length; an idle sender takes any. An arm for each phase: with one for all that have a
+    // transfer a tick takes up to two fifths more instructions, since it is told anew which phase it is in.
     #[tactic(auto, unfolding(crate::specs::Tick::lent_to))]
+    fn lent_to(self, message: &[u8]) -> bool
+        ensures { result ≡ lent_to self message.now }
+    {
+        match self {
+            Phase::Idle => true,
+            Phase::Opening(x) => message.len() == usize::from(x.transfer.length),
+            Phase::Sending(x) => message.len() == usize::from(x.transfer.length),
+            Phase::Waiting(x) => message.len() == usize::from(x.transfer.length),
+            Phase::Short(x) => message.len() == usize::from(x.transfer.length),
+        }
+    }
+}
+
+impl Sender {
+    // Whether a tick may be lent this message.
     pub fn is_lent(self, message: &[u8]) -> bool
         ensures { result ≡ lent_to self.phase message.now }
     {
-        match self.phase {
-            Phase::Idle => true,
-            Phase::Opening(Announced { transfer, .. })
-            | Phase::Sending(Streamed { transfer, .. })
-            | Phase::Waiting(Awaited { transfer, .. })
-            | Phase::Short(Single { transfer, .. }) => {
-                message.len() == usize::from(transfer.length)
-            }
-        }
+        self.phase.lent_to(message)
     }
 
     // A tick, lent the message that was begun. Refused 4 where its length is another.
@@ -45,7 +53,7 @@ impl Sender {
         ensures { told result ≡ tick_of self message.now }
     {
         if !self.is_lent(message) {
-            return self.refusing(Refusal::OtherMessage);
+            return self.refusing(Refusal::OtherMessage.into());
         }
         match self.phase {
             Phase::Idle => self.silently(),

@@ -34,7 +34,7 @@ pub fn begin(s: Sender, message: &[u8], counts: &mut [u8]) -> Answer
     ensures { kept (told result) counts.new ≡ kept_of s (begin message.now) counts.old }
 {
     let Some(words) = counts.as_mut_array() else {
-        return s.refusing(NOT_LENT);
+        return s.refusing(NOT_LENT.into());
     };
     let answer = s.begin(message);
     if is_refused(answer.outcome) {
@@ -50,7 +50,7 @@ pub fn tick(s: Sender, message: &[u8], counts: &mut [u8]) -> Answer
     ensures { kept (told result) counts.new ≡ kept_of s (tick message.now) counts.old }
 {
     let Some(words) = counts.as_mut_array() else {
-        return s.refusing(NOT_LENT);
+        return s.refusing(NOT_LENT.into());
     };
     counted(s.tick(message), words)
 }
@@ -61,7 +61,7 @@ pub fn hear(s: Sender, f: Frame, counts: &mut [u8]) -> Answer
     ensures { kept (told result) counts.new ≡ kept_of s (hear f) counts.old }
 {
     let Some(words) = counts.as_mut_array() else {
-        return s.refusing(NOT_LENT);
+        return s.refusing(NOT_LENT.into());
     };
     counted(s.hear(f), words)
 }
@@ -72,7 +72,7 @@ pub fn post(s: Sender, message: &[u8], counts: &mut [u8]) -> Answer
     ensures { kept (told result) counts.new ≡ kept_of s (post message.now) counts.old }
 {
     let Some(words) = counts.as_mut_array() else {
-        return s.refusing(NOT_LENT);
+        return s.refusing(NOT_LENT.into());
     };
     counted(s.post(message), words)
 }

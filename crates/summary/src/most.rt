@@ -34,12 +34,15 @@ fn most(counts: &[u8; SIZE]) -> Count
     most
 }
 
-// The count of a number; refused 5 where the counts are not lent 512 bytes.
+// The count of a number; refused 5 where the counts are not lent 512 bytes. (By `let .. else`: with `ok_or` and `?` it takes half
+// as many instructions more.)
 #[tactic(auto, unfolding(crate::specs::Most::count_of, crate::specs::Most::count_for, frame::specs::Choice::pick))]
 pub fn count_of(number: u8, counts: &[u8]) -> Result<Count, Refusal>
     ensures { told_result result ≡ count_of number counts.now }
 {
-    let counts = counts.as_array().ok_or(NOT_LENT)?;
+    let Some(counts) = counts.as_array() else {
+        return Err(NOT_LENT);
+    };
     let count = count_at(number, counts);
     Ok(Count { number, count })
 }

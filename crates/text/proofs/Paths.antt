@@ -40,6 +40,14 @@ puts_then {p} {q} {r} {a} {b} h k =
 pub puts_as : {p q : lent.Page} {a b : List ℕ} → a ≡ b → Puts p q a → Puts p q b
 puts_as {p} e h = record { same = h.same; holds = h.holds ∙ ap (put (page_of p)) e }
 
+-- a text that was put through a page lent on: the lender has what that page's slice has at the end
+pub puts_lent : {p q r s : lent.Page} {text : List ℕ} → Puts q r text → page_of q ≡ page_of p → s.bytes.ghost_name ≡ p.bytes.ghost_name
+    → s.bytes.now ≡ r.bytes.now
+    → s.place ≡ r.place
+    → Puts p s text
+puts_lent {r = r} {text = text} h e same bytes place =
+    record { same = same; holds = rw (bytes, place) (h.holds ∙ ap (λ (x : Page). put x text) e) }
+
 -- one byte more of a text
 pub text_more : {p q r : lent.Page} (text : List ℕ) (i : ℕ) → i < length text → Puts q r (get_or text i 0 ∷ []) → Puts p q (take i text)
     → Puts p r (take (i + 1) text)

@@ -129,7 +129,7 @@ impl Page<'_> {
                 cause,
                 ticks,
                 frames,
-            } => self.failed_line(number, cause.into(), ticks, frames),
+            } => self.failed_line(number, cause, ticks, frames),
         }
     }
 
@@ -142,7 +142,7 @@ impl Page<'_> {
             receiver::Outcome::Quiet => {}
             receiver::Outcome::Refused(_) => {}
             receiver::Outcome::Delivered(length) => self.delivered_line(number, length),
-            receiver::Outcome::Failed(cause) => self.closed_line(number, cause.into()),
+            receiver::Outcome::Failed(cause) => self.closed_line(number, cause),
             receiver::Outcome::Short(bytes) => self.short_line(number, bytes),
         }
     }

@@ -55,12 +55,17 @@ impl Page<'_> {
         self.put_byte(hex_digit(byte % 16));
     }
 
-    // Every byte, each after a space. (`put_text` is one loop too, of another step.)
+    // Every byte, each after a space. (`put_text` is one loop too, of another step, and lends the page on for the same reason.)
     pub(crate) fn put_hexes(&mut self, bytes: &[u8])
         ensures { Puts self.old self.new (hexes bytes.now) }
     {
+        let mut page = Page {
+            bytes: &mut *self.bytes,
+            place: self.place,
+        };
         for byte in bytes {
-            self.put_hex(*byte);
+            page.put_hex(*byte);
         }
+        self.place = page.place;
     }
 }

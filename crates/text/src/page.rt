@@ -20,11 +20,17 @@ impl Page<'_> {
         }
     }
 
+    // By a page of its own, lent on for the loop: the place behind `self` would be read and written for each byte.
     pub(crate) fn put_text(&mut self, text: &[u8])
         ensures { Puts self.old self.new text.now }
     {
+        let mut page = Page {
+            bytes: &mut *self.bytes,
+            place: self.place,
+        };
         for byte in text {
-            self.put_byte(*byte);
+            page.put_byte(*byte);
         }
+        self.place = page.place;
     }
 }

@@ -26,6 +26,7 @@ use Rattle.receiver.specs.Hold.{hold_of, resume_of}
 use Rattle.receiver.specs.Tick as ticking
 use Rattle.receiver.specs.Told as receiver
 use Rattle.receiver.specs.declared.Answer as receiver-answer
+use Rattle.receiver.specs.declared.Outcome as receiver-outcome
 use Rattle.receiver.specs.declared.Outcome.TheVariants as receiver-variants
 use Rattle.receiver.specs.declared.Receiver.{Receiver}
 use Rattle.sender.specs.Begin.{begin_of}
@@ -71,21 +72,16 @@ abbrev SenderSpoke : Ends → List ℕ → sender.Told → Answer → List ℕ �
 SenderSpoke ends bytes t a after =
     (c : Call) (given : Given) (back buffer : List ℕ)
     → told a after back buffer
-    ≡ pick (eqb (length bytes) 576)
-    (told_step (at_line (by_sender c (world_of ends bytes back buffer) given (frames_in ends.back back) t)))
-    (quietly (world_of ends bytes back buffer))
+    ≡ told_step (at_line (by_sender c (world_of ends bytes back buffer) given (frames_in ends.back back) t))
 
 abbrev ReceiverSpoke : Ends → List ℕ → receiver.Told → Answer → List ℕ → Type 0
 ReceiverSpoke ends bytes t a after =
     (c : Call) (given : Given) (forward buffer : List ℕ)
     → told a forward after buffer
-    ≡ pick (eqb (length bytes) 576)
-    (told_step (at_line (by_receiver c (world_of ends forward bytes buffer) given (frames_in ends.forward forward) (receiver.heard t buffer))))
-    (quietly (world_of ends forward bytes buffer))
+    ≡ told_step (at_line (by_receiver c (world_of ends forward bytes buffer) given (frames_in ends.forward forward) (receiver.heard t buffer)))
 
-pub sender_spoke : (ends : Ends) (r : Ring) (a : sender-answer.Answer) (bytes line after : List ℕ)
-    → IsWholeChunk bytes line 576
-    → frames_in r after ≡ take 64 (frames_in ends.forward line ++ emission (is_some a.frame) (frame_or_blank a.frame))
+pub sender_spoke : (ends : Ends) (r : Ring) (a : sender-answer.Answer) (bytes after : List ℕ)
+    → frames_in r after ≡ take 64 (frames_in ends.forward bytes ++ emission (is_some a.frame) (frame_or_blank a.frame))
     → SenderSpoke ends bytes (sender.told a)
     (record {
       next = record { sender = a.next; receiver = ends.receiver; forward = r; back = ends.back };
@@ -93,39 +89,35 @@ pub sender_spoke : (ends : Ends) (r : Ring) (a : sender-answer.Answer) (bytes li
     })
     after
 unfolding told world_of capped
-sender_spoke ends r a bytes line after whole e c given back buffer =
-    pick_true _ (eq-eqb _ 576 whole.long) (rw (e, whole.same, all_frames ends.back back) refl)
+sender_spoke ends r a bytes after e c given back buffer = rw (e, all_frames ends.back back) refl
 
 -- a refused call leaves the buffer, and so does any call whose lent buffer it is
 same_buffer : (refused : Bool) (buffer : List ℕ) → buffer_after refused buffer buffer ≡ buffer
 same_buffer true buffer = refl
 same_buffer false buffer = refl
 
-pub receiver_spoke : (ends : Ends) (r : Ring) (a : receiver-answer.Answer) (bytes line after : List ℕ)
-    → IsWholeChunk bytes line 576
-    → frames_in r after ≡ take 64 (frames_in ends.back line ++ emission (is_some a.frame) (frame_or_blank a.frame))
+-- (what it reports is all that is told of its outcome)
+pub receiver_spoke : (ends : Ends) (r : Ring) (a : receiver-answer.Answer) (o : receiver-outcome.Outcome) (bytes after : List ℕ)
+    → frames_in r after ≡ take 64 (frames_in ends.back bytes ++ emission (is_some a.frame) (frame_or_blank a.frame))
+    → receiver.told_outcome o ≡ receiver.told_outcome a.outcome
+    → receiver.told_bytes o ≡ receiver.told_bytes a.outcome
     → ReceiverSpoke ends bytes (receiver.told a)
     (record {
       next = record { sender = ends.sender; receiver = a.next; forward = ends.forward; back = r };
-      said = record { frame = a.frame; sender = sender-variants.Quiet; receiver = a.outcome };
+      said = record { frame = a.frame; sender = sender-variants.Quiet; receiver = o };
     })
     after
 unfolding told world_of capped
-receiver_spoke ends r a bytes line after whole e c given forward buffer =
-    pick_true _ (eq-eqb _ 576 whole.long)
-    (rw (e, whole.same, all_frames ends.forward forward, same_buffer (was_refused (receiver.told_outcome a.outcome)) buffer) refl)
+receiver_spoke ends r a o bytes after e same eight c given forward buffer =
+    rw (e, same, eight, all_frames ends.forward forward, same_buffer (was_refused (receiver.told_outcome a.outcome)) buffer) refl
 
--- lent a line of another length, the ends are left alone
-module _ (ends : Ends) (a : Answer) (h : (forward back buffer : List ℕ) → told a forward back buffer ≡ quietly (world_of ends forward back buffer)) where
-  pub sender_unheard : (bytes : List ℕ) (t : sender.Told) → (length bytes ≡ 576 → ⊥) → SenderSpoke ends bytes t a bytes
-  sender_unheard bytes t other c given back buffer = pick_false _ (ne_eqb _ 576 other) (h bytes back buffer)
-
-  pub receiver_unheard : (bytes : List ℕ) (t : receiver.Told) → (length bytes ≡ 576 → ⊥) → ReceiverSpoke ends bytes t a bytes
-  receiver_unheard bytes t other c given forward buffer = pick_false _ (ne_eqb _ 576 other) (h forward bytes buffer)
-
-pub ruleset answers = (line_joined, line_alone)
+pub ruleset answers = (line_joined, line_alone, sender_spoke, receiver_spoke)
 
 -- ---- the lent lengths
+
+lent_one : (n : ℕ) (w : World) (c : Call) {x : Told} → n ≡ 576 → x ≡ answer_of w c → x ≡ lent_of (eqb n 576) w c
+unfolding lent_of
+lent_one n w c size e = pick_true _ (eq-eqb _ 576 size) e
 
 lent_both : (f b : ℕ) (w : World) (c : Call) {x : Told} → f ≡ 576 → b ≡ 576 → x ≡ answer_of w c → x ≡ lent_of (eqb f 576 && eqb b 576) w c
 unfolding lent_of
@@ -135,8 +127,18 @@ both_no : (a : Bool) {b : Bool} → b ≡ false → (a && b) ≡ false
 both_no true e = e
 both_no false e = refl
 
--- lent a line of another length, no end hears
+-- lent a line of another length, the ends are left alone
 module _ (ends : Ends) (a : Answer) (c : Call) (h : (forward back buffer : List ℕ) → told a forward back buffer ≡ quietly (world_of ends forward back buffer)) where
+  pub no_forward : (bytes : List ℕ) → (length bytes ≡ 576 → ⊥) → (back buffer : List ℕ)
+      → told a bytes back buffer ≡ lent_of (eqb (length bytes) 576) (world_of ends bytes back buffer) c
+  unfolding lent_of
+  no_forward bytes other back buffer = pick_false _ (ne_eqb _ 576 other) (h bytes back buffer)
+
+  pub no_back : (bytes : List ℕ) → (length bytes ≡ 576 → ⊥) → (forward buffer : List ℕ)
+      → told a forward bytes buffer ≡ lent_of (eqb (length bytes) 576) (world_of ends forward bytes buffer) c
+  unfolding lent_of
+  no_back bytes other forward buffer = pick_false _ (ne_eqb _ 576 other) (h forward bytes buffer)
+
   pub neither_forward : (forward back : List ℕ) → (length forward ≡ 576 → ⊥) → (buffer : List ℕ)
       → told a forward back buffer ≡ lent_of (eqb (length forward) 576 && eqb (length back) 576) (world_of ends forward back buffer) c
   unfolding lent_of
@@ -147,42 +149,49 @@ module _ (ends : Ends) (a : Answer) (c : Call) (h : (forward back buffer : List 
   unfolding lent_of
   neither_back forward back other buffer = pick_false _ (both_no (eqb (length forward) 576) (ne_eqb _ 576 other)) (h forward back buffer)
 
--- ---- begin and ticks
+-- ---- begin and ticks: the line that an end's frame joins is the lent one
 
-pub begins : (ends : Ends) (a : Answer) (bytes after m : List ℕ) (t : sender.Told)
+pub begins : (ends : Ends) (a : Answer) (bytes line after m : List ℕ) (t : sender.Told)
+    → IsWholeChunk bytes line 576
     → t ≡ begin_of ends.sender m
-    → SenderSpoke ends bytes t a after
+    → SenderSpoke ends line t a after
     → (back buffer : List ℕ)
     → told a after back buffer ≡ lent_of (eqb (length bytes) 576) (world_of ends bytes back buffer) (begin m)
-unfolding lent_of answer_of capped_step step_of world_of
-begins ends a bytes after m t e h back buffer = h (begin m) nobody back buffer ∙ rw e refl
+unfolding answer_of capped_step step_of world_of
+begins ends a bytes line after m t whole e h back buffer =
+    lent_one (length bytes) (world_of ends bytes back buffer) (begin m) whole.long (h (begin m) nobody back buffer ∙ rw (e, whole.same) refl)
 
-pub ticks_sender_lem : (ends : Ends) (a : Answer) (bytes after m : List ℕ) (t : sender.Told)
+pub ticks_sender_lem : (ends : Ends) (a : Answer) (bytes line after m : List ℕ) (t : sender.Told)
+    → IsWholeChunk bytes line 576
     → t ≡ tick_of ends.sender m
-    → SenderSpoke ends bytes t a after
+    → SenderSpoke ends line t a after
     → (back buffer : List ℕ)
     → told a after back buffer ≡ lent_of (eqb (length bytes) 576) (world_of ends bytes back buffer) (sender_tick m)
-unfolding lent_of answer_of capped_step step_of world_of
-ticks_sender_lem ends a bytes after m t e h back buffer = h (sender_tick m) nobody back buffer ∙ rw e refl
+unfolding answer_of capped_step step_of world_of
+ticks_sender_lem ends a bytes line after m t whole e h back buffer =
+    lent_one (length bytes) (world_of ends bytes back buffer) (sender_tick m) whole.long (h (sender_tick m) nobody back buffer ∙ rw (e, whole.same) refl)
 
-module _ (ends : Ends) (a : Answer) (bytes after : List ℕ) (t : receiver.Told) where
+module _ (ends : Ends) (a : Answer) (bytes line after : List ℕ) (t : receiver.Told) where
   -- the receiver has told t, lent the line back
   abbrev Calls : Call → Type 0
   Calls c =
-      ReceiverSpoke ends bytes t a after → (forward buffer : List ℕ)
+      IsWholeChunk bytes line 576 → ReceiverSpoke ends line t a after → (forward buffer : List ℕ)
       → told a forward after buffer ≡ lent_of (eqb (length bytes) 576) (world_of ends forward bytes buffer) c
 
   pub ticks_receiver_lem : t ≡ ticking.tick_of ends.receiver → Calls receiver_tick
-  unfolding lent_of answer_of capped_step step_of world_of
-  ticks_receiver_lem e h forward buffer = h receiver_tick nobody forward buffer ∙ rw e refl
+  unfolding answer_of capped_step step_of world_of
+  ticks_receiver_lem e whole h forward buffer =
+      lent_one (length bytes) (world_of ends forward bytes buffer) receiver_tick whole.long (h receiver_tick nobody forward buffer ∙ rw (e, whole.same) refl)
 
   pub holds_receiver_lem : t ≡ hold_of ends.receiver → Calls hold
-  unfolding lent_of answer_of capped_step step_of world_of
-  holds_receiver_lem e h forward buffer = h hold nobody forward buffer ∙ rw e refl
+  unfolding answer_of capped_step step_of world_of
+  holds_receiver_lem e whole h forward buffer =
+      lent_one (length bytes) (world_of ends forward bytes buffer) hold whole.long (h hold nobody forward buffer ∙ rw (e, whole.same) refl)
 
   pub resumes_receiver : t ≡ resume_of ends.receiver → Calls resume
-  unfolding lent_of answer_of capped_step step_of world_of
-  resumes_receiver e h forward buffer = h resume nobody forward buffer ∙ rw e refl
+  unfolding answer_of capped_step step_of world_of
+  resumes_receiver e whole h forward buffer =
+      lent_one (length bytes) (world_of ends forward bytes buffer) resume whole.long (h resume nobody forward buffer ∙ rw (e, whole.same) refl)
 
 -- ---- a frame given to an end
 
@@ -251,7 +260,6 @@ forward_some w c buffer f rest fs e = rw e refl
 
 pub give_back_some : (ends : Ends) (a : Answer) (forward after back : List ℕ) (f : Frame) (t : sender.Told)
     → eqb ends.back.count 0 ≡ false
-    → length forward ≡ 576
     → length back ≡ 576
     → f ≡ head_of ends.back back
     → t ≡ hear_of ends.sender f
@@ -259,12 +267,11 @@ pub give_back_some : (ends : Ends) (a : Answer) (forward after back : List ℕ) 
     → (buffer : List ℕ)
     → told a after back buffer ≡ answer_of (world_of ends forward back buffer) repeat_back
 unfolding answer_of capped_step step_of world_of
-give_back_some ends a forward after back f t there line size head e h buffer =
+give_back_some ends a forward after back f t there size head e h buffer =
     let w = world_of ends forward back buffer in
     let fs = frames_in ends.back back in
     let some : fs ≡ f ∷ frames_in (rest_of ends.back) back = rw head (frames_some ends.back back size (eqb-false _ 0 there)) in
     h repeat_back (to_sender f) back buffer
-    ∙ sym (pick_true _ (eq-eqb _ 576 line) refl)
     ∙ ap (λ (u : sender.Told). told_step (at_line (by_sender repeat_back w (to_sender f) fs u))) e
     ∙ ap (λ (s : Stepped). told_step (at_line s)) (back_some w repeat_back f (frames_in (rest_of ends.back) back) fs some)
 
@@ -279,19 +286,17 @@ buffer_after_lem w v c f fs h same left = rw (same, left, same_buffer (was_refus
 pub give_forward_some : (ends : Ends) (a : Answer) (forward back after buffer left : List ℕ) (f : Frame) (t : receiver.Told)
     → eqb ends.forward.count 0 ≡ false
     → length forward ≡ 576
-    → length back ≡ 576
     → f ≡ head_of ends.forward forward
     → receiver.heard t left ≡ hearing.hear_of ends.receiver f buffer
     → ReceiverSpoke ends back t a after
     → told a forward after left ≡ answer_of (world_of ends forward back buffer) (repeat_forward buffer)
 unfolding answer_of capped_step step_of world_of
-give_forward_some ends a forward back after buffer left f t there size line head e h =
+give_forward_some ends a forward back after buffer left f t there size head e h =
     let c = repeat_forward buffer in
     let w = world_of ends forward back buffer in
     let fs = frames_in ends.forward forward in
     let some : fs ≡ f ∷ frames_in (rest_of ends.forward) forward = rw head (frames_some ends.forward forward size (eqb-false _ 0 there)) in
     h c (to_receiver f) forward left
-    ∙ sym (pick_true _ (eq-eqb _ 576 line) refl)
     ∙ ap (λ (u : receiver.Heard). told_step (at_line (by_receiver c (world_of ends forward back u.buffer) (to_receiver f) fs u))) e
     ∙ buffer_after_lem w _ c f fs (hearing.hear_of ends.receiver f buffer) refl (buffer_left ends.receiver f buffer)
     ∙ ap (λ (s : Stepped). told_step (at_line s)) (forward_some w c buffer f (frames_in (rest_of ends.forward) forward) fs some)

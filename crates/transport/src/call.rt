@@ -20,8 +20,8 @@ ghost use Rattle.transport.specs.World.{
 use crate::{Answer, Ends};
 use line::LINE;
 
-// Each call is written out, also where two differ in the call alone: what it calls and what it promises is all that it has. (A
-// hearing tests the lines itself, before the receiver writes into the lent buffer and a heard frame is taken away.)
+// Each call is written out, also where two differ in the call alone: what it calls and what it promises is all that it has. The
+// lines are tested first, so that no end is called where one has another length.
 impl Ends {
     // Begins a message.
     pub fn begin(self, message: &[u8], forward: &mut [u8]) -> Answer
@@ -31,6 +31,9 @@ impl Ends {
             (world_of self forward.old back buffer)
             (begin message.now) }
     {
+        let Some(forward) = forward.as_mut_array::<LINE>() else {
+            return self.unheard();
+        };
         let a = self.sender.begin(message);
         self.sender_spoke(a, forward)
     }
@@ -43,6 +46,9 @@ impl Ends {
             (world_of self forward.old back buffer)
             (sender_tick message.now) }
     {
+        let Some(forward) = forward.as_mut_array::<LINE>() else {
+            return self.unheard();
+        };
         let a = self.sender.tick(message);
         self.sender_spoke(a, forward)
     }
@@ -55,6 +61,9 @@ impl Ends {
             (world_of self forward back.old buffer)
             receiver_tick }
     {
+        let Some(back) = back.as_mut_array::<LINE>() else {
+            return self.unheard();
+        };
         let a = self.receiver.tick();
         self.receiver_spoke(a, back)
     }
@@ -67,6 +76,9 @@ impl Ends {
             (world_of self forward back.old buffer)
             hold }
     {
+        let Some(back) = back.as_mut_array::<LINE>() else {
+            return self.unheard();
+        };
         let a = self.receiver.hold();
         self.receiver_spoke(a, back)
     }
@@ -79,6 +91,9 @@ impl Ends {
             (world_of self forward back.old buffer)
             resume }
     {
+        let Some(back) = back.as_mut_array::<LINE>() else {
+            return self.unheard();
+        };
         let a = self.receiver.resume();
         self.receiver_spoke(a, back)
     }

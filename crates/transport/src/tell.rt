@@ -1,12 +1,11 @@
 // What an end answered becomes the transport's answer, and its frame joins its line. Once for each end, since what they answer
 // has other types.
 ghost use Rattle.std.specs.Prelude.{◌≡◌, List, ◌++◌, ℕ, take, is_some};
-ghost use Rattle.frame.specs.Choice.{pick};
 ghost use Rattle.frame.specs.Frames.{frame_or_blank};
 ghost use Rattle.line.specs.Ring.{frames_in};
 ghost use Rattle.receiver.specs.Told as receiver-told;
 ghost use Rattle.sender.specs.Told as sender-told;
-ghost use Rattle.transport.specs.Answer.{world_of, told, told_step, quietly, is_line};
+ghost use Rattle.transport.specs.Answer.{world_of, told, told_step, quietly};
 ghost use Rattle.transport.specs.Capped.{at_line};
 ghost use Rattle.transport.specs.Step.{emission, by_sender, by_receiver};
 ghost use Rattle.transport.specs.World.{Call, Given};
@@ -44,19 +43,13 @@ impl Ends {
         }
     }
 
-    // The sender has answered a call, given a frame or none: its frame joins forward. Lent a line of another length than 576, it
-    // counts as not called. Whatever back and the buffer hold.
-    pub(crate) fn sender_spoke(self, a: sender::Answer, forward: &mut [u8]) -> Answer
+    // The sender has answered a call, given a frame or none: its frame joins forward. Whatever back and the buffer hold.
+    pub(crate) fn sender_spoke(self, a: sender::Answer, forward: &mut [u8; LINE]) -> Answer
         ensures { (c : Call) (given : Given) (back buffer : List ℕ) →
             told result forward.new back buffer
-            ≡ pick (is_line forward.old)
-            (told_step (at_line (by_sender c (world_of self forward.old back buffer) given
-            (frames_in self.back back) (sender-told.told a))))
-            (quietly (world_of self forward.old back buffer)) }
+            ≡ told_step (at_line (by_sender c (world_of self forward.old back buffer) given
+            (frames_in self.back back) (sender-told.told a))) }
     {
-        let Some(forward) = forward.as_mut_array::<LINE>() else {
-            return self.unheard();
-        };
         let forward = line_after(self.forward, a.frame, forward);
         Answer {
             next: Ends {
@@ -72,19 +65,14 @@ impl Ends {
         }
     }
 
-    // The receiver has answered a call, given a frame or none: its frame joins back. Lent a line of another length than 576, it
-    // counts as not called. Whatever forward holds, and the buffer as the call left it.
-    pub(crate) fn receiver_spoke(self, a: receiver::Answer, back: &mut [u8]) -> Answer
+    // The receiver has answered a call, given a frame or none: its frame joins back. Whatever forward holds, and the buffer as
+    // the call left it.
+    pub(crate) fn receiver_spoke(self, a: receiver::Answer, back: &mut [u8; LINE]) -> Answer
         ensures { (c : Call) (given : Given) (forward buffer : List ℕ) →
             told result forward back.new buffer
-            ≡ pick (is_line back.old)
-            (told_step (at_line (by_receiver c (world_of self forward back.old buffer) given
-            (frames_in self.forward forward) (receiver-told.heard (receiver-told.told a) buffer))))
-            (quietly (world_of self forward back.old buffer)) }
+            ≡ told_step (at_line (by_receiver c (world_of self forward back.old buffer) given
+            (frames_in self.forward forward) (receiver-told.heard (receiver-told.told a) buffer))) }
     {
-        let Some(back) = back.as_mut_array::<LINE>() else {
-            return self.unheard();
-        };
         let back = line_after(self.back, a.frame, back);
         Answer {
             next: Ends {

@@ -8,9 +8,9 @@ pub returns-then-counts-ne-SIZE : goal.returns-then-counts-ne-SIZE
 returns-then-counts-ne-SIZE c = search ticked_unlent
 
 pub returns-then-not-is_lent : goal.returns-then-not-is_lent
-returns-then-not-is_lent c = ticked_refused _ _ _ _ _ c.into-then-not-is_lent.ensures _ _ _ c.from-2.ensures
-    c.from-then-not-is_lent.ensures c.if-counts-ne-SIZE.false c.is_lent.ensures
-    c.if-not-is_lent.true c.refusing-then-not-is_lent.ensures
+returns-then-not-is_lent c = ticked_refused _ _ _ _ _ c.into-then-not-is_lent-2.ensures _ _ _ c.from-2.ensures
+    c.from-then-not-is_lent.ensures c.if-counts-ne-SIZE.false c.is_lent.ensures _
+    c.if-not-is_lent.true c.into-then-not-is_lent.ensures c.refusing-then-not-is_lent.ensures
 
 pub returns-then-is_silent : goal.returns-then-is_silent
 returns-then-is_silent c = ticked_silently _ _ _ _ _ c.into-then-is_silent.ensures _ _ _ c.from-2.ensures

@@ -1,5 +1,6 @@
 -- `player::turn::Session::run` meets its contract. One event after the other is played.
 -- Assumes nothing.
+use native.Mathlib.Omega.{arith}
 use Rattle.player.proofs.Calls.{plays_one, plays_none}
 use Rattle.player.proofs.Turns.{keeps_on}
 use Rattle.player.proofs.turn.Session.run.Goals as goal
@@ -10,7 +11,7 @@ loop-before-preserved c =
     let turn = c.turn.ensures in
     record {
       keeps = keeps_on inv.keeps turn.keeps;
-      leads = rw turn.keeps.message (plays_one _ _ _ _ _ _ _ _ _ c.loop-before-test.true turn.holds inv.leads);
+      leads = rw turn.keeps.message (plays_one _ _ _ _ _ _ _ _ _ _ c.loop-before-test.true turn.holds inv.leads (omega arith));
     }
 
 pub returns : goal.returns

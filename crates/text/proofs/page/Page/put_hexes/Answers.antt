@@ -1,6 +1,8 @@
 -- `text::page::Page::put_hexes` meets its contract. The bytes are put one after the other.
 -- Assumes nothing.
-use Rattle.text.proofs.Paths.{puts_nothing, puts_as, hexes_none, hexes_more, hexes_end}
+use borrow.Author.Rules.{rules}
+use mathlib.Core.Path.{refl, sym}
+use Rattle.text.proofs.Paths.{puts_nothing, puts_lent, puts_as, hexes_none, hexes_more, hexes_end}
 use Rattle.text.proofs.page.Page.put_hexes.Goals as goal
 
 pub loop-byte-init : goal.loop-byte-init
@@ -10,4 +12,6 @@ pub loop-byte-preserved : goal.loop-byte-preserved
 loop-byte-preserved c = hexes_more _ _ c.loop-byte-test.true c.put_hex.ensures c.loop-byte.invariant
 
 pub returns : goal.returns
-returns c = hexes_end _ _ c.loop-byte-test.false c.loop-byte.invariant
+returns c =
+    puts_lent (hexes_end _ _ c.loop-byte-test.false c.loop-byte.invariant) refl refl
+    (let same = sym c.loop-byte.invariant.same in search rules) refl

@@ -6,4 +6,4 @@ use Rattle.text.specs.Text.{hexes}
 use Rattle.text.proofs.page.Page.put_hexes.Given as goal
 
 abbrev pub invariant-loop-byte : goal.invariant-loop-byte
-invariant-loop-byte l = Puts l.initial.self l.self (hexes (take l.byte-index l.bytes))
+invariant-loop-byte l = Puts l.initial.page l.page (hexes (take l.byte-index l.bytes))

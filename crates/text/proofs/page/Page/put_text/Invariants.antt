@@ -5,4 +5,4 @@ use Rattle.text.specs.Puts.{Puts}
 use Rattle.text.proofs.page.Page.put_text.Given as goal
 
 abbrev pub invariant-loop-byte : goal.invariant-loop-byte
-invariant-loop-byte l = Puts l.initial.self l.self (take l.byte-index l.text)
+invariant-loop-byte l = Puts l.initial.page l.page (take l.byte-index l.text)

@@ -1,7 +1,5 @@
-use Rattle.std.proofs.Common.{◌≡◌, ap}
-use Rattle.frame.specs.Cause.{cause_of}
-use Rattle.text.proofs.Paths.{puts_nothing, puts_as}
-use Rattle.text.specs.Text.{closed_line, receiver_report}
+use Rattle.text.proofs.Paths.{puts_nothing}
+use Rattle.text.specs.Text.{receiver_report}
 use Rattle.text.proofs.page.Page.receiver_report.Goals as goal
 
 pub returns-in-Quiet : goal.returns-in-Quiet
@@ -18,9 +16,7 @@ returns-in-Delivered c = rw c.in-Delivered.is c.delivered_line.ensures
 
 pub returns-in-Failed : goal.returns-in-Failed
 unfolding receiver_report
-returns-in-Failed c =
-    let named : c.into.result ≡ cause_of c.in-Failed.cause = cc in
-    rw c.in-Failed.is (puts_as (ap (closed_line c.args.number) named) c.closed_line.ensures)
+returns-in-Failed c = rw c.in-Failed.is c.closed_line.ensures
 
 pub returns-in-Short : goal.returns-in-Short
 unfolding receiver_report

@@ -1,7 +1,5 @@
-use Rattle.std.proofs.Common.{◌≡◌, ap}
-use Rattle.frame.specs.Cause.{cause_of}
-use Rattle.text.proofs.Paths.{puts_nothing, puts_as}
-use Rattle.text.specs.Text.{failed_line, sender_report}
+use Rattle.text.proofs.Paths.{puts_nothing}
+use Rattle.text.specs.Text.{sender_report}
 use Rattle.text.proofs.page.Page.sender_report.Goals as goal
 
 pub returns-in-Quiet : goal.returns-in-Quiet
@@ -18,7 +16,4 @@ returns-in-Sent c = rw c.in-Sent.is c.sent_line.ensures
 
 pub returns-in-Failed : goal.returns-in-Failed
 unfolding sender_report
-returns-in-Failed c =
-    let named : c.into.result ≡ cause_of c.in-Failed.cause = cc in
-    rw c.in-Failed.is
-    (puts_as (ap (λ cause. failed_line c.args.number cause c.in-Failed.ticks c.in-Failed.frames) named) c.failed_line.ensures)
+returns-in-Failed c = rw c.in-Failed.is c.failed_line.ensures
